@@ -1,0 +1,1 @@
+// What a grammar is: see specs/. The table of words that holds one comes with the reader.

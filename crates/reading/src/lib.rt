@@ -1,0 +1,1 @@
+// Text to grammar, refusals 1 to 6: see specs/.

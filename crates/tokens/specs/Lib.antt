@@ -1,0 +1,4 @@
+pub mod Token
+pub mod Bounds
+pub mod Chars
+pub mod Tokens

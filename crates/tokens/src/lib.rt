@@ -1,0 +1,5 @@
+// The two ways to read a grammar text (01, Notation, "Two modes").
+pub enum Mode {
+    Lake,
+    Plain,
+}
