@@ -1,0 +1,3 @@
+pub mod Set
+pub mod Decides
+pub mod laws
