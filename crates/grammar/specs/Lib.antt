@@ -4,3 +4,4 @@ pub mod Syntax
 pub mod Trees
 pub mod Numbers
 pub mod Lakes
+pub mod Refusal

@@ -7,6 +7,7 @@ use native.Mathlib.Omega.{arith}
 use lib.ListN.{length, getD}
 use lib.Dec.{T, eqb, eqb→eq, eqb-refl, T-not, ltb, ltb→lt}
 use Rattle.words.specs.Set.{empty}
+use Rattle.fixpoint.specs.Flow.{sameWords, sameSets}
 use Rattle.fixpoint.specs.Rounds.{First, iter}
 use Rattle.fixpoint.specs.laws.Sys.{roundOf, roundAt, none}
 use Rattle.fixpoint.specs.laws.Pair.{Set2}
@@ -37,18 +38,6 @@ module _ {S : Type 0} (same : S → S → Bool) (sound : (x y : S) → T (same x
       go : T (not (same (F b) b)) → First F (F b) k → (j : ℕ) → j < suc k → F (iter F b j) ≡ iter F b j → ⊥
       go n f zero l e = T-not (same (F b) b) n (subst (λ (x : S). T (same x b)) (sym e) (whole b))
       go n f (suc j) l e = f .before j (omega arith) (subst (λ (x : S). F x ≡ x) (sym (shift b j)) e)
-
-abbrev pub sameWords : List ℕ → List ℕ → Bool
-sameWords [] [] = true
-sameWords [] (y ∷ t) = false
-sameWords (x ∷ s) [] = false
-sameWords (x ∷ s) (y ∷ t) = eqb x y && sameWords s t
-
-abbrev pub sameSets : List (List ℕ) → List (List ℕ) → Bool
-sameSets [] [] = true
-sameSets [] (y ∷ t) = false
-sameSets (x ∷ s) [] = false
-sameSets (x ∷ s) (y ∷ t) = sameWords x y && sameSets s t
 
 pub words-sound : (s t : List ℕ) → T (sameWords s t) → s ≡ t
 words-sound [] [] h = refl

@@ -1,0 +1,69 @@
+-- BEGINNING, with ε apart as a mark (01, Lakes made plain). Assumes nothing: these are definitions.
+use Prim.Native.Nat.{ℕ, zero, suc}
+use mathlib.Core.Bool.{Bool, true, false, cond, _&&_, _||_}
+use mathlib.Core.List.{List, [], _∷_, _++_, map}
+use lib.ListN.{length, getD, replicate}
+use Rattle.grammar.specs.Exp.{Exp, sym, ter, seq, alt, opt, star, plus, ahead, never}
+use Rattle.words.specs.Set.{unionOf, empty, symbolSet, terminalSet}
+use Rattle.fixpoint.specs.Rounds.{iter}
+use Rattle.sets.specs.Parts.{Part, terminal, occurs, sequence, choice, option, repeat, repeat1, looks}
+
+-- whether an expression has ε, where m says which symbols' bodies have it
+unfoldable pub hasEmpty : (ℕ → Bool) → Exp ℕ → Bool
+hasEmpty m (sym r) = m r
+hasEmpty m (ter x) = false
+hasEmpty m (seq a b) = hasEmpty m a && hasEmpty m b
+hasEmpty m (alt a b) = hasEmpty m a || hasEmpty m b
+hasEmpty m (opt a) = true
+hasEmpty m (star a) = true
+hasEmpty m (plus a) = hasEmpty m a
+hasEmpty m (ahead a) = true
+hasEmpty m (never a) = true
+
+abbrev pub marked : List Bool → ℕ → Bool
+marked ms r = getD ms r false
+
+-- "ε if X's body has ε", all symbols at once
+unfoldable pub markRound : List (Exp ℕ) → List Bool → List Bool
+markRound bodies ms = map (hasEmpty (marked ms)) bodies
+
+-- "All are least": from no mark on, as many rounds as there are symbols
+unfoldable pub marksOf : List (Exp ℕ) → List Bool
+marksOf bodies = iter (markRound bodies) (replicate (length bodies) false) (length bodies)
+
+-- B, which is BEGINNING without ε, and whether it has ε
+pub record Beginning : Type 0 where
+  pub set : List ℕ
+  pub eps : Bool
+
+abbrev pub begin : List ℕ → Bool → Beginning
+begin s e = record { set = s; eps = e }
+
+abbrev pub nothing : Beginning
+nothing = begin empty false
+
+-- "Sequence a b: a's; if a has ε, a's without ε, and b's"
+abbrev pub beginSequence : Beginning → Beginning → Beginning
+beginSequence a b = begin (cond (a .eps) (unionOf (a .set) (b .set)) (a .set)) (a .eps && b .eps)
+
+abbrev pub beginChoice : Beginning → Beginning → Beginning
+beginChoice a b = begin (unionOf (a .set) (b .set)) (a .eps || b .eps)
+
+-- of an expression, where `at` gives its parts' and m the symbols' marks
+abbrev pub beginBy : (ℕ → Bool) → (ℕ → Beginning) → Part → Beginning
+beginBy m at (terminal t) = begin (terminalSet t) false
+beginBy m at (occurs r) = begin (symbolSet r) (m r)
+beginBy m at (sequence i j) = beginSequence (at i) (at j)
+beginBy m at (choice i j) = beginChoice (at i) (at j)
+beginBy m at (option i) = begin (at i .set) true
+beginBy m at (repeat i) = begin (at i .set) true
+beginBy m at (repeat1 i) = at i
+beginBy m at (looks i) = begin empty true
+
+-- of all expressions, parts before wholes: `done` are those of the expressions before
+unfoldable pub beginningsFrom : (ℕ → Bool) → List Beginning → List Part → List Beginning
+beginningsFrom m done [] = done
+beginningsFrom m done (p ∷ ps) = beginningsFrom m (done ++ (beginBy m (λ i. getD done i nothing) p ∷ [])) ps
+
+unfoldable pub beginnings : (ℕ → Bool) → List Part → List Beginning
+beginnings m ps = beginningsFrom m [] ps

@@ -1,0 +1,5 @@
+pub mod Intermediate
+pub mod Parts
+pub mod Beginning
+pub mod Flows
+pub mod Analysis
