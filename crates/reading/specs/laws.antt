@@ -1,0 +1,6 @@
+-- The automaton against the concrete syntax, refusals 2 and 3, and the reader. Assumes nothing.
+pub mod Forth
+pub mod Back
+pub mod Place
+pub mod Bounds
+pub mod Reads
