@@ -1,3 +1,4 @@
 pub mod Machine
 pub mod Reader
+pub mod Grammar
 pub mod laws

@@ -1,3 +1,5 @@
--- Where a token lies, and the fuel of the token list. Assumes nothing.
+-- Computed tests, bytes, where a token lies, and the fuel of the token list. Assumes nothing.
+pub mod All
+pub mod Bytes
 pub mod Tests
 pub mod Forward

@@ -56,9 +56,12 @@ span-short (b ∷ l) = go (nameByte b) (span-short l)
     go true h = omega arith
     go false h = omega arith
 
+pub letter-name : (b : ℕ) → kindAt b ≡ 2 → nameByte b ≡ true
+letter-name b e = rw (nameByte, e)
+
 pub span-letter : (b : ℕ) (l : List ℕ) → kindAt b ≡ 2 → nameSpan (b ∷ l) ≡ b ∷ nameSpan l
 unfolding nameSpan
-span-letter b l e = let u : nameByte b ≡ true = rw (nameByte, e) in rw (nameSpan, u)
+span-letter b l e = rw (nameSpan, letter-name b e)
 
 -- ── a token other than the text's end ──
 pub record Ahead (at n : ℕ) (t : Token) : Type 0 where
