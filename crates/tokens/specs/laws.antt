@@ -3,3 +3,4 @@ pub mod All
 pub mod Bytes
 pub mod Tests
 pub mod Forward
+pub mod Marks

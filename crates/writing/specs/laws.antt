@@ -10,3 +10,5 @@ pub mod Needed
 pub mod Depth
 pub mod Kept
 pub mod Renamed
+pub mod Lengths
+pub mod TextBytes

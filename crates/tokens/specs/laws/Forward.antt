@@ -9,13 +9,14 @@ use native.Mathlib.Omega.{arith}
 use native.Mathlib.Nat.{le-refl}
 use lib.Dec.{eqb}
 use lib.ListN.{length, drop, length-drop}
+use borrow.Author.Tests.{eqb-true}
 use Rattle.kinds.specs.Kinds.{kindAt}
 use Rattle.tokens.specs.declared.Mode.{Mode}
 use Rattle.tokens.specs.declared.Mode.the-variants.{Lake, Plain}
 use Rattle.tokens.specs.Token.{name, lake, any, Tok, symbol, leaf, pre, suf, arrow, slash, opens, closes, bad, Token, Lexeme}
 use Rattle.tokens.specs.Chars.{Range, Item, single, listed, Body, shut, broken, also, byWidth, bodyBy, body}
 use Rattle.tokens.specs.Tokens.{tok, blankBy, skip, nameByte, nameSpan, lakeBy, less, literalBy, within, someTrue, marksOf, marked, classBy, bracket, preOf, sufOf, byKind, tokenFrom, tokenAt, lexeme, byEnd, lexemesFrom}
-use Rattle.tokens.specs.laws.Tests.{by-test, by-cond, eq-of}
+use Rattle.tokens.specs.laws.Tests.{by-test, by-cond}
 
 -- ── where a literal's or a class's body ends ──
 abbrev Ended : Body → ℕ → ℕ → Type 0
@@ -130,7 +131,7 @@ module _ (at n : ℕ) where
   unfolding byKind
   kind-fwd k m b i l a e h =
       let one : (t : Tok) → Fwd at n (tok t i (suc i)) = λ t. byte t i a (omega arith) in
-      by-test (Fwd at n) (eqb k 2) _ _ (λ x. name-fwd b i l a (e ∙ eq-of k 2 x) h) (
+      by-test (Fwd at n) (eqb k 2) _ _ (λ x. name-fwd b i l a (e ∙ eqb-true k 2 x) h) (
       by-test (Fwd at n) (eqb k 5) _ _ (λ _. one opens) (
       by-test (Fwd at n) (eqb k 6) _ _ (λ _. one closes) (
       by-test (Fwd at n) (eqb k 7) _ _ (λ _. one slash) (

@@ -1,8 +1,6 @@
 -- A token that is chosen by a test has what both choices have. Assumes nothing.
-use Prim.Native.Nat.{ℕ}
-use mathlib.Core.Path.{_≡_, refl, sym, subst}
+use mathlib.Core.Path.{_≡_, refl}
 use mathlib.Core.Bool.{Bool, true, false, cond}
-use lib.Dec.{T, eqb, eqb→eq}
 use Rattle.tokens.specs.Token.{Token}
 
 module _ (P : Token → Type 0) where
@@ -13,6 +11,3 @@ module _ (P : Token → Type 0) where
   pub by-cond : (b : Bool) (x y : Token) → P x → P y → P (cond b x y)
   by-cond true x y h k = h
   by-cond false x y h k = k
-
-pub eq-of : (k n : ℕ) → eqb k n ≡ true → k ≡ n
-eq-of k n e = eqb→eq k n (subst (λ (b : Bool). T b) (sym e) tt)

@@ -1,14 +1,14 @@
 -- The loop reads the characters of a written literal, and the runs of a written class; and the runs have just the marked bytes. Assumes nothing.
 use Prim.Native.Nat.{ℕ, zero, suc, _+_, _≤_, _<_}
-use mathlib.Core.Path.{_≡_, refl, sym, ap, ap₂, _∙_, subst}
-use mathlib.Core.Bool.{Bool, true, false, _&&_, false≢true}
+use mathlib.Core.Path.{_≡_, refl, sym, ap, ap₂, _∙_}
+use mathlib.Core.Bool.{Bool, true, false, and-false, false≢true}
 use mathlib.Core.List.{List, [], _∷_, _++_, append-assoc, append-nil, map}
 use mathlib.Core.Option.{Option, none, some}
 use native.Mathlib.Omega.{arith}
-use lib.Dec.{T, eqb, leb, eqb→eq}
+use lib.Dec.{eqb, leb}
 use lib.ListN.{length, length-append}
 use lib.Seq.{drop-append-seam}
-use borrow.Author.Tests.{eq-eqb, le-leb, lt-leb}
+use borrow.Author.Tests.{eqb-true, eq-eqb, le-leb, lt-leb}
 use Rattle.tokens.specs.Chars.{Char, Range, range, item, single, ranged, dashed, started, listed, Body, shut, also, body}
 use Rattle.tokens.specs.Tokens.{lowOf, within, among, table}
 use Rattle.tokens.specs.laws.Bytes.{Bytes}
@@ -82,7 +82,7 @@ run-listed r f rest n = go (eqb (r .lo) (r .hi)) refl
   where
     go : (x : Bool) → eqb (r .lo) (r .hi) ≡ x → listed (runText r ++ rest) ≡ item (r .lo) (r .hi) (length (runText r))
     go true e =
-        let q : r .lo ≡ r .hi = eqb→eq (r .lo) (r .hi) (subst (λ (b : Bool). T b) (sym e) tt) in
+        let q : r .lo ≡ r .hi = eqb-true (r .lo) (r .hi) e in
         rw (runText, e) (listed-from (r .lo) (omega (arith, f .order, f .small)) rest ∙ dashed-no (r .lo) (length (classChar (r .lo))) rest n ∙ ap (λ (x : ℕ). item (r .lo) x (length (classChar (r .lo)))) q)
     go false e =
         rw (runText, e, append-assoc (classChar (r .lo)) (45 ∷ classChar (r .hi)) rest, length-append (classChar (r .lo)) (45 ∷ classChar (r .hi)))
@@ -152,11 +152,7 @@ below : (b : ℕ) (r : Range) → b < r .lo → within b r ≡ false
 below b r h = rw (lt-leb (r .lo) b h)
 
 above : (b : ℕ) (r : Range) → r .hi < b → within b r ≡ false
-above b r h = rw (lt-leb b (r .hi) h) (go (leb (r .lo) b))
-  where
-    go : (x : Bool) → (x && false) ≡ false
-    go true = refl
-    go false = refl
+above b r h = rw (lt-leb b (r .hi) h) (and-false (leb (r .lo) b))
 
 -- what the open run has, the runs have; below the open run and the marks they have nothing
 runs-keep : (r : Range) (i : ℕ) (l : List Bool) (b : ℕ) → suc (r .hi) ≡ i → r .lo ≤ b → b ≤ r .hi → among b (runs (some r) i l) ≡ true

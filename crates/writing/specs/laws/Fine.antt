@@ -1,11 +1,12 @@
 -- Whatever is read can be written: the tokens of a text of bytes are fine, so are the trees of a grammar that has them. So every grammar that is read is read again from its text. Assumes nothing.
 use Prim.Native.Nat.{ℕ, zero, suc, _+_, _-_, _*_, _≤_, _<_}
 use mathlib.Core.Path.{_≡_, refl, sym, ap, _∙_, subst}
-use mathlib.Core.Bool.{Bool, true, false, cond, _&&_, false≢true}
+use mathlib.Core.Bool.{Bool, true, false, cond, _&&_, and-eq-true-iff}
 use mathlib.Core.List.{List, [], _∷_, _++_, map}
 use mathlib.Core.Option.{Option, none, some}
 use native.Mathlib.Omega.{arith}
-use lib.Dec.{T, eqb, leb, leb→le}
+use lib.Dec.{eqb, leb}
+use borrow.Author.Tests.{leb-true, eqb-true}
 use lib.ListN.{length, length-append, drop, getD}
 use Rattle.kinds.specs.Kinds.{kindAt}
 use Rattle.tokens.specs.declared.Mode.{Mode}
@@ -13,10 +14,11 @@ use Rattle.tokens.specs.declared.Mode.the-variants.{Lake, Plain}
 use Rattle.tokens.specs.Token.{amp, bang, query, asterisk, cross, Tok, symbol, leaf, pre, suf, arrow, slash, opens, closes, bad, Token, Lexeme}
 use Rattle.tokens.specs.Bounds.{firstOctal}
 use Rattle.tokens.specs.Chars.{Char, got, octal, octals, letters, four, char, Range, Item, single, Body, shut, broken, also, byWidth, bodyBy, body}
-use Rattle.tokens.specs.Tokens.{skip, nameByte, nameSpan, lakeBy, less, lowOf, literalBy, among, table, someTrue, turned, marksOf, marked, classBy, bracket, byKind, tokenFrom, tokenAt, byEnd, lexemesFrom, lexemes, toksOf, toks}
+use Rattle.tokens.specs.Tokens.{skip, nameByte, nameSpan, lakeBy, less, lowOf, literalBy, among, someTrue, turned, marksOf, marked, classBy, bracket, byKind, tokenFrom, tokenAt, byEnd, lexemesFrom, lexemes, toksOf, toks}
 use Rattle.tokens.specs.laws.Bytes.{Bytes, bytes-drop}
-use Rattle.tokens.specs.laws.Tests.{by-test, by-cond, eq-of}
+use Rattle.tokens.specs.laws.Tests.{by-test, by-cond}
 use Rattle.tokens.specs.laws.Forward.{span-letter}
+use Rattle.tokens.specs.laws.Marks.{table-length}
 use Rattle.grammar.specs.Syntax.{Choice, one, or, Sequence, first, next, Prefixed, bare, with, Suffixed, only, then, Primary, psym, term, group, Rules, rule, more, choiceToks, seqToks, prefToks, sufToks, primToks, tokens}
 use Rattle.grammar.specs.Exp.{Rule}
 use Rattle.grammar.specs.Trees.{treeC, treeS, treeP, treeF, treeQ, ruled, trees}
@@ -25,19 +27,8 @@ use Rattle.writing.specs.Writing.{text}
 use Rattle.writing.specs.laws.Terminals.{FineLeaf, AllName, FineName, FineSymbol}
 use Rattle.writing.specs.laws.Trip.{FineExpr, FineRules, round-trip}
 
-both-fst : (a b : Bool) → (a && b) ≡ true → a ≡ true
-both-fst true b e = refl
-both-fst false b e = e
-
-both-snd : (a b : Bool) → (a && b) ≡ true → b ≡ true
-both-snd true b e = e
-both-snd false b e = absurd (false≢true e)
-
-le-of : (a b : ℕ) → leb a b ≡ true → a ≤ b
-le-of a b e = leb→le a b (subst (λ (x : Bool). T x) (sym e) tt)
-
 octal-low : (d : ℕ) → octal d ≡ true → d ≤ 55
-octal-low d e = le-of d 55 (both-snd (leb 48 d) (leb d 55) e)
+octal-low d e = leb-true d 55 (and-eq-true-iff (leb 48 d) (leb d 55) .0 e .1)
 
 -- characters are bytes
 abbrev Small : Char → Type 0
@@ -53,7 +44,7 @@ octals-small c d e h =
     by-pick (octal d) _ (got (c - 48) 2)
     (λ k.
     by-pick (leb c firstOctal && octal e) (got ((c - 48) * 64 + (d - 48) * 8 + (e - 48)) 4) (got ((c - 48) * 8 + (d - 48)) 3)
-    (λ j. omega (arith, le-of c firstOctal (both-fst (leb c firstOctal) (octal e) j), octal-low d k, octal-low e (both-snd (leb c firstOctal) (octal e) j)))
+    (λ j. let b = and-eq-true-iff (leb c firstOctal) (octal e) .0 j in omega (arith, leb-true c firstOctal (b .0), octal-low d k, octal-low e (b .1)))
     (omega (arith, octal-low c h, octal-low d k)))
     (omega (arith, octal-low c h))
 
@@ -127,11 +118,6 @@ literal-fine m i broken h = tt
 literal-fine m i (shut [] e) h = tt
 literal-fine m i (shut (r ∷ rs) e) h = h
 
-table-length : (f : ℕ → Bool) (i n : ℕ) → length (table f i n) ≡ n
-unfolding table
-table-length f i zero = refl
-table-length f i (suc n) = ap suc (table-length f (suc i) n)
-
 marked-fine : (m : Mode) (l : List Bool) (i e : ℕ) → length l ≡ 256 → (x : Bool) → someTrue l ≡ x → F m (marked x l i e)
 marked-fine m l i e n true h = (n, h)
 marked-fine m l i e n false h = tt
@@ -172,12 +158,12 @@ less-fine Lake i [] = tt
 less-fine Plain i (b ∷ l) = by-cond (F Plain) (eqb b 45) _ _ tt tt
 less-fine Lake i (b ∷ l) =
     by-test (F Lake) (eqb b 45) _ _ (λ _. tt) (
-    by-test (F Lake) (eqb (kindAt b) 2) _ _ (λ e. lake-fine i (nameSpan (b ∷ l)) (drop (length (nameSpan (b ∷ l))) (b ∷ l)) (name-fine b l (eq-of (kindAt b) 2 e))) tt)
+    by-test (F Lake) (eqb (kindAt b) 2) _ _ (λ e. lake-fine i (nameSpan (b ∷ l)) (drop (length (nameSpan (b ∷ l))) (b ∷ l)) (name-fine b l (eqb-true (kindAt b) 2 e))) tt)
 
 kind-fine : (k : ℕ) (m : Mode) (b i : ℕ) (l : List ℕ) → kindAt b ≡ k → Bytes l → F m (byKind k m b i l)
 unfolding byKind
 kind-fine k m b i l e h =
-    by-test (F m) (eqb k 2) _ _ (λ x. name-fine b l (e ∙ eq-of k 2 x)) (
+    by-test (F m) (eqb k 2) _ _ (λ x. name-fine b l (e ∙ eqb-true k 2 x)) (
     by-test (F m) (eqb k 5) _ _ (λ _. tt) (
     by-test (F m) (eqb k 6) _ _ (λ _. tt) (
     by-test (F m) (eqb k 7) _ _ (λ _. tt) (
