@@ -12,3 +12,4 @@ pub mod Kept
 pub mod Renamed
 pub mod Lengths
 pub mod TextBytes
+pub mod Within

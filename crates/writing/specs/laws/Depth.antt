@@ -23,7 +23,7 @@ peak d (opens ∷ l) = peak (suc d) l
 peak d (closes ∷ l) = max d (peak (fewer d) l)
 peak d (bad ∷ l) = peak d l
 
-peak-from : (d : ℕ) (l : List Tok) → d ≤ peak d l
+pub peak-from : (d : ℕ) (l : List Tok) → d ≤ peak d l
 peak-from d [] = omega arith
 peak-from d (symbol h ∷ l) = peak-from d l
 peak-from d (leaf x ∷ l) = peak-from d l
