@@ -1,8 +1,8 @@
--- One lake's body made plain (01, Lakes made plain). Assumes nothing: these are definitions.
+-- One lake's body made plain, and its name (01, Lakes made plain; 01, Writing). Assumes nothing: these are definitions.
 use Prim.Native.Nat.{ℕ}
 use mathlib.Core.Option.{Option, none, some}
 use mathlib.Core.List.{List, [], _∷_}
-use Rattle.tokens.specs.Token.{any}
+use Rattle.tokens.specs.Token.{Symbol, name, lake, any}
 use Rattle.grammar.specs.Exp.{Exp, ter, seq, alt, never}
 
 -- w: "a copy of the right side of `water`, or `!.` where there is no such rule"
@@ -28,3 +28,8 @@ skipOf (a ∷ bs) = seq (never (choiceOf a bs)) (ter any)
 -- Step 2: "lake body b becomes `b / !(s1 / .. / sn) .`"
 unfoldable pub stepTwo : Exp ℕ → List (Exp ℕ) → Exp ℕ
 stepTwo b ss = alt b (skipOf ss)
+
+-- "`<x>` is written `lake__x` in plain"
+unfoldable pub plainName : Symbol → Symbol
+plainName (name w) = name w
+plainName (lake w) = name (108 ∷ 97 ∷ 107 ∷ 101 ∷ 95 ∷ 95 ∷ w)

@@ -6,10 +6,10 @@ use mathlib.Core.List.{List, [], _∷_, _++_}
 use mathlib.Core.Option.{Option}
 use lib.ListN.{length, getD}
 use lib.Dec.{ltb}
-use Rattle.tokens.specs.Token.{Symbol, Leaf, name, lake, any}
+use Rattle.tokens.specs.Token.{Symbol, Leaf, name}
 use Rattle.grammar.specs.Exp.{Exp, Rule, sym, ter, size, rename}
 use Rattle.grammar.specs.Numbers.{Grammar, isLake}
-use Rattle.grammar.specs.Lakes.{stepTwo}
+use Rattle.grammar.specs.Lakes.{stepTwo, plainName}
 use Rattle.grammar.specs.Refusal.{Refusal, refuseIf}
 use Rattle.tokens.specs.Bounds.{plainBound}
 use Rattle.words.specs.Set.{memberOf}
@@ -47,11 +47,6 @@ plainBodies g a = plainFrom g a 0 (g .names) (intermediate g)
 unfoldable pub sizes : List (Exp ℕ) → ℕ
 sizes [] = 0
 sizes (e ∷ es) = size e + sizes es
-
--- `lake__x` for `<x>`
-unfoldable pub plainName : Symbol → Symbol
-plainName (name w) = name w
-plainName (lake w) = name (108 ∷ 97 ∷ 107 ∷ 101 ∷ 95 ∷ 95 ∷ w)
 
 -- the rules of bodies by number, each symbol called by the names
 unfoldable pub rulesBy : (ℕ → Symbol) → ℕ → List (Exp ℕ) → List Rule

@@ -1,3 +1,5 @@
 pub mod Machine
 pub mod Reader
 pub mod Reading
+pub mod Grammar
+pub mod laws

@@ -2,3 +2,4 @@ pub mod Token
 pub mod Bounds
 pub mod Chars
 pub mod Tokens
+pub mod laws

@@ -1,0 +1,1 @@
+// A grammar as text: see specs/.
