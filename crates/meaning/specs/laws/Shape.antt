@@ -1,5 +1,5 @@
 -- The shape of a node list (01, Meaning of a match: "The node list is preorder"): no node lies higher than where the derivation stands, and each is at most one deeper than the one before it.
--- And a derivation stays within the text.
+-- And a derivation stays within the text, and so does each of its nodes.
 -- Assumes nothing.
 use Prim.Native.Nat.{ℕ, suc, _+_, _≤_}
 use mathlib.Core.List.{List, [], _∷_, _++_}
@@ -40,6 +40,15 @@ both d ns ms h k = (from-append d ns ms (h .0) (k .0), climb-append d d ns ms (o
 here-within : (s bs : List ℕ) (p : ℕ) → p ≤ length s → Here s p bs → length bs + p ≤ length s
 here-within s [] p h k = omega arith
 here-within s (b ∷ bs) p h k = omega (arith, here-within s bs (suc p) (omega (arith, k .0)) (k .2))
+
+-- each node ends no earlier than it starts, and within N bytes
+abbrev pub Spans : ℕ → List Node → Type 0
+Spans N [] = Unit
+Spans N (n ∷ ns) = (n .start ≤ n .end) × (n .end ≤ N) × Spans N ns
+
+spans-append : (N : ℕ) (ns ms : List Node) → Spans N ns → Spans N ms → Spans N (ns ++ ms)
+spans-append N [] ms h k = k
+spans-append N (n ∷ ns) ms h k = (h .0, h .1, spans-append N ns ms (h .2) k)
 
 module _ (g : Meant) (s : List ℕ) where
   pub shape : {d p x : ℕ} {q : Ask} {ns : List Node} → Tries g s d q p x ns → Shape d ns
@@ -121,3 +130,43 @@ module _ (g : Meant) (s : List ℕ) where
   within none-of k = omega arith
   within (this-one t) k = within t k
   within (later-one t u) k = within u k
+
+  pub spans : {d p x : ℕ} {q : Ask} {ns : List Node} → Tries g s d q p x ns → p ≤ length s → Spans (length s) ns
+  spans (any-takes h) k = tt
+  spans (any-fails h) k = tt
+  spans (lit-takes h) k = tt
+  spans (lit-fails h) k = tt
+  spans (cls-takes h) k = tt
+  spans (cls-fails h) k = tt
+  spans (sym-takes t) k = (omega arith, omega (arith, within t k), spans t k)
+  spans (sym-fails t) k = tt
+  spans (seq-fails t) k = tt
+  spans (seq-fails-later t u) k = tt
+  spans (seq-takes {ns = ns} {ms = ms} t u) k = spans-append (length s) ns ms (spans t k) (spans u (omega (arith, within t k)))
+  spans (alt-first t) k = spans t k
+  spans (alt-second t u) k = spans u k
+  spans (star-ends t) k = tt
+  spans (star-idles t) k = tt
+  spans (star-goes {ns = ns} {ms = ms} t u) k = spans-append (length s) ns ms (spans t k) (spans u (omega (arith, within t k)))
+  spans (plus-fails t) k = tt
+  spans (plus-takes {ns = ns} {ms = ms} t u) k = spans-append (length s) ns ms (spans t k) (spans u (omega (arith, within t k)))
+  spans (opt-skips t) k = tt
+  spans (opt-takes t) k = spans t k
+  spans (ahead-fails t) k = tt
+  spans (ahead-takes t) k = tt
+  spans (never-takes t) k = tt
+  spans (never-fails t) k = tt
+  spans (by-rule t) k = spans t k
+  spans (by-own t) k = spans t k
+  spans (by-water t u) k = spans u k
+  spans (by-skip t u v h) k = tt
+  spans (stopped t u v) k = tt
+  spans (at-end t u v h) k = tt
+  spans own-none k = tt
+  spans (own-is t) k = spans t k
+  spans (dry-end h) k = tt
+  spans (dry h) k = tt
+  spans (wet-is t) k = spans t k
+  spans none-of k = tt
+  spans (this-one t) k = spans t k
+  spans (later-one t u) k = spans u k
