@@ -1,0 +1,5 @@
+pub mod Eval
+pub mod Cells
+pub mod First
+pub mod Nodes
+pub mod laws

@@ -1,0 +1,1 @@
+// What a match computes, as definitions that contracts cite, and that it is the meaning: see specs/.

@@ -1,0 +1,6 @@
+-- What follows from the rules. Assumes nothing.
+pub mod One
+pub mod Shape
+pub mod LakesPlain
+pub mod Assoc
+pub mod Met

@@ -1,0 +1,1 @@
+// What a match means, by rules, and the laws of it: see specs/.
