@@ -1,1 +1,3 @@
 pub mod Prepare
+pub mod Answers
+pub mod Calls

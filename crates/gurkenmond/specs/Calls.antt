@@ -1,0 +1,173 @@
+-- What each public call answers and leaves in lent memory, for all inputs (01, Refusal numbers; 01, Meaning of a match; 01, Writing).
+-- Assumes nothing: these are definitions.
+use Prim.Native.Nat.{ℕ, zero, suc, _+_, _-_, _*_}
+use mathlib.Core.Bool.{Bool, true, false, cond, not, _&&_, _||_}
+use mathlib.Core.List.{List, [], _∷_, _++_}
+use mathlib.Core.Option.{Option, none, some}
+use lib.ListN.{length, getD, drop}
+use lib.Dec.{leb, ltb, eqb}
+use Rattle.tokens.specs.declared.Mode.{Mode}
+use Rattle.tokens.specs.Token.{Symbol, name}
+use Rattle.tokens.specs.Bounds.{inputBound}
+use Rattle.grammar.specs.Exp.{Exp}
+use Rattle.grammar.specs.Lakes.{waterOf}
+use Rattle.grammar.specs.Numbers.{Grammar, isLake, expressionsOf}
+use Rattle.grammar.specs.Refusal.{Refusal, refusal, refuseIf, _▸_}
+use Rattle.words.specs.Set.{empty}
+use Rattle.sets.specs.declared.Sets.{Sets}
+use Rattle.sets.specs.Intermediate.{waterIn}
+use Rattle.sets.specs.Analysis.{Analysis, setsAt, isExpression, altOf, cannotSkip}
+use Rattle.plain.specs.Plain.{alternatives, plainRules}
+use Rattle.plain.specs.Calls.{order}
+use Rattle.matching.specs.Eval.{ev}
+use Rattle.matching.specs.Cells.{cells}
+use Rattle.matching.specs.Nodes.{Listing, all, deep, full, listOf, listingOf, wordsOf, roomOf}
+use Rattle.writing.specs.Writing.{text}
+use Rattle.gurkenmond.specs.declared.Verdict.{Verdict}
+use Rattle.gurkenmond.specs.declared.Read.{Read}
+use Rattle.gurkenmond.specs.declared.SetsOf.{SetsOf}
+use Rattle.gurkenmond.specs.declared.Lakes.{Lakes}
+use Rattle.gurkenmond.specs.declared.Match.{Match}
+use Rattle.gurkenmond.specs.declared.Outcome.{Outcome}
+use Rattle.gurkenmond.specs.declared.Outcome.the-variants.{Matched, NoMatch, Refused as OutcomeRefused}
+use Rattle.gurkenmond.specs.declared.Way.{Way}
+use Rattle.gurkenmond.specs.declared.Way.the-variants.{Not, ByRule, ByWater, BySkip, Refused as WayRefused}
+use Rattle.gurkenmond.specs.declared.Written.{Written}
+use Rattle.gurkenmond.specs.declared.Written.the-variants.{Bytes, Refused as WrittenRefused}
+use Rattle.gurkenmond.specs.Prepare.{Prepared, prepared, refuses}
+use Rattle.gurkenmond.specs.Answers.{verdictOf}
+
+-- in the words of the table: m the mode, t the grammar text, s the input, cs the work cells, ws the node words, out the output room
+
+-- ── read: refused 1 to 8, or the counts of the grammar as read ──
+abbrev pub readBy : Option Refusal → Prepared → Read
+readBy (some r) p = record { symbols = 0; terminals = 0; expressions = 0; verdict = verdictOf (some r) }
+readBy none p =
+    record { symbols = length (p .grammar .names); terminals = length (p .grammar .terminals); expressions = expressionsOf (p .rules); verdict = verdictOf none }
+
+unfoldable pub readOf : Mode → List ℕ → Read
+readOf m t = readBy (refuses m t) (prepared m t)
+
+-- ── sets: refused 1 to 8, then "14: no such expression, lake or position" ──
+abbrev pub noSets : Sets
+noSets = record { begin = empty; succeed = empty; alt = empty; eps = false }
+
+abbrev pub setsBy : Option Refusal → Analysis → ℕ → SetsOf
+setsBy (some r) a e = record { sets = noSets; rounds = 0; verdict = verdictOf (some r) }
+setsBy none a e = record { sets = setsAt a e; rounds = a .rounds; verdict = verdictOf none }
+
+unfoldable pub setsOf : Mode → List ℕ → ℕ → SetsOf
+setsOf m t e = let a : Analysis = prepared m t .analysis in setsBy (refuses m t ▸ refuseIf (not (isExpression a e)) 14 0) a e
+
+-- ── the lakes that cannot skip ──
+abbrev pub lakesBy : Option Refusal → Prepared → Lakes
+lakesBy (some r) p = record { word = 0; verdict = verdictOf (some r) }
+lakesBy none p = record { word = cannotSkip (p .grammar) (p .analysis); verdict = verdictOf none }
+
+unfoldable pub cannotSkipOf : Mode → List ℕ → Lakes
+cannotSkipOf m t = lakesBy (refuses m t) (prepared m t)
+
+-- ── match: 1 to 8, 9, 10; then the cells are filled, and 11 and 12 are looked for ──
+-- R·(n+1)
+abbrev pub cellsNeeded : Prepared → List ℕ → ℕ
+cellsNeeded p s = length (p .bodies) * (length s + 1)
+
+-- "9: input too long", place 65,535; "10: work cells fewer than R·(n+1)", place "that number"
+abbrev pub refusesInput : Prepared → List ℕ → List ℕ → Option Refusal
+refusesInput p s cs = refuseIf (ltb inputBound (length s)) 9 inputBound ▸ refuseIf (ltb (length cs) (cellsNeeded p s)) 10 (cellsNeeded p s)
+
+-- an answer, and every lent word after it
+pub record Matching : Type 0 where
+  pub answer : Match
+  pub cells : List ℕ
+  pub nodes : List ℕ
+
+abbrev pub matching : ℕ → Outcome → List ℕ → List ℕ → Matching
+matching k o cs ws = record { answer = record { nodes = k; outcome = o }; cells = cs; nodes = ws }
+
+abbrev pub listingBy : ℕ → Listing → List ℕ → List ℕ → Matching
+listingBy taken (all k) cs ws = matching k (Matched taken) cs ws
+listingBy taken (deep k) cs ws = matching 0 (OutcomeRefused 11 k) cs ws
+listingBy taken (full k) cs ws = matching 0 (OutcomeRefused 12 k) cs ws
+
+-- by the start symbol's cell at 0. "No match is an answer: no node written, cells filled"
+abbrev pub matchBy : ℕ → List (Exp ℕ) → List ℕ → List ℕ → List ℕ → Matching
+matchBy zero bodies s cs ws = matching 0 NoMatch cs ws
+matchBy (suc taken) bodies s cs ws =
+    listingBy taken (listingOf (roomOf ws) 0 (listOf bodies s cs)) cs (wordsOf (roomOf ws) ws (listOf bodies s cs))
+
+-- the cells after filling, by the plain bodies in the order of ranks
+abbrev pub filled : Prepared → List ℕ → List ℕ → List ℕ
+filled p s cs = cells (p .bodies) (order (p .bodies)) s cs
+
+-- "A refusal that is checked no later than 10 leaves all lent memory untouched"
+abbrev pub matchAfter : Option Refusal → Prepared → List ℕ → List ℕ → List ℕ → Matching
+matchAfter (some r) p s cs ws = matching 0 (OutcomeRefused (r .number) (r .place)) cs ws
+matchAfter none p s cs ws = matchBy (getD (filled p s cs) 0 0) (p .bodies) s (filled p s cs) ws
+
+unfoldable pub matchOf : Mode → List ℕ → List ℕ → List ℕ → List ℕ → Matching
+matchOf m t s cs ws = let p : Prepared = prepared m t in matchAfter (refuses m t ▸ refusesInput p s cs) p s cs ws
+
+-- ── the lake question: "9, 10, then 14" ──
+-- none of the alternative symbols matches at p
+unfoldable pub noneMatches : List ℕ → List ℕ → ℕ → List (Exp ℕ) → ℕ → Bool
+noneMatches s cs n [] p = true
+noneMatches s cs n (e ∷ es) p = eqb (ev s cs n e p) 0 && noneMatches s cs n es p
+
+abbrev pub ownTakes : List ℕ → List ℕ → ℕ → Option (Exp ℕ) → ℕ → Bool
+ownTakes s cs n none p = false
+ownTakes s cs n (some e) p = not (eqb (ev s cs n e p) 0)
+
+-- "a lake tries its own rule, then water, then takes one byte only if no alternative symbol matches there"
+unfoldable pub wayBy : List ℕ → List ℕ → ℕ → Option (Exp ℕ) → Option (Exp ℕ) → List (Exp ℕ) → ℕ → Way
+wayBy s cs n own water ss p =
+    elim (ownTakes s cs n own p) [
+      | true ↦ ByRule
+      | false ↦
+          elim (ownTakes s cs n (some (waterOf water)) p) [
+            | true ↦ ByWater
+            | false ↦
+                elim (ltb p (length s) && noneMatches s cs n ss p) [ true ↦ BySkip | false ↦ Not ]
+          ]
+    ]
+
+abbrev pub isLakeAt : Prepared → ℕ → Bool
+isLakeAt p r = ltb r (length (p .grammar .names)) && isLake (getD (p .grammar .names) r (name []))
+
+pub record LakeAnswer : Type 0 where
+  pub way : Way
+  pub cells : List ℕ
+
+abbrev pub lakeAfter : Option Refusal → Prepared → List ℕ → List ℕ → ℕ → ℕ → LakeAnswer
+lakeAfter (some r) p s cs l q = record { way = WayRefused (r .number) (r .place); cells = cs }
+lakeAfter none p s cs l q =
+    let g : Grammar = p .grammar in
+    record {
+      way = wayBy s (filled p s cs) (length (p .bodies)) (getD (g .rights) l none) (waterIn g) (alternatives g (altOf (p .analysis) l)) q;
+      cells = filled p s cs;
+    }
+
+unfoldable pub lakeOf : Mode → List ℕ → List ℕ → List ℕ → ℕ → ℕ → LakeAnswer
+lakeOf m t s cs l q =
+    let p : Prepared = prepared m t in
+    lakeAfter (refuses m t ▸ refusesInput p s cs ▸ refuseIf (not (isLakeAt p l && leb q (length s))) 14 0) p s cs l q
+
+-- ── writing: "13: output room too small", place "bytes needed". Output bytes "behind the last one written, stay as they were" ──
+pub record Writing : Type 0 where
+  pub answer : Written
+  pub out : List ℕ
+
+abbrev pub writeAfter : Option Refusal → List ℕ → List ℕ → Writing
+writeAfter (some r) w out = record { answer = WrittenRefused (r .number) (r .place); out = out }
+writeAfter none w out = record { answer = Bytes (length w); out = w ++ drop (length w) out }
+
+abbrev pub writeBy : Option Refusal → List ℕ → List ℕ → Writing
+writeBy o w out = writeAfter (o ▸ refuseIf (ltb (length out) (length w)) 13 (length w)) w out
+
+-- a grammar's own text: "Rules that the grammar has"
+unfoldable pub writeOwnOf : Mode → List ℕ → List ℕ → Writing
+writeOwnOf m t out = writeBy (refuses m t) (text (prepared m t .rules)) out
+
+-- the plain text: "in plain, every symbol's"
+unfoldable pub writePlainOf : Mode → List ℕ → List ℕ → Writing
+writePlainOf m t out = let p : Prepared = prepared m t in writeBy (refuses m t) (text (plainRules (p .grammar) (p .analysis))) out
