@@ -115,5 +115,8 @@ unfoldable pub soundAt : List ℕ → ℕ → ℕ → Bool
 soundAt ws k n = let x : Node = nodeAt ws k in leb (nodeWords * suc k) (length ws) && (leb (x .start) (x .end) && leb (x .end) n)
 
 -- "the text of a node is handed back as that part of the lent input; for an unsound node, the empty part at 0"
+abbrev pub partOf : List ℕ → Node → List ℕ
+partOf s x = take (x .end - x .start) (drop (x .start) s)
+
 unfoldable pub nodeText : List ℕ → List ℕ → ℕ → List ℕ
-nodeText s ws k = let x : Node = nodeAt ws k in cond (soundAt ws k (length s)) (take (x .end - x .start) (drop (x .start) s)) []
+nodeText s ws k = cond (soundAt ws k (length s)) (partOf s (nodeAt ws k)) []

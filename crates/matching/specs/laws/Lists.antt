@@ -10,42 +10,11 @@ use Rattle.grammar.specs.Exp.{Exp, sym, ter, seq, alt, opt, star, plus, ahead, 
 use Rattle.meaning.specs.Meaning.{Node, nd, rule, lake, Ask, exp, inside, own, wet, some-of, Tries, any-takes, any-fails, lit-takes, lit-fails, cls-takes, cls-fails, sym-takes, sym-fails, seq-fails, seq-fails-later, seq-takes, alt-first, alt-second, star-ends, star-idles, star-goes, plus-fails, plus-takes, opt-skips, opt-takes, ahead-fails, ahead-takes, never-takes, never-fails, by-rule, by-own, by-water, by-skip, stopped, at-end, own-none, own-is, dry-end, dry, wet-is, none-of, this-one, later-one, Derives}
 use Rattle.meaning.specs.laws.Shape.{From, shape, within}
 use Rattle.matching.specs.Eval.{bodyOf, cellAt, ev}
-use Rattle.matching.specs.Nodes.{seqN, altN, optN, stepN, repN, walkOf, nodeIf, nodesOf}
+use Rattle.matching.specs.Nodes.{repN, walkOf, nodeIf, nodesOf}
 use Rattle.matching.specs.laws.Sound.{plainly}
 use Rattle.matching.specs.laws.Agrees.{Right, ev-only}
+use Rattle.matching.specs.laws.NodeSteps.{seq-joins, alt-left, alt-right, opt-none, opt-some, rep-ends, rep-joins, nodes-fails}
 use Rattle.matching.specs.laws.Cut.{cut, cut-append, cut-none, cut-keeps}
-
--- ── operators: x is what the part takes ──
-seq-n : (x m : ℕ) (l a b : List Node) (k : ℕ → List Node) → x ≡ suc m → l ≡ a → k m ≡ b → seqN x l k ≡ a ++ b
-unfolding seqN
-seq-n x m l a b k h g i = rw (h, g, i)
-
-alt-n1 : (x m : ℕ) (l k a : List Node) → x ≡ suc m → l ≡ a → altN x l k ≡ a
-unfolding altN
-alt-n1 x m l k a h g = rw h g
-
-alt-n2 : (x : ℕ) (l k a : List Node) → x ≡ 0 → k ≡ a → altN x l k ≡ a
-unfolding altN
-alt-n2 x l k a h g = rw h g
-
-rep-n0 : (j p x : ℕ) (f : ℕ → ℕ) (w : ℕ → List Node) → f p ≡ x → x ≤ 1 → repN j f w p ≡ []
-unfolding repN stepN
-rep-n0 zero p x f w h l = refl
-rep-n0 (suc j) p zero f w h l = rw h
-rep-n0 (suc j) p (suc zero) f w h l = rw h
-rep-n0 (suc j) p (suc (suc x)) f w h l = absurd (omega arith)
-
-rep-n1 : (j p m : ℕ) (f : ℕ → ℕ) (w : ℕ → List Node) (a b : List Node) → f p ≡ suc (suc m) → w p ≡ a → repN j f w (p + suc m) ≡ b → repN (suc j) f w p ≡ a ++ b
-unfolding repN stepN
-rep-n1 j p m f w a b h g i = rw (h, g, i)
-
-opt-n0 : (x : ℕ) (l : List Node) → x ≡ 0 → optN x l ≡ []
-unfolding optN
-opt-n0 x l h = rw h
-
-opt-n1 : (x m : ℕ) (l a : List Node) → x ≡ suc m → l ≡ a → optN x l ≡ a
-unfolding optN
-opt-n1 x m l a h g = rw h g
 
 one-more : (m : ℕ) → suc m ≡ 0 → ⊥
 one-more m h = omega arith
@@ -90,13 +59,13 @@ module _ (bodies : List (Exp ℕ)) (s cs : List ℕ) (right : Right bodies s cs)
 
   ends : (a : Exp ℕ) (d p x : ℕ) → takes a p ≡ x → x ≤ 1 → Rounds a d p []
   unfolding cut
-  ends a d p x h l j i left = rep-n0 j p x (λ i. takes a i) (λ i. W left d a i) h l
+  ends a d p x h l j i left = flip (rep-ends (λ i. takes a i) (λ i. W left d a i) j p x (flip h) l)
 
   goes : (a : Exp ℕ) (d p m : ℕ) (ns ms : List Node) → takes a p ≡ suc (suc m) → ((left : ℕ) → W left d a p ≡ cut (d + left) ns) → suc (suc m) + p ≤ length s + 1
       → Rounds a d (p + suc m) ms → Rounds a d p (ns ++ ms)
   goes a d p m ns ms h w b r zero i left = absurd (omega arith)
   goes a d p m ns ms h w b r (suc j) i left =
-      rep-n1 j p m (λ i. takes a i) (λ i. W left d a i) (cut (d + left) ns) (cut (d + left) ms) h (w left) (r j (omega arith) left) ∙ flip (cut-append (d + left) ns ms)
+      rep-joins (λ i. takes a i) (λ i. W left d a i) j p m (cut (d + left) ns) (cut (d + left) ms) h (w left) (r j (omega arith) left) ∙ flip (cut-append (d + left) ns ms)
 
   -- a symbol that matches: its node, if a level is left, and what its body lists
   sym-lists : (left d r p m : ℕ) (ns : List Node) → From d (nd r p (p + m) d ∷ ns) → cellAt s cs (length bodies) r p ≡ suc m
@@ -124,9 +93,9 @@ module _ (bodies : List (Exp ℕ)) (s cs : List ℕ) (right : Right bodies s cs)
   says (seq-fails-later t u) l = (λ left f. absurd (f refl), tt)
   says (seq-takes {d = d} {p = p} {m = m} {k = k} {ns = ns} {ms = ms} t u) l =
       let v : p + m ≤ length s = omega (arith, within (plainly bodies) s t l) in
-      (λ left f. seq-n _ m _ _ _ _ (ev-only bodies s cs right l t) (says t l .0 left (one-more m)) (says u v .0 left (one-more k)) ∙ flip (cut-append (d + left) ns ms), tt)
-  says (alt-first {m = m} t) l = (λ left f. alt-n1 _ m _ _ _ (ev-only bodies s cs right l t) (says t l .0 left f), tt)
-  says (alt-second t u) l = (λ left f. alt-n2 _ _ _ _ (ev-only bodies s cs right l t) (says u l .0 left f), tt)
+      (λ left f. seq-joins _ m _ _ _ _ (ev-only bodies s cs right l t) (says t l .0 left (one-more m)) (says u v .0 left (one-more k)) ∙ flip (cut-append (d + left) ns ms), tt)
+  says (alt-first {m = m} t) l = (λ left f. flip (alt-left _ _ _ (suc m) (flip (ev-only bodies s cs right l t)) (one-more m)) ∙ says t l .0 left f, tt)
+  says (alt-second t u) l = (λ left f. flip (alt-right _ _ _ 0 (flip (ev-only bodies s cs right l t)) refl) ∙ says u l .0 left f, tt)
   says (star-ends {d = d} {p = p} {a = a} t) l = star-lists a d p 1 [] (ends a d p 0 (ev-only bodies s cs right l t) (omega arith))
   says (star-idles {d = d} {p = p} {a = a} t) l = star-lists a d p 1 [] (ends a d p 1 (ev-only bodies s cs right l t) (omega arith))
   says (star-goes {d = d} {p = p} {m = m} {k = k} {a = a} {ns = ns} {ms = ms} t u) l =
@@ -135,9 +104,9 @@ module _ (bodies : List (Exp ℕ)) (s cs : List ℕ) (right : Right bodies s cs)
   says (plus-fails t) l = (λ left f. absurd (f refl), tt)
   says (plus-takes {d = d} {p = p} {m = m} {ns = ns} {ms = ms} t u) l =
       let v : p + m ≤ length s = omega (arith, within (plainly bodies) s t l) in
-      (λ left f. seq-n _ m _ _ _ _ (ev-only bodies s cs right l t) (says t l .0 left (one-more m)) (says u v .1 (length s) (omega arith) left) ∙ flip (cut-append (d + left) ns ms), tt)
-  says (opt-skips t) l = (λ left f. opt-n0 _ _ (ev-only bodies s cs right l t), tt)
-  says (opt-takes {m = m} t) l = (λ left f. opt-n1 _ m _ _ (ev-only bodies s cs right l t) (says t l .0 left f), tt)
+      (λ left f. seq-joins _ m _ _ _ _ (ev-only bodies s cs right l t) (says t l .0 left (one-more m)) (says u v .1 (length s) (omega arith) left) ∙ flip (cut-append (d + left) ns ms), tt)
+  says (opt-skips t) l = (λ left f. flip (opt-none _ _ 0 (flip (ev-only bodies s cs right l t)) refl), tt)
+  says (opt-takes {m = m} t) l = (λ left f. flip (opt-some _ _ (suc m) (flip (ev-only bodies s cs right l t)) (one-more m)) ∙ says t l .0 left f, tt)
   says (ahead-fails t) l = (λ left f. absurd (f refl), tt)
   says (ahead-takes t) l = (λ left f. refl, tt)
   says (never-takes t) l = (λ left f. refl, tt)
@@ -164,6 +133,5 @@ module _ (bodies : List (Exp ℕ)) (s cs : List ℕ) (right : Right bodies s cs)
 
   -- a symbol that fails has none
   pub lists-none : {d r p : ℕ} {ns : List Node} (left : ℕ) → p ≤ length s → Derives (plainly bodies) s d (sym r) p 0 ns → nodesOf bodies s cs left d r p ≡ []
-  unfolding nodesOf nodeIf ev
-  lists-none zero l t = refl
-  lists-none {r = r} (suc left) l t = rw (ev-only bodies s cs right {e = sym r} l t)
+  unfolding ev
+  lists-none {d} {r} {p} left l t = flip (nodes-fails bodies s cs d r p left 0 (flip (ev-only bodies s cs right {e = sym r} l t)) refl)

@@ -13,7 +13,7 @@ use borrow.Author.Tests.{le-leb}
 use Rattle.grammar.specs.Exp.{Exp}
 use Rattle.meaning.specs.Meaning.{Meant, Node, nd, Derives}
 use Rattle.meaning.specs.laws.Shape.{Spans, spans}
-use Rattle.matching.specs.Nodes.{Listing, all, deep, full, listingOf, putNode, written, ifAll, wordsOf, roomOf, nodeAt, nodesAt, soundAt}
+use Rattle.matching.specs.Nodes.{Listing, all, deep, full, listingOf, putNode, written, ifAll, wordsOf, roomOf, nodeAt, nodesAt, soundAt, partOf, nodeText}
 use Rattle.matching.specs.laws.Cut.{IsAll, all-fit}
 
 pub put-length : (ws : List ℕ) (k : ℕ) (n : Node) → length (putNode ws k n) ≡ length ws
@@ -106,7 +106,7 @@ pub words-refused : (room : ℕ) (ws : List ℕ) (ns : List Node) → (IsAll (li
 unfolding wordsOf
 words-refused room ws ns f = if-refused (listingOf room 0 ns) (written ws 0 ns) ws f
 
-if-all : (l : Listing) (a b : List ℕ) → IsAll l → ifAll l a b ≡ a
+pub if-all : (l : Listing) (a b : List ℕ) → IsAll l → ifAll l a b ≡ a
 if-all (all k) a b i = refl
 if-all (deep k) a b i = absurd i
 if-all (full k) a b i = absurd i
@@ -142,3 +142,20 @@ match-sound {g} {s} {ns = ns} ws h t i j l =
     subst (λ (k : ℕ). soundAt (wordsOf (roomOf ws) ws ns) k (length s) ≡ true) (omega arith)
     (nodes-sound (wordsOf (roomOf ws) ws ns) 0 (length ns) (length s) (omega (arith, words-length (roomOf ws) ws ns, all-fit (roomOf ws) 0 ns (omega arith) i .1, room-fits ws))
     (subst (λ (l : List Node). Spans (length s) l) (flip (words-back ws ns i)) (spans g s t h)) j l)
+
+node-at : (ws : List ℕ) (k c j : ℕ) (z : Node) → j < c → nodeAt ws (k + j) ≡ getD (nodesAt ws k c) j z
+unfolding nodesAt
+node-at ws k zero j z l = absurd (omega arith)
+node-at ws k (suc c) zero z l = ap (nodeAt ws) (omega arith)
+node-at ws k (suc c) (suc j) z l = ap (nodeAt ws) (omega arith) ∙ node-at ws (suc k) c j z (omega arith)
+
+-- node j of the words is node j of the list
+pub match-node : (ws : List ℕ) (ns : List Node) (z : Node) → IsAll (listingOf (roomOf ws) 0 ns) → (j : ℕ) → j < length ns → nodeAt (wordsOf (roomOf ws) ws ns) j ≡ getD ns j z
+match-node ws ns z i j l =
+    ap (nodeAt (wordsOf (roomOf ws) ws ns)) (omega arith) ∙ node-at (wordsOf (roomOf ws) ws ns) 0 (length ns) j z l ∙ ap (λ (x : List Node). getD x j z) (words-back ws ns i)
+
+-- and its text is that part of the input
+pub match-text : {g : Meant} {s : List ℕ} {d p x : ℕ} {e : Exp ℕ} {ns : List Node} (ws : List ℕ) (z : Node) → p ≤ length s → Derives g s d e p x ns → IsAll (listingOf (roomOf ws) 0 ns)
+    → (j : ℕ) → j < length ns → nodeText s (wordsOf (roomOf ws) ws ns) j ≡ partOf s (getD ns j z)
+unfolding nodeText
+match-text {s = s} {ns = ns} ws z h t i j l = rw (match-sound ws h t i j l) (ap (partOf s) (match-node ws ns z i j l))
