@@ -4,4 +4,6 @@ pub mod Syntax
 pub mod Trees
 pub mod Numbers
 pub mod Lakes
+pub mod Empty
 pub mod Refusal
+pub mod Table

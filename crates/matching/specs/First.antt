@@ -3,38 +3,19 @@
 -- Assumes nothing: these are definitions.
 use Prim.Native.Nat.{ℕ, _<_}
 use mathlib.Core.Path.{_≡_}
-use mathlib.Core.Bool.{Bool, true, false, _&&_, _||_}
+use mathlib.Core.Bool.{Bool, true}
 use mathlib.Core.List.{List, [], _∷_}
 use mathlib.Core.Logic.{_⊎_}
 use lib.ListN.{length}
-use Rattle.tokens.specs.Token.{Leaf, any, literal, class}
 use Rattle.grammar.specs.Exp.{Exp, sym, ter, seq, alt, opt, star, plus, ahead, never}
+use Rattle.grammar.specs.Empty.{hasEmpty}
 use Rattle.matching.specs.Eval.{bodyOf}
-
--- only an empty literal takes nothing, and no text has one
-unfoldable pub emptyLeaf : Leaf → Bool
-emptyLeaf any = false
-emptyLeaf (literal []) = true
-emptyLeaf (literal (b ∷ bs)) = false
-emptyLeaf (class m) = false
-
--- ε of an expression, given that of each symbol (01, BEGINNING)
-unfoldable pub empty : (ℕ → Bool) → Exp ℕ → Bool
-empty m (sym r) = m r
-empty m (ter x) = emptyLeaf x
-empty m (seq a b) = empty m a && empty m b
-empty m (alt a b) = empty m a || empty m b
-empty m (opt a) = true
-empty m (star a) = true
-empty m (plus a) = empty m a
-empty m (ahead a) = true
-empty m (never a) = true
 
 -- "both sides of a choice, the right of a sequence whose left has ε, and under `&`, `!`, `?`, `*`, `+`"
 abbrev pub Calls : (ℕ → Bool) → Exp ℕ → ℕ → Type 0
 Calls m (sym r) x = x ≡ r
 Calls m (ter l) x = ⊥
-Calls m (seq a b) x = Calls m a x ⊎ ((empty m a ≡ true) × Calls m b x)
+Calls m (seq a b) x = Calls m a x ⊎ ((hasEmpty m a ≡ true) × Calls m b x)
 Calls m (alt a b) x = Calls m a x ⊎ Calls m b x
 Calls m (opt a) x = Calls m a x
 Calls m (star a) x = Calls m a x
@@ -44,7 +25,7 @@ Calls m (never a) x = Calls m a x
 
 -- m marks every symbol whose body has ε
 abbrev pub Markings : (ℕ → Bool) → List (Exp ℕ) → Type 0
-Markings m bodies = (r : ℕ) → r < length bodies → empty m (bodyOf bodies r) ≡ true → m r ≡ true
+Markings m bodies = (r : ℕ) → r < length bodies → hasEmpty m (bodyOf bodies r) ≡ true → m r ≡ true
 
 abbrev pub In : ℕ → List ℕ → Type 0
 In x [] = ⊥

@@ -11,7 +11,8 @@ use Rattle.grammar.specs.Exp.{Exp, sym, ter, seq, alt, opt, star, plus, ahead, 
 use Rattle.grammar.specs.Refusal.{Refusal, refuseAt}
 use Rattle.words.specs.Set.{bit}
 use Rattle.fixpoint.specs.Rounds.{iter}
-use Rattle.sets.specs.Beginning.{hasEmpty, marked, marksOf}
+use Rattle.grammar.specs.Empty.{hasEmpty}
+use Rattle.sets.specs.Beginning.{marked, marksOf}
 
 -- "both sides of a choice, the right of a sequence whose left has ε, and under `&`, `!`, `?`, `*`, `+`"
 unfoldable pub firstCalls : (ℕ → Bool) → Exp ℕ → ℕ

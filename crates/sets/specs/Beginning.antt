@@ -3,22 +3,11 @@ use Prim.Native.Nat.{ℕ, zero, suc}
 use mathlib.Core.Bool.{Bool, true, false, cond, _&&_, _||_}
 use mathlib.Core.List.{List, [], _∷_, _++_, map}
 use lib.ListN.{length, getD, replicate}
-use Rattle.grammar.specs.Exp.{Exp, sym, ter, seq, alt, opt, star, plus, ahead, never}
+use Rattle.grammar.specs.Exp.{Exp}
+use Rattle.grammar.specs.Empty.{hasEmpty}
 use Rattle.words.specs.Set.{unionOf, empty, symbolSet, terminalSet}
 use Rattle.fixpoint.specs.Rounds.{iter}
 use Rattle.sets.specs.Parts.{Part, terminal, occurs, sequence, choice, option, repeat, repeat1, looks}
-
--- whether an expression has ε, where m says which symbols' bodies have it
-unfoldable pub hasEmpty : (ℕ → Bool) → Exp ℕ → Bool
-hasEmpty m (sym r) = m r
-hasEmpty m (ter x) = false
-hasEmpty m (seq a b) = hasEmpty m a && hasEmpty m b
-hasEmpty m (alt a b) = hasEmpty m a || hasEmpty m b
-hasEmpty m (opt a) = true
-hasEmpty m (star a) = true
-hasEmpty m (plus a) = hasEmpty m a
-hasEmpty m (ahead a) = true
-hasEmpty m (never a) = true
 
 abbrev pub marked : List Bool → ℕ → Bool
 marked ms r = getD ms r false

@@ -1,5 +1,6 @@
 ghost use mathlib.Core.Path.{_≡_};
 ghost use Prim.Native.Nat.{_<_};
+ghost use lib.ListN.{getD, set};
 ghost use Rattle.words.specs.Set.{unionOf, memberOf, withOf, empty as none};
 ghost use Rattle.words.specs.Decides.{Decides};
 
@@ -37,4 +38,25 @@ pub fn empty() -> [u64; 2]
     ensures { λ r. ⌜ r ≡ none ⌝ }
 {
     [0, 0]
+}
+
+// The word at i of lent words; 0 past the end.
+pub fn word(a: &[u32], i: usize) -> usize
+    ensures { λ r. ⌜ (r ≡ getD (now (a .entry)) i 0) × (r < 4294967296) ⌝ }
+{
+    if i < a.len() {
+        a[i] as usize
+    } else {
+        0
+    }
+}
+
+// Stores v at i of lent words; past the end nothing.
+pub fn put(a: &mut [u32], i: usize, v: usize)
+    requires { ⌜ v < 4294967296 ⌝ }
+    ensures { λ r. ⌜ now (a .exit) ≡ set (now (a .entry)) i v ⌝ }
+{
+    if i < a.len() {
+        a[i] = v as u32;
+    }
 }

@@ -17,7 +17,8 @@ use Rattle.meaning.specs.Meaning.{Node, rule, lake, Ask, exp, inside, own, wet,
 use Rattle.meaning.specs.laws.One.{one}
 use Rattle.meaning.specs.laws.Shape.{within}
 use Rattle.matching.specs.Eval.{nowhere, bodyOf, rep, ev}
-use Rattle.matching.specs.First.{emptyLeaf, empty, Calls, Markings}
+use Rattle.grammar.specs.Empty.{emptyLeaf, hasEmpty}
+use Rattle.matching.specs.First.{Calls, Markings}
 use Rattle.matching.specs.laws.Sound.{plainly, Means, leaf-sound, seq-sound, alt-sound, rep-sound, plus-sound, opt-sound, ahead-sound, never-sound, cell-sound}
 
 both-true : (a b : Bool) → a ≡ true → b ≡ true → (a && b) ≡ true
@@ -32,14 +33,14 @@ or-right false b h = h
 
 module _ (bodies : List (Exp ℕ)) (s : List ℕ) (m : ℕ → Bool) (marked : Markings m bodies) where
   -- a symbol that there is not has no ε
-  marks-by : (r : ℕ) (b : Bool) → ltb r (length bodies) ≡ b → empty m (bodyOf bodies r) ≡ true → m r ≡ true
-  unfolding empty emptyLeaf
+  marks-by : (r : ℕ) (b : Bool) → ltb r (length bodies) ≡ b → hasEmpty m (bodyOf bodies r) ≡ true → m r ≡ true
+  unfolding hasEmpty emptyLeaf
   marks-by r true h e = marked r (ltb-true r (length bodies) h) e
-  marks-by r false h e = absurd (false≢true (subst (λ (x : Exp ℕ). empty m x ≡ true) (List·getD-eq-default bodies nowhere {n = r} (ltb-false r (length bodies) h)) e))
+  marks-by r false h e = absurd (false≢true (subst (λ (x : Exp ℕ). hasEmpty m x ≡ true) (List·getD-eq-default bodies nowhere {n = r} (ltb-false r (length bodies) h)) e))
 
   abbrev Empties : Ask → ℕ → Type 0
-  Empties (exp e) x = x ≡ 1 → empty m e ≡ true
-  Empties (inside (rule e)) x = x ≡ 1 → empty m e ≡ true
+  Empties (exp e) x = x ≡ 1 → hasEmpty m e ≡ true
+  Empties (inside (rule e)) x = x ≡ 1 → hasEmpty m e ≡ true
   Empties (inside (lake o ss)) x = Unit
   Empties (own o) x = Unit
   Empties (wet w) x = Unit
@@ -52,7 +53,7 @@ module _ (bodies : List (Exp ℕ)) (s : List ℕ) (m : ℕ → Bool) (marked : M
 
   -- what matches and takes nothing has ε
   empties-all : {d p x : ℕ} {q : Ask} {ns : List Node} → Tries (plainly bodies) s d q p x ns → Empties q x
-  unfolding empty
+  unfolding hasEmpty
   empties-all (any-takes l) = λ h. absurd (omega (arith, h))
   empties-all (any-fails l) = λ h. absurd (omega (arith, h))
   empties-all (lit-takes {bs = bs} l) = λ h. lit-empty bs h
@@ -63,9 +64,9 @@ module _ (bodies : List (Exp ℕ)) (s : List ℕ) (m : ℕ → Bool) (marked : M
   empties-all (sym-fails t) = λ h. absurd (omega (arith, h))
   empties-all (seq-fails t) = λ h. absurd (omega (arith, h))
   empties-all (seq-fails-later t u) = λ h. absurd (omega (arith, h))
-  empties-all (seq-takes {a = a} {b = b} t u) = λ h. both-true (empty m a) (empty m b) (empties-all t (omega (arith, h))) (empties-all u (omega (arith, h)))
-  empties-all (alt-first {a = a} {b = b} t) = λ h. or-left (empty m a) (empty m b) (empties-all t h)
-  empties-all (alt-second {a = a} {b = b} t u) = λ h. or-right (empty m a) (empty m b) (empties-all u h)
+  empties-all (seq-takes {a = a} {b = b} t u) = λ h. both-true (hasEmpty m a) (hasEmpty m b) (empties-all t (omega (arith, h))) (empties-all u (omega (arith, h)))
+  empties-all (alt-first {a = a} {b = b} t) = λ h. or-left (hasEmpty m a) (hasEmpty m b) (empties-all t h)
+  empties-all (alt-second {a = a} {b = b} t u) = λ h. or-right (hasEmpty m a) (hasEmpty m b) (empties-all u h)
   empties-all (star-ends t) = λ h. refl
   empties-all (star-idles t) = λ h. refl
   empties-all (star-goes t u) = λ h. refl

@@ -16,7 +16,8 @@ use Rattle.grammar.specs.Lakes.{waterOf, stepOne, choiceOf, skipOf, stepTwo}
 use Rattle.meaning.specs.Meaning.{nd}
 use Rattle.matching.specs.Eval.{stands, leafAt, cellAt, joinOf, seqOf, altOf, stepOf, rep, plusOf, optOf, aheadOf, neverOf, ev}
 use Rattle.matching.specs.Cells.{bodyAt, rowOf, fillOf, cells}
-use Rattle.matching.specs.First.{emptyLeaf, empty, Calls, Markings, In, Ordered}
+use Rattle.grammar.specs.Empty.{emptyLeaf, hasEmpty}
+use Rattle.matching.specs.First.{Calls, Markings, In, Ordered}
 use Rattle.matching.specs.Nodes.{seqN, altN, optN, stepN, repN, walkOf, nodeIf, nodesOf, levels, listOf, listingOf, putNode, written, wordsOf, nodeAt, soundAt, nodeText}
 use Rattle.matching.specs.laws.Agrees.{Right}
 use Rattle.matching.specs.laws.Filled.{filled-right}
@@ -55,7 +56,7 @@ abbrev marks : ℕ → Bool
 marks r = eqb r 3
 
 marked : Markings marks G
-unfolding empty emptyLeaf
+unfolding hasEmpty emptyLeaf
 marked zero l h = absurd (false≢true h)
 marked (suc zero) l h = absurd (false≢true h)
 marked (suc (suc zero)) l h = absurd (false≢true h)
@@ -63,7 +64,7 @@ marked (suc (suc (suc zero))) l h = refl
 marked (suc (suc (suc (suc r)))) l h = absurd (omega arith)
 
 block-first : (x : ℕ) → Calls marks block x → x < 4 → ⊥
-unfolding empty emptyLeaf
+unfolding hasEmpty emptyLeaf
 block-first x (inl (inl e)) l = e
 block-first x (inl (inr e)) l = false≢true (e .0)
 block-first x (inr e) l = e .1
