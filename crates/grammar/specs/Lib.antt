@@ -5,5 +5,7 @@ pub mod Trees
 pub mod Numbers
 pub mod Lakes
 pub mod Empty
+pub mod Parts
 pub mod Refusal
 pub mod Table
+pub mod Holds

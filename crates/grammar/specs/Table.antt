@@ -5,7 +5,7 @@
 --   expression: kind, left, right, parts before wholes, rule after rule, numbered from 0.
 -- Kinds of expressions: 0 terminal (left: its number), 1 symbol (left: its number), 2 sequence, 3 choice, 4 `?`, 5 `*`, 6 `+`, 7 `&`, 8 `!`.
 -- Assumes nothing: these are definitions.
-use Prim.Native.Nat.{ℕ, zero, suc, _+_, _*_}
+use Prim.Native.Nat.{ℕ, zero, suc, _+_, _-_, _*_}
 use mathlib.Core.Bool.{Bool, true, false, cond, not}
 use mathlib.Core.List.{List, [], _∷_, _++_}
 use mathlib.Core.Option.{Option, none, some}
@@ -14,6 +14,7 @@ use lib.Dec.{eqb, ltb}
 use Rattle.tokens.specs.Token.{Symbol, Leaf, name, lake, any, literal, class}
 use Rattle.grammar.specs.Exp.{Exp, sym, ter, seq, alt, opt, star, plus, ahead, never}
 use Rattle.grammar.specs.Numbers.{Grammar}
+use Rattle.grammar.specs.Parts.{Part, terminal, occurs, sequence, choice, option, repeat, repeat1, affirms, denies}
 
 abbrev pub symbolsAt : ℕ
 symbolsAt = 8
@@ -127,3 +128,30 @@ upTo f (suc n) = upTo f n ++ (f n ∷ [])
 -- the grammar that a table holds
 unfoldable pub grammarIn : List ℕ → Grammar
 grammarIn t = record { names = upTo (nameIn t) (symbolCount t); rights = upTo (bodyIn t) (symbolCount t); terminals = upTo (leafIn t) (terminalCount t) }
+
+-- the expression with number e, its parts by number
+unfoldable pub partBy : ℕ → ℕ → ℕ → Part
+partBy zero l r = terminal l
+partBy (suc zero) l r = occurs l
+partBy (suc (suc zero)) l r = sequence l r
+partBy (suc (suc (suc zero))) l r = choice l r
+partBy (suc (suc (suc (suc zero)))) l r = option l
+partBy (suc (suc (suc (suc (suc zero))))) l r = repeat l
+partBy (suc (suc (suc (suc (suc (suc zero)))))) l r = repeat1 l
+partBy (suc (suc (suc (suc (suc (suc (suc zero))))))) l r = affirms l
+partBy (suc (suc (suc (suc (suc (suc (suc (suc k)))))))) l r = denies l
+
+unfoldable pub partIn : List ℕ → ℕ → Part
+partIn t e = partBy (opOf t e) (leftOf t e) (rightOf t e)
+
+-- all of them, by number
+unfoldable pub partsIn : List ℕ → List Part
+partsIn t = upTo (partIn t) (expressionCount t)
+
+-- by symbol: 0 where there is no body, else 1 + its number
+unfoldable pub rootsIn : List ℕ → List ℕ
+rootsIn t = upTo (λ r. symbolWord t r 1) (symbolCount t)
+
+-- the bodies of a table in which every symbol has one
+unfoldable pub bodiesIn : List ℕ → List (Exp ℕ)
+bodiesIn t = upTo (λ r. treeAt t (symbolWord t r 1 - 1)) (symbolCount t)

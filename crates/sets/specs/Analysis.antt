@@ -13,7 +13,7 @@ use Rattle.words.specs.Set.{empty, memberOf}
 use Rattle.fixpoint.specs.Rounds.{Settled}
 use Rattle.sets.specs.declared.Sets.{Sets}
 use Rattle.sets.specs.Intermediate.{intermediate}
-use Rattle.sets.specs.Parts.{Part, partsAll, rootsOf}
+use Rattle.grammar.specs.Parts.{Part, partsAll, rootsOf}
 use Rattle.sets.specs.Beginning.{Beginning, nothing, marksOf, marked, beginnings}
 use Rattle.sets.specs.Flows.{over, succeedGifts, succeedEdges, altGifts, altEdges, leastBy}
 

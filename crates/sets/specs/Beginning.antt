@@ -7,7 +7,7 @@ use Rattle.grammar.specs.Exp.{Exp}
 use Rattle.grammar.specs.Empty.{hasEmpty}
 use Rattle.words.specs.Set.{unionOf, empty, symbolSet, terminalSet}
 use Rattle.fixpoint.specs.Rounds.{iter}
-use Rattle.sets.specs.Parts.{Part, terminal, occurs, sequence, choice, option, repeat, repeat1, looks}
+use Rattle.grammar.specs.Parts.{Part, terminal, occurs, sequence, choice, option, repeat, repeat1, affirms, denies}
 
 abbrev pub marked : List Bool → ℕ → Bool
 marked ms r = getD ms r false
@@ -47,7 +47,8 @@ beginBy m at (choice i j) = beginChoice (at i) (at j)
 beginBy m at (option i) = begin (at i .set) true
 beginBy m at (repeat i) = begin (at i .set) true
 beginBy m at (repeat1 i) = at i
-beginBy m at (looks i) = begin empty true
+beginBy m at (affirms i) = begin empty true
+beginBy m at (denies i) = begin empty true
 
 -- of all expressions, parts before wholes: `done` are those of the expressions before
 unfoldable pub beginningsFrom : (ℕ → Bool) → List Beginning → List Part → List Beginning

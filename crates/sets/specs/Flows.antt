@@ -7,7 +7,7 @@ use lib.ListN.{length, getD, set, replicate}
 use Rattle.words.specs.Set.{unionOf, empty}
 use Rattle.fixpoint.specs.Rounds.{Settled, settle}
 use Rattle.fixpoint.specs.Flow.{Edge, flow, sameSets}
-use Rattle.sets.specs.Parts.{Part, terminal, occurs, sequence, choice, option, repeat, repeat1, looks}
+use Rattle.grammar.specs.Parts.{Part, terminal, occurs, sequence, choice, option, repeat, repeat1, affirms, denies}
 use Rattle.sets.specs.Beginning.{Beginning, nothing}
 
 -- what expression `to` gets whatever the sets are
@@ -36,7 +36,8 @@ module _ (bs : ℕ → Beginning) (root : ℕ → ℕ) where
   succeedGifts i (option e) = []
   succeedGifts i (repeat e) = gift e (bs e .set) ∷ []
   succeedGifts i (repeat1 e) = gift e (bs e .set) ∷ []
-  succeedGifts i (looks e) = []
+  succeedGifts i (affirms e) = []
+  succeedGifts i (denies e) = []
 
   -- "b gets the sequence's; a .. the sequence's if b has ε. Choice, `?`: parts get the whole's. `*`, `+`: .. the whole's. Under `&` and `!`: nothing"
   abbrev pub succeedEdges : ℕ → Part → List Edge
@@ -47,7 +48,8 @@ module _ (bs : ℕ → Beginning) (root : ℕ → ℕ) where
   succeedEdges i (option e) = edge i e ∷ []
   succeedEdges i (repeat e) = edge i e ∷ []
   succeedEdges i (repeat1 e) = edge i e ∷ []
-  succeedEdges i (looks e) = []
+  succeedEdges i (affirms e) = []
+  succeedEdges i (denies e) = []
 
   -- ALT, where succeed are the SUCCEED sets. "In a / b: .. a also gets B(b), and the choice's SUCCEED if b has ε. Under `? * +`: e gets .. the whole's SUCCEED"
   abbrev pub altGifts : (ℕ → List ℕ) → ℕ → Part → List Gift
@@ -58,7 +60,8 @@ module _ (bs : ℕ → Beginning) (root : ℕ → ℕ) where
   altGifts succeed i (option e) = gift e (succeed i) ∷ []
   altGifts succeed i (repeat e) = gift e (succeed i) ∷ []
   altGifts succeed i (repeat1 e) = gift e (succeed i) ∷ []
-  altGifts succeed i (looks e) = []
+  altGifts succeed i (affirms e) = []
+  altGifts succeed i (denies e) = []
 
   -- "In a b: a gets the sequence's; b gets it only if a has ε. In a / b: both get the choice's. Under `? * +`: e gets the whole's ALT. Under `&` and `!`: nothing"
   abbrev pub altEdges : ℕ → Part → List Edge
@@ -69,7 +72,8 @@ module _ (bs : ℕ → Beginning) (root : ℕ → ℕ) where
   altEdges i (option e) = edge i e ∷ []
   altEdges i (repeat e) = edge i e ∷ []
   altEdges i (repeat1 e) = edge i e ∷ []
-  altEdges i (looks e) = []
+  altEdges i (affirms e) = []
+  altEdges i (denies e) = []
 
 -- over all expressions, numbered from i on
 unfoldable pub over : {A : Type 0} → (ℕ → Part → List A) → ℕ → List Part → List A

@@ -44,11 +44,7 @@ pub fn empty() -> [u64; 2]
 pub fn word(a: &[u32], i: usize) -> usize
     ensures { λ r. ⌜ (r ≡ getD (now (a .entry)) i 0) × (r < 4294967296) ⌝ }
 {
-    if i < a.len() {
-        a[i] as usize
-    } else {
-        0
-    }
+    if i < a.len() { a[i] as usize } else { 0 }
 }
 
 // Stores v at i of lent words; past the end nothing.

@@ -3,13 +3,13 @@
 use Prim.Native.Nat.{ℕ, _+_, _-_}
 use mathlib.Core.List.{List, [], _∷_, _++_}
 use Rattle.tokens.specs.Token.{Leaf}
 use Rattle.grammar.specs.Exp.{Exp, sym, ter, seq, alt, opt, star, plus, ahead, never, size}
 
--- an expression with its parts by number. The three sets treat `&` and `!` alike
+-- an expression with its parts by number: a terminal, a symbol's use, a sequence, a choice, and under `?`, `*`, `+`, `&`, `!`
 pub data Part : Type 0 where
   terminal occurs : ℕ → Part
   sequence choice : ℕ → ℕ → Part
-  option repeat repeat1 looks : ℕ → Part
+  option repeat repeat1 affirms denies : ℕ → Part
 
 -- the number of an expression behind `before` others: its parts come first
 abbrev pub last : {S : Type 0} → ℕ → Exp S → ℕ
@@ -25,8 +25,8 @@ module _ (t : Leaf → ℕ) where
   partsOf o (opt a) = partsOf o a ++ (option (last o a) ∷ [])
   partsOf o (star a) = partsOf o a ++ (repeat (last o a) ∷ [])
   partsOf o (plus a) = partsOf o a ++ (repeat1 (last o a) ∷ [])
-  partsOf o (ahead a) = partsOf o a ++ (looks (last o a) ∷ [])
-  partsOf o (never a) = partsOf o a ++ (looks (last o a) ∷ [])
+  partsOf o (ahead a) = partsOf o a ++ (affirms (last o a) ∷ [])
+  partsOf o (never a) = partsOf o a ++ (denies (last o a) ∷ [])
 
   -- of all bodies
   unfoldable pub partsAll : ℕ → List (Exp ℕ) → List Part
