@@ -1,0 +1,98 @@
+-- Document 01's cases ("Cases (P = proved)") and the worked examples of the readings, in one table. Assumes nothing: these are definitions.
+use Prim.Native.Nat.{ℕ}
+use Prim.Native.String.{String}
+use mathlib.Core.Bool.{true, false}
+use mathlib.Core.List.{List, [], _∷_}
+use Rattle.tokens.specs.declared.Mode.the-variants.{Lake, Plain}
+use Rattle.gurkenmond.specs.Answers.{Says, refused, nomatch, value}
+use Rattle.cases.specs.Ask.{Asked, Said, Case, bytes, reads, rounds, skips, own, plain, alt, sets, matches, lakes, says, words, three, written, listed}
+
+abbrev pub is : Asked → Said → Case
+is a s = record { asked = a; said = s }
+
+-- G of source document 000
+abbrev G : String
+G = "block <- '{' stmt* '}'\nstmt <- expr_stmt / block\nexpr_stmt <- <elake>* ';'\n"
+
+-- read and written the same
+abbrev kept : String → Case
+kept t = is (own Lake t) (written (bytes t))
+
+unfoldable pub cases : List Case
+cases =
+    -- ALT of 15 is `;`, `block`, `}`: symbol 0, terminals 2 and 3; of 3 and 5 empty. Round count 7
+    is (alt Lake G 15) (words (1 ∷ 12 ∷ [])) ∷
+    is (alt Lake G 3) (words (0 ∷ 0 ∷ [])) ∷
+    is (alt Lake G 5) (words (0 ∷ 0 ∷ [])) ∷
+    is (rounds Lake G) (says (value 7)) ∷
+    -- the last plain rule
+    is (plain Lake G) (written (bytes "block <- '{' stmt* '}'\nstmt <- expr_stmt / block\nexpr_stmt <- lake__elake* ';'\nlake__elake <- !. / !(block / '}' / ';') .\n")) ∷
+    -- the nodes of `{a;}`
+    is (matches Lake G "{a;}" 20 16) (listed (value 4) 4 (0 ∷ 0 ∷ 4 ∷ 0 ∷ 1 ∷ 1 ∷ 3 ∷ 1 ∷ 2 ∷ 1 ∷ 3 ∷ 2 ∷ 3 ∷ 1 ∷ 2 ∷ 3 ∷ [])) ∷
+    -- `a <- 'x' <y>` on `x` and on `xz`
+    is (matches Lake "a <- 'x' <y>" "x" 4 8) (listed (value 1) 2 (0 ∷ 0 ∷ 1 ∷ 0 ∷ 1 ∷ 1 ∷ 1 ∷ 1 ∷ [])) ∷
+    is (matches Lake "a <- 'x' <y>" "xz" 6 8) (listed (value 2) 2 (0 ∷ 0 ∷ 2 ∷ 0 ∷ 1 ∷ 1 ∷ 2 ∷ 1 ∷ [])) ∷
+    -- guards add first calls
+    is (reads Lake "A <- <x>* 'y' / B\nB <- <x>* 'z'") (says (refused 8 1)) ∷
+    -- the lake that cannot skip, symbol 3
+    is (skips Lake "s <- e ';'\ne <- <t>* o\no <- '+'?") (says (value 8)) ∷
+    -- written unchanged, and without both pairs
+    kept "a <- 'b' / ('c' / 'd')\n" ∷
+    kept "a <- ('b'*)*\n" ∷
+    kept "a <- !(!'b')\n" ∷
+    is (own Lake "a <- (('b')) 'c'") (written (bytes "a <- 'b' 'c'\n")) ∷
+    is (reads Lake "") (says (refused 2 0)) ∷
+    -- room for one node too few, one cell too few, no match
+    is (matches Lake G "{a;}" 20 15) (listed (refused 12 3) 0 []) ∷
+    is (matches Lake G "{a;}" 19 16) (listed (refused 10 20) 0 []) ∷
+    is (matches Lake G "a" 8 16) (listed nomatch 0 []) ∷
+    -- table 1 of source document 000: symbols block, stmt, expr_stmt, <elake> are bits 0 to 3 of the first word, terminals `.`, `{`, `}`, `;` of the second
+    is (sets Lake G 1) (three (0 ∷ 2 ∷ []) (2 ∷ 4 ∷ []) (0 ∷ 4 ∷ []) false) ∷
+    is (sets Lake G 2) (three (2 ∷ 0 ∷ []) (2 ∷ 4 ∷ []) (0 ∷ 4 ∷ []) false) ∷
+    is (sets Lake G 3) (three (2 ∷ 0 ∷ []) (0 ∷ 4 ∷ []) (0 ∷ 0 ∷ []) true) ∷
+    is (sets Lake G 4) (three (0 ∷ 2 ∷ []) (0 ∷ 4 ∷ []) (0 ∷ 4 ∷ []) false) ∷
+    is (sets Lake G 5) (three (0 ∷ 4 ∷ []) (2 ∷ 4 ∷ []) (0 ∷ 0 ∷ []) false) ∷
+    is (sets Lake G 6) (three (0 ∷ 2 ∷ []) (2 ∷ 4 ∷ []) (0 ∷ 4 ∷ []) false) ∷
+    is (sets Lake G 7) (three (4 ∷ 0 ∷ []) (2 ∷ 4 ∷ []) (1 ∷ 4 ∷ []) false) ∷
+    is (sets Lake G 8) (three (1 ∷ 0 ∷ []) (2 ∷ 4 ∷ []) (0 ∷ 4 ∷ []) false) ∷
+    is (sets Lake G 9) (three (5 ∷ 0 ∷ []) (2 ∷ 4 ∷ []) (0 ∷ 4 ∷ []) false) ∷
+    is (sets Lake G 10) (three (8 ∷ 0 ∷ []) (8 ∷ 8 ∷ []) (1 ∷ 12 ∷ []) true) ∷
+    is (sets Lake G 11) (three (8 ∷ 0 ∷ []) (0 ∷ 8 ∷ []) (1 ∷ 4 ∷ []) true) ∷
+    is (sets Lake G 12) (three (0 ∷ 8 ∷ []) (2 ∷ 4 ∷ []) (1 ∷ 4 ∷ []) false) ∷
+    is (sets Lake G 13) (three (8 ∷ 8 ∷ []) (2 ∷ 4 ∷ []) (1 ∷ 4 ∷ []) false) ∷
+    is (sets Lake G 14) (three (0 ∷ 1 ∷ []) (0 ∷ 0 ∷ []) (0 ∷ 0 ∷ []) false) ∷
+    is (sets Lake G 15) (three (0 ∷ 0 ∷ []) (8 ∷ 8 ∷ []) (1 ∷ 12 ∷ []) true) ∷
+    -- traps: with `.` in water the lake swallows every byte; `<term>` of 3.4, without a star, has an empty ALT
+    is (matches Lake "a <- <x>* 'y' water <- ." "qy" 9 16) (listed nomatch 0 []) ∷
+    is (plain Lake "stmt <- expr ';' expr <- <term> opt opt <- '++'?") (written (bytes "stmt <- expr ';'\nexpr <- lake__term opt\nopt <- '++'?\nlake__term <- !. / .\n")) ∷
+    -- the readings' examples
+    is (reads Lake "a") (says (refused 2 1)) ∷
+    is (reads Lake "a <-  # end") (says (refused 2 11)) ∷
+    is (reads Lake "a b <- 'x'") (says (refused 2 2)) ∷
+    is (reads Lake "a <- b <- 'c'") (says (refused 2 7)) ∷
+    is (reads Lake "a <- ('x' b <- 'c')") (says (refused 2 12)) ∷
+    is (reads Lake "a <- 'x' b* <- 'c'") (says (refused 2 12)) ∷
+    is (reads Lake "a <- 'x' / b <- 'c'") (says (refused 2 13)) ∷
+    is (reads Lake "a <- 'x' b <-") (says (refused 2 13)) ∷
+    is (reads Lake "a <- 'x' < b>") (says (refused 2 9)) ∷
+    is (reads Lake "a <- ()") (says (refused 2 6)) ∷
+    is (reads Lake "a <- !!'x'") (says (refused 2 6)) ∷
+    is (reads Lake "a <- '\\8'") (says (refused 2 5)) ∷
+    is (reads Lake "a <- [^]") (says (refused 2 5)) ∷
+    is (own Plain "a <- [^]") (written (bytes "a <- [\\136]\n")) ∷
+    is (own Lake "a <- [+-]]") (written (bytes "a <- [+-\\]]\n")) ∷
+    is (own Lake "a <- '\\377'") (written (bytes "a <- '\\0377'\n")) ∷
+    is (reads Lake "a <- <lake__x> a <- 'y'") (says (refused 4 5)) ∷
+    is (reads Lake "a <- 'x' water") (says (refused 5 9)) ∷
+    is (reads Lake "a <- ('x'?)+ a") (says (refused 8 0)) ∷
+    is (reads Lake "a <- 'x' water <- <y>") (says (refused 8 2)) ∷
+    is (matches Lake "a <- <x>* 'y' water <- w w <- '#' ." "q#yy" 20 16) (listed (value 4) 4 (0 ∷ 0 ∷ 4 ∷ 0 ∷ 3 ∷ 0 ∷ 1 ∷ 1 ∷ 3 ∷ 1 ∷ 3 ∷ 1 ∷ 2 ∷ 1 ∷ 3 ∷ 2 ∷ [])) ∷
+    is (lakes Lake "a <- <x>* 'y' water <- w w <- '#' ." "q#yy" 3 0) (says (value 3)) ∷
+    is (lakes Lake "a <- <x>* 'y' water <- w w <- '#' ." "q#yy" 3 1) (says (value 2)) ∷
+    is (lakes Lake "a <- <x>* 'y' water <- w w <- '#' ." "q#yy" 3 2) (says (value 0)) ∷
+    is (matches Lake "a <- (b 'y' / b)* b <- 'x'?" "yx" 6 12) (listed (value 2) 3 (0 ∷ 0 ∷ 2 ∷ 0 ∷ 1 ∷ 0 ∷ 0 ∷ 1 ∷ 1 ∷ 1 ∷ 2 ∷ 1 ∷ [])) ∷
+    is (plain Lake "<l> <- '(' <l>* ')'") (written (bytes "lake__l <- '(' lake__l* ')' / !. / !')' .\n")) ∷
+    is (plain Lake "a <- (<x> / 'b'?) 'c'") (written (bytes "a <- (lake__x / 'b'?) 'c'\nlake__x <- !. / !('b' / 'c') .\n")) ∷
+    is (rounds Lake "a <- 'x' / 'y'") (says (value 1)) ∷
+    is (rounds Lake "a <- <x>* 'y'") (says (value 2)) ∷
+    []
