@@ -12,6 +12,7 @@ use Rattle.grammar.specs.Numbers.{leftSides, usesOf, onlyLakes, looseLakes, sym
 use Rattle.grammar.specs.Parts.{partsOf, partsAll, rootsOf}
 use Rattle.grammar.specs.Same.{sameBytes, sameMarks, sameSymbol, sameLeaf, isIn, indexOf, newIn}
 use Rattle.grammar.specs.Syntax.{tokens, choiceToks, seqToks, prefToks, sufToks, primToks}
+use Rattle.grammar.specs.Table.{upTo}
 use Rattle.grammar.specs.Trees.{trees, treeC, treeS, treeP, treeF, treeQ}
 use Rattle.reading.specs.Machine.{close, newRule, after, step, accepting, runs as reading-runs, offendsFrom, finish, over as reading-over, judge, placeOf}
 use Rattle.reading.specs.Reader.{closeBy, primBy, sufBy, prefBy, choiceBy, arrowBy, ruleBy, rulesR, rulesP, choiceP, choiceR, seqP, seqR, prefP, primP}
@@ -21,7 +22,7 @@ use Rattle.sets.specs.Analysis.{analysed, analysis, setsAt, blockedBy, cannotSk
 use Rattle.sets.specs.Beginning.{markRound, marksOf as sets-marksOf, beginningsFrom, beginnings}
 use Rattle.sets.specs.Flows.{over as sets-over, given, leastBy}
 use Rattle.sets.specs.Intermediate.{waterIn, bodiesBy, intermediate}
-use Rattle.plain.specs.Calls.{firstCalls, callsOf, calledBy, reach, loopFrom, loop, above, ranksOf, ofRank, orderFrom, order}
+use Rattle.plain.specs.Calls.{firstCalls, callsOf, calledBy, reach, loopFrom, loop, ranksOf, ofRank, orderFrom, order}
 use Rattle.plain.specs.Plain.{nonterminalsIn, terminalsIn, alternatives, plainFrom, plainBodies, sizes, rulesBy, plainRules}
 use Rattle.matching.specs.Cells.{bodyAt, rowOf, fillOf, cells}
 use Rattle.matching.specs.Eval.{stands, leafAt, cellAt, joinOf, seqOf, altOf, stepOf, rep, plusOf, optOf, aheadOf, neverOf, ev}
@@ -34,5 +35,5 @@ use Rattle.cases.specs.Ask.{Said, Case, bytes as text-bytes, answered}
 use Rattle.cases.specs.Table.{cases}
 
 pub cases-right : map (λ (c : Case). answered (c .asked)) cases ≡ map (λ (c : Case). c .said) cases
-unfolding cases answered text-bytes oneOf ranges kindAt textBound nameBound openBound expressionBound symbolBound terminalBound literalBound plainBound inputBound depthBound firstOctal rawFrom nodeWords octals letters four char single dashed listed body skip nameSpan less literalBy among table someTrue tokens-marksOf classBy bracket byKind tokenFrom tokenAt lexemesFrom lexemes toksOf toks emptyLeaf hasEmpty size rename symbolsIn leavesIn waterOf stepOne choiceOf skipOf stepTwo plainName leftSides usesOf onlyLakes looseLakes symbolsOf leavesOf terminalsOf expressionsOf numbered partsOf partsAll rootsOf sameBytes sameMarks sameSymbol sameLeaf isIn indexOf newIn tokens choiceToks seqToks prefToks sufToks primToks trees treeC treeS treeP treeF treeQ close newRule after step accepting reading-runs offendsFrom finish reading-over judge placeOf closeBy primBy sufBy prefBy choiceBy arrowBy ruleBy rulesR rulesP choiceP choiceR seqP seqR prefP primP begins reserved second leftsIn unruled tooMany rulesIn refusesText rulesOf settle analysed analysis setsAt blockedBy cannotSkipBelow cannotSkip markRound sets-marksOf beginningsFrom beginnings sets-over given leastBy waterIn bodiesBy intermediate firstCalls callsOf calledBy reach loopFrom loop above ranksOf ofRank orderFrom order nonterminalsIn terminalsIn alternatives plainFrom plainBodies sizes rulesBy plainRules bodyAt rowOf fillOf cells stands leafAt cellAt joinOf seqOf altOf stepOf rep plusOf optOf aheadOf neverOf ev seqN altN optN stepN repN walkOf nodeIf nodesOf levels listOf listingOf putNode written wordsOf roomOf nodeAt nodesAt soundAt nodeText byteText litChar classChar litChars writing-runs runText runsText leafText symbolText exprText ruleText text verdictSays outcomeSays waySays writtenSays verdictOf readOf setsOf cannotSkipOf matchOf noneMatches wayBy lakeOf writeOwnOf writePlainOf preparedBy prepared refuses
+unfolding cases answered text-bytes oneOf ranges kindAt textBound nameBound openBound expressionBound symbolBound terminalBound literalBound plainBound inputBound depthBound firstOctal rawFrom nodeWords octals letters four char single dashed listed body skip nameSpan less literalBy among table someTrue tokens-marksOf classBy bracket byKind tokenFrom tokenAt lexemesFrom lexemes toksOf toks emptyLeaf hasEmpty size rename symbolsIn leavesIn waterOf stepOne choiceOf skipOf stepTwo plainName leftSides usesOf onlyLakes looseLakes symbolsOf leavesOf terminalsOf expressionsOf numbered partsOf partsAll rootsOf sameBytes sameMarks sameSymbol sameLeaf isIn indexOf newIn tokens choiceToks seqToks prefToks sufToks primToks upTo trees treeC treeS treeP treeF treeQ close newRule after step accepting reading-runs offendsFrom finish reading-over judge placeOf closeBy primBy sufBy prefBy choiceBy arrowBy ruleBy rulesR rulesP choiceP choiceR seqP seqR prefP primP begins reserved second leftsIn unruled tooMany rulesIn refusesText rulesOf settle analysed analysis setsAt blockedBy cannotSkipBelow cannotSkip markRound sets-marksOf beginningsFrom beginnings sets-over given leastBy waterIn bodiesBy intermediate firstCalls callsOf calledBy reach loopFrom loop ranksOf ofRank orderFrom order nonterminalsIn terminalsIn alternatives plainFrom plainBodies sizes rulesBy plainRules bodyAt rowOf fillOf cells stands leafAt cellAt joinOf seqOf altOf stepOf rep plusOf optOf aheadOf neverOf ev seqN altN optN stepN repN walkOf nodeIf nodesOf levels listOf listingOf putNode written wordsOf roomOf nodeAt nodesAt soundAt nodeText byteText litChar classChar litChars writing-runs runText runsText leafText symbolText exprText ruleText text verdictSays outcomeSays waySays writtenSays verdictOf readOf setsOf cannotSkipOf matchOf noneMatches wayBy lakeOf writeOwnOf writePlainOf preparedBy prepared refuses
 cases-right = refl

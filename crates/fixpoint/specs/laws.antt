@@ -8,3 +8,4 @@ pub mod Fill
 pub mod Told
 pub mod Run
 pub mod Settle
+pub mod Stable

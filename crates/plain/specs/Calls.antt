@@ -1,15 +1,16 @@
 -- First calls, loops and ranks (01, Lakes made plain: "X first-calls each symbol in its plain body before which nothing need be consumed").
 -- A set of symbols is one word, bit = number. Assumes nothing: these are definitions.
-use Prim.Native.Nat.{ℕ, zero, suc, _+_, _^_, max}
+use Prim.Native.Nat.{ℕ, zero, suc, _^_}
 use mathlib.Core.Bool.{Bool, true, false, cond, not, _&&_}
 use mathlib.Core.List.{List, [], _∷_, _++_, map}
 use mathlib.Core.Option.{Option, none, some}
-use lib.ListN.{length, getD, replicate}
+use lib.ListN.{length, getD}
 use lib.Dec.{eqb}
 use lib.Bits.{bitOr}
 use Rattle.grammar.specs.Exp.{Exp, sym, ter, seq, alt, opt, star, plus, ahead, never}
 use Rattle.grammar.specs.Refusal.{Refusal, refuseAt}
-use Rattle.words.specs.Set.{bit}
+use Rattle.grammar.specs.Table.{upTo}
+use Rattle.words.specs.Set.{bit, ones}
 use Rattle.fixpoint.specs.Rounds.{iter}
 use Rattle.grammar.specs.Empty.{hasEmpty}
 use Rattle.sets.specs.Beginning.{marked, marksOf}
@@ -50,14 +51,9 @@ loopFrom calls (suc n) r = elim (holds (reach calls r) r) [ true ↦ some r | fa
 unfoldable pub loop : List (Exp ℕ) → Option ℕ
 loop bodies = let calls : List ℕ = callsOf bodies in loopFrom calls (length calls) 0
 
--- one more than the greatest rank of the symbols of w, those below n; 0 of none
-unfoldable pub above : List ℕ → ℕ → ℕ → ℕ
-above ranks w zero = 0
-above ranks w (suc n) = max (above ranks w n) (cond (holds w n) (suc (getD ranks n 0)) 0)
-
--- ranks that fall along every first call, where there is no loop: the length of the longest chain of first calls
+-- ranks that fall along every first call, where there is no loop: how many symbols a symbol reaches
 unfoldable pub ranksOf : List ℕ → List ℕ
-ranksOf calls = iter (λ ranks. map (λ w. above ranks w (length calls)) calls) (replicate (length calls) 0) (length calls)
+ranksOf calls = upTo (λ r. ones (length calls) (reach calls r)) (length calls)
 
 -- the symbols of rank k, those of the list, numbered from r on
 unfoldable pub ofRank : ℕ → ℕ → List ℕ → List ℕ

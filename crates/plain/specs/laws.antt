@@ -1,2 +1,4 @@
 -- Laws of the definitions beside this file.
 pub mod Traps
+pub mod Ranks
+pub mod Loops

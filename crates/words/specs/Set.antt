@@ -2,7 +2,7 @@
 -- bit = number; as one number k below 128, symbol r is r and terminal t is 64 + t. Assumes nothing: these are definitions.
 use mathlib.Core.List.{List, [], _∷_}
 use mathlib.Core.Bool.{Bool}
-use Prim.Native.Nat.{ℕ, _/_, _%_, _^_}
+use Prim.Native.Nat.{ℕ, zero, suc, _+_, _/_, _%_, _^_}
 use lib.ListN.{getD, set}
 use lib.Dec.{eqb}
 use lib.Bits.{bitOr}
@@ -29,3 +29,8 @@ symbolSet r = 2 ^ r ∷ 0 ∷ []
 
 abbrev pub terminalSet : ℕ → List ℕ
 terminalSet t = 0 ∷ 2 ^ t ∷ []
+
+-- how many of the w low bits of a word are set
+abbrev pub ones : ℕ → ℕ → ℕ
+ones zero x = 0
+ones (suc w) x = x % 2 + ones w (x / 2)

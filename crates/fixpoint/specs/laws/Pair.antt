@@ -8,9 +8,9 @@ use lib.ListN.{length, getD}
 use lib.Seq.{ext-getD}
 use lib.Bits.{or-lt}
 use lib.Pow.{pow-pos}
-use Rattle.words.specs.Set.{bit, unionOf, empty}
+use Rattle.words.specs.Set.{bit, unionOf, empty, ones}
 use Rattle.words.specs.laws.Members.{two-words}
-use Rattle.words.specs.laws.Order.{Sub, ones, ones-le, ones-mono, ones-strict, sub-or-l, sub-or-r, or-sub, bit-none}
+use Rattle.words.specs.laws.Order.{Sub, ones-le, ones-mono, ones-strict, sub-or-l, sub-or-r, or-sub, bit-none}
 use Rattle.fixpoint.specs.laws.Fix.{Lattice}
 use Rattle.fixpoint.specs.laws.Cells.{Joins}
 

@@ -7,7 +7,7 @@ use native.Mathlib.Omega.{arith}
 use lib.Arith.{bin-ind, lt-one}
 use lib.Bits.{bitOr}
 use lib.Pow.{shr-shr, shr-lt}
-use Rattle.words.specs.Set.{bit}
+use Rattle.words.specs.Set.{bit, ones}
 use Rattle.words.specs.laws.Members.{bit-or, bit-lt}
 
 half-lt : (w x : ℕ) → x < 2 ^ suc w → x / 2 < 2 ^ w
@@ -33,11 +33,6 @@ same-bits (suc w) x y p q h =
     let e : x / 2 ≡ y / 2 = same-bits w (x / 2) (y / 2) (half-lt w x p) (half-lt w y q) (λ k. sym (bit-suc x k) ∙ h (suc k) ∙ bit-suc y k) in
     let f : x / 2 ^ 0 % 2 ≡ y / 2 ^ 0 % 2 = h 0 in
     omega arith
-
--- how many of the w low bits are set
-abbrev pub ones : ℕ → ℕ → ℕ
-ones zero x = 0
-ones (suc w) x = x % 2 + ones w (x / 2)
 
 pub ones-le : (w x : ℕ) → ones w x ≤ w
 ones-le zero x = omega arith
