@@ -4,3 +4,6 @@ pub mod Bytes
 pub mod Tests
 pub mod Forward
 pub mod Marks
+pub mod Widths
+pub mod Passing
+pub mod Turning
