@@ -1,4 +1,4 @@
--- Computed tests, bytes, where a token lies, and the fuel of the token list. Assumes nothing.
+-- Computed tests, bytes, where a token lies, the fuel of the token list, marks by place, and what a token holds, read again. Assumes nothing.
 pub mod All
 pub mod Bytes
 pub mod Tests
@@ -7,3 +7,4 @@ pub mod Marks
 pub mod Widths
 pub mod Passing
 pub mod Turning
+pub mod Again
