@@ -3,3 +3,4 @@ pub mod Bounds
 pub mod Chars
 pub mod Tokens
 pub mod laws
+pub mod Code

@@ -19,7 +19,7 @@ use Rattle.tokens.specs.Tokens.{tok, blankBy, skip, nameByte, nameSpan, 
 use Rattle.tokens.specs.laws.Tests.{by-test, by-cond}
 
 -- ── where a literal's or a class's body ends ──
-abbrev Ended : Body → ℕ → ℕ → Type 0
+abbrev pub Ended : Body → ℕ → ℕ → Type 0
 Ended (shut rs e) at n = (at < e) × (e ≤ n)
 Ended broken at n = Unit {0}
 
@@ -39,7 +39,7 @@ weaker : (o : Body) (a b n : ℕ) → b ≤ a → Ended o a n → Ended o b n
 weaker (shut rs e) a b n l h = (omega (arith, h .0), h .1)
 weaker broken a b n l h = tt
 
-body-ended : (close : ℕ) (step : List ℕ → Item) (k at : ℕ) (l : List ℕ) (n : ℕ) → at + length l ≤ n → Ended (body close step k at l) at n
+pub body-ended : (close : ℕ) (step : List ℕ → Item) (k at : ℕ) (l : List ℕ) (n : ℕ) → at + length l ≤ n → Ended (body close step k at l) at n
 unfolding body
 body-ended close step zero at [] n h = tt
 body-ended close step (suc k) at [] n h = tt

@@ -1,0 +1,4 @@
+pub mod CharSteps
+pub mod LiteralSteps
+pub mod ClassSteps
+pub mod TokenSteps
