@@ -9,3 +9,4 @@ pub mod Parts
 pub mod Refusal
 pub mod Table
 pub mod Holds
+pub mod laws

@@ -1,3 +1,4 @@
 pub mod Prepare
 pub mod Answers
 pub mod Calls
+pub mod laws

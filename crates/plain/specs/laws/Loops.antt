@@ -85,7 +85,7 @@ pub record Smallest (calls : List ℕ) (k r x : ℕ) : Type 0 where
   pub loops : holds (reach calls x) x ≡ true
   pub before : (y : ℕ) → r ≤ y → y < x → holds (reach calls y) y ≡ true → ⊥
 
-abbrev Found : List ℕ → ℕ → ℕ → Option ℕ → Type 0
+abbrev pub Found : List ℕ → ℕ → ℕ → Option ℕ → Type 0
 Found calls k r none = (y : ℕ) → r ≤ y → y < r + k → holds (reach calls y) y ≡ true → ⊥
 Found calls k r (some x) = Smallest calls k r x
 
