@@ -70,6 +70,7 @@ module _ (m : Mode) (s : List ℕ) (at : ℕ) (t : Token) (e : t ≡ coded (toke
     pub more : lexemesAt m s at ≡ lexeme tok (t .start) ∷ lexemesAt m s (t .next)
     pub forth : at < t .next
     pub within : t .next ≤ length s
+    pub before-end : t .start < length s
 
   pub here : (t .kind ≡ 0 → ⊥) → Here
   here f =
@@ -83,6 +84,7 @@ module _ (m : Mode) (s : List ℕ) (at : ℕ) (t : Token) (e : t ≡ coded (toke
             ∙ ap (λ (i : ℕ). lexeme (x .0) (t .start) ∷ lexemesAt m s i) (sym next-of);
         forth = omega (arith, a .behind, a .long, next-of);
         within = omega (arith, a .within, next-of);
+        before-end = omega (arith, a .long, a .within, start-of);
       }
 
   module _ (c d : ℕ) where
