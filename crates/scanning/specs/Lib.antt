@@ -1,4 +1,5 @@
 pub mod Numbers
 pub mod Found
 pub mod Names
+pub mod Scanned
 pub mod laws

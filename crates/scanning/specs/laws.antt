@@ -5,3 +5,4 @@ pub mod Walks
 pub mod Names
 pub mod Hits
 pub mod Offences
+pub mod Chain

@@ -240,7 +240,7 @@ fn over(mode: Mode, d: usize, kind: u8, size: usize) -> bool
     false
 }
 
-fn refuse(number: usize, place: usize) -> Found
+pub fn refuse(number: usize, place: usize) -> Found
     ensures { λ r. ⌜ r ≡ found (some (refusal number place)) ⌝ }
 {
     Found { number, place }
