@@ -1,0 +1,102 @@
+// Evaluation of a table's expressions over work cells, and the filling of the cells (01, Meaning of a match).
+ghost use mathlib.Core.Path.{_≡_};
+ghost use mathlib.Core.Bool.{Bool};
+ghost use Prim.Native.Nat.{ℕ, _+_, _*_, _-_, _<_, _≤_};
+ghost use lib.ListN.{getD, length};
+ghost use Rattle.tokens.specs.Token.{any, literal, class};
+ghost use Rattle.grammar.specs.Table.{wordsFrom, marksFrom, leafIn};
+ghost use Rattle.matching.specs.Eval.{leafAt, cellAt, ev, rep};
+ghost use Rattle.filling.specs.Trees.{treeOf, below};
+use grammar::Table;
+
+// What any byte takes.
+fn any_at(s: &[u8], p: usize) -> usize
+    ensures { λ r. ⌜ r ≡ leafAt (now (s .entry)) any p ⌝ }
+{
+    if p < s.len() {
+        return 2;
+    }
+    0
+}
+
+// What a literal of n bytes takes, which stand in the table from i on: one pass.
+fn literal_at(t: &[u32], s: &[u8], i: usize, n: usize, p: usize) -> usize
+    requires { ⌜ (i < 4294967296000) × (n < 4294967296) × (length (now s) ≤ 65535) × (p ≤ length (now s)) ⌝ }
+    ensures { λ r. ⌜ r ≡ leafAt (now (s .entry)) (literal (wordsFrom (now (t .entry)) i n)) p ⌝ }
+{
+    let mut j = i;
+    let mut q = p;
+    let mut k = n;
+    while 0 < k {
+        if s.len() <= q {
+            return 0;
+        }
+        let b = s[q] as usize;
+        let c = words::word(t, j);
+        if b != c {
+            return 0;
+        }
+        j += 1;
+        q += 1;
+        k -= 1;
+    }
+    n + 1
+}
+
+// What a class takes, whose marks stand in the table from i on: one lookup.
+fn class_at(t: &[u32], s: &[u8], i: usize, p: usize) -> usize
+    requires { ⌜ i < 4294967296000 ⌝ }
+    ensures { λ r. ⌜ r ≡ leafAt (now (s .entry)) (class (marksFrom (now (t .entry)) i 256)) p ⌝ }
+{
+    if s.len() <= p {
+        return 0;
+    }
+    let b = s[p] as usize;
+    let m = words::word(t, i + b);
+    if m == 0 {
+        return 0;
+    }
+    2
+}
+
+// What terminal x takes.
+pub fn leaf_at(t: &[u32], s: &[u8], x: usize, p: usize) -> usize
+    requires { ⌜ (x < 4294967296) × (length (now s) ≤ 65535) × (p ≤ length (now s)) ⌝ }
+    ensures { λ r. ⌜ r ≡ leafAt (now (s .entry)) (leafIn (now (t .entry)) x) p ⌝ }
+{
+    let i = 2696 + 258 * x;
+    let k = words::word(t, i);
+    if k == 0 {
+        return any_at(s, p);
+    }
+    if k == 1 {
+        let n = words::word(t, i + 1);
+        return literal_at(t, s, i + 2, n, p);
+    }
+    class_at(t, s, i + 2, p)
+}
+
+// What the cells say of symbol r of n.
+pub fn cell_at(s: &[u8], cells: &[u32], n: usize, r: usize, p: usize) -> usize
+    requires { ⌜ (n ≤ 64) × (length (now s) ≤ 65535) × (p ≤ length (now s)) ⌝ }
+    ensures { λ v. ⌜ v ≡ cellAt (now (s .entry)) (now (cells .entry)) n r p ⌝ }
+{
+    if r < n {
+        let v = words::word(cells, p * n + r);
+        if v <= s.len() - p + 1 {
+            return v;
+        }
+        return 0;
+    }
+    0
+}
+
+fn part(i: usize, e: usize) -> usize
+    requires { ⌜ i < 4294967296 ⌝ }
+    ensures { λ r. ⌜ r ≡ below i e ⌝ }
+{
+    if i < e {
+        return i + 1;
+    }
+    0
+}
