@@ -100,3 +100,91 @@ fn part(i: usize, e: usize) -> usize
     }
     0
 }
+
+// What expression x - 1 takes at p, and `.` for 0: 0 for failure, else 1 + the bytes taken. Symbols are looked up, so that it goes down one body only.
+pub fn eval(t: &[u32], s: &[u8], cells: &[u32], n: usize, x: usize, p: usize) -> usize
+    requires { ⌜ (n ≤ 64) × (x ≤ 4294967296) × (length (now s) ≤ 65535) × (p ≤ length (now s)) ⌝ }
+    ensures { λ r. ⌜ r ≡ ev (now (s .entry)) (now (cells .entry)) n (treeOf (now (t .entry)) x) p ⌝ }
+{
+    if x == 0 {
+        return any_at(s, p);
+    }
+    let e = x - 1;
+    let i = 19208 + 3 * e;
+    let l = words::word(t, i + 1);
+    let y = part(l, e);
+    let op = words::word(t, i);
+    match op {
+        0 => leaf_at(t, s, l, p),
+        1 => cell_at(s, cells, n, l, p),
+        2 => {
+            let a = eval(t, s, cells, n, y, p);
+            if a == 0 {
+                return 0;
+            }
+            let r = words::word(t, i + 2);
+            let z = part(r, e);
+            let b = eval(t, s, cells, n, z, p + (a - 1));
+            if b == 0 {
+                return 0;
+            }
+            a + b - 1
+        }
+        3 => {
+            let a = eval(t, s, cells, n, y, p);
+            if a != 0 {
+                return a;
+            }
+            let r = words::word(t, i + 2);
+            let z = part(r, e);
+            eval(t, s, cells, n, z, p)
+        }
+        4 => {
+            let a = eval(t, s, cells, n, y, p);
+            if a == 0 {
+                return 1;
+            }
+            a
+        }
+        5 => many(t, s, cells, n, y, p) + 1,
+        6 => {
+            let a = eval(t, s, cells, n, y, p);
+            if a == 0 {
+                return 0;
+            }
+            a + many(t, s, cells, n, y, p + (a - 1))
+        }
+        7 => {
+            let a = eval(t, s, cells, n, y, p);
+            if a == 0 {
+                return 0;
+            }
+            1
+        }
+        _ => {
+            let a = eval(t, s, cells, n, y, p);
+            if a == 0 {
+                return 1;
+            }
+            0
+        }
+    }
+}
+
+// The bytes that rounds of expression x - 1 take from p on: up to the first that fails or takes nothing.
+pub fn many(t: &[u32], s: &[u8], cells: &[u32], n: usize, x: usize, p: usize) -> usize
+    requires { ⌜ (n ≤ 64) × (x ≤ 4294967296) × (length (now s) ≤ 65535) × (p ≤ length (now s)) ⌝ }
+    ensures { λ r. ⌜ r ≡ rep (length (now (s .entry))) (λ (q : ℕ). ev (now (s .entry)) (now (cells .entry)) n (treeOf (now (t .entry)) x) q) p ⌝ }
+{
+    let mut k = s.len();
+    let mut q = p;
+    while 0 < k {
+        let a = eval(t, s, cells, n, x, q);
+        if a <= 1 {
+            return q - p;
+        }
+        q += a - 1;
+        k -= 1;
+    }
+    q - p
+}

@@ -8,8 +8,9 @@ use lib.Dec.{ltb}
 use lib.ListN.{getD}
 use borrow.Author.Tests.{ltb-true, lt-ltb, le-ltb}
 use Rattle.tokens.specs.Token.{Leaf, any}
-use Rattle.grammar.specs.Exp.{Exp, ter}
+use Rattle.grammar.specs.Exp.{Exp, ter, never}
 use Rattle.grammar.specs.Table.{opOf, leftOf, rightOf, leafIn, nodeBy, treeIn, treeAt}
+use Rattle.matching.specs.Eval.{ev}
 use Rattle.filling.specs.Trees.{treeOf, below}
 
 module _ (t : List ℕ) where
@@ -59,3 +60,24 @@ below-le i e = go (ltb i e) refl
     go : (b : Bool) → ltb i e ≡ b → cond b (suc i) 0 ≤ e
     go true h = ltb-true i e h
     go false h = omega arith
+
+-- what an expression takes is what the node of its words takes
+pub node-ev : (s cs t : List ℕ) (n x p k l : ℕ) → (x ≡ 0 → ⊥) → k ≡ getD t (19208 + 3 * (x - 1)) 0 → l ≡ getD t (19208 + 3 * (x - 1) + 1) 0
+    → ev s cs n (nodeBy k l (getD t (19208 + 3 * (x - 1) + 2) 0) (leafIn t) (λ i. treeOf t (below i (x - 1)))) p ≡ ev s cs n (treeOf t x) p
+node-ev s cs t n x p k l f u v =
+    let z : 19208 + 3 * (x - 1) ≡ 19208 + 3 * (x - 1) + 0 = omega arith in
+    ap (λ (y : Exp ℕ). ev s cs n y p) (node-at t x k l (getD t (19208 + 3 * (x - 1) + 2) 0) f (u ∙ ap (λ (j : ℕ). getD t j 0) z) v refl)
+
+-- every kind from 8 on is `!`
+pub node-never : (k l r : ℕ) (leaf : ℕ → Leaf) (part : ℕ → Exp ℕ) → (k ≡ 0 → ⊥) → (k ≡ 1 → ⊥) → (k ≡ 2 → ⊥) → (k ≡ 3 → ⊥) → (k ≡ 4 → ⊥) → (k ≡ 5 → ⊥) → (k ≡ 6 → ⊥) → (k ≡ 7 → ⊥)
+    → never (part l) ≡ nodeBy k l r leaf part
+unfolding nodeBy
+node-never zero l r leaf part a b c d e f g h = absurd (a refl)
+node-never (suc zero) l r leaf part a b c d e f g h = absurd (b refl)
+node-never (suc (suc zero)) l r leaf part a b c d e f g h = absurd (c refl)
+node-never (suc (suc (suc zero))) l r leaf part a b c d e f g h = absurd (d refl)
+node-never (suc (suc (suc (suc zero)))) l r leaf part a b c d e f g h = absurd (e refl)
+node-never (suc (suc (suc (suc (suc zero))))) l r leaf part a b c d e f g h = absurd (f refl)
+node-never (suc (suc (suc (suc (suc (suc zero)))))) l r leaf part a b c d e f g h = absurd (g refl)
+node-never (suc (suc (suc (suc (suc (suc (suc zero))))))) l r leaf part a b c d e f g h = absurd (h refl)
+node-never (suc (suc (suc (suc (suc (suc (suc (suc k)))))))) l r leaf part a b c d e f g h = refl
