@@ -5,7 +5,7 @@ use mathlib.Core.List.{List}
 use lib.Dec.{ltb}
 use Rattle.tokens.specs.Token.{any}
 use Rattle.grammar.specs.Exp.{Exp, ter}
-use Rattle.grammar.specs.Table.{treeAt}
+use Rattle.grammar.specs.Table.{treeAt, symbolWord, symbolCount, upTo}
 
 abbrev pub treeOf : List ℕ → ℕ → Exp ℕ
 treeOf t zero = ter any
@@ -14,3 +14,7 @@ treeOf t (suc e) = treeAt t e
 -- a part of expression e; one that does not come before it stands for `.`
 abbrev pub below : ℕ → ℕ → ℕ
 below i e = cond (ltb i e) (suc i) 0
+
+-- the bodies of a table's symbols, by number
+unfoldable pub bodiesOf : List ℕ → List (Exp ℕ)
+bodiesOf t = upTo (λ r. treeOf t (symbolWord t r 1)) (symbolCount t)
