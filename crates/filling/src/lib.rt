@@ -90,7 +90,7 @@ pub fn cell_at(s: &[u8], cells: &[u32], n: usize, r: usize, p: usize) -> usize
     0
 }
 
-fn part(i: usize, e: usize) -> usize
+pub fn part(i: usize, e: usize) -> usize
     requires { ⌜ i < 4294967296 ⌝ }
     ensures { λ r. ⌜ r ≡ below i e ⌝ }
 {

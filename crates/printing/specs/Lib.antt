@@ -1,3 +1,4 @@
 pub mod Pen
 pub mod Printed
+pub mod Turned
 pub mod laws

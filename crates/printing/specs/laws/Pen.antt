@@ -100,3 +100,6 @@ along-on h l p = record {
 
 pub along-end : {w : Bool} {whole old mid : List ℕ} {at r : ℕ} → Along w whole [] old at mid r → Penned w whole old at mid r
 along-end {w} {mid = mid} {r = r} l = l .ends mid r (penned-none w mid r (l .small))
+
+pub along-is : {w : Bool} {whole a b old mid : List ℕ} {at r : ℕ} → a ≡ b → Along w whole a old at mid r → Along w whole b old at mid r
+along-is {w} {whole} {a} {b} {old} {mid} {at} {r} e l = subst (λ (x : List ℕ). Along w whole x old at mid r) e l
