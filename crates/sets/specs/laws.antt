@@ -1,0 +1,4 @@
+-- Laws of the definitions beside this file.
+pub mod Lists
+pub mod Begins
+pub mod Fills
