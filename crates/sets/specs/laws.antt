@@ -2,3 +2,4 @@
 pub mod Lists
 pub mod Begins
 pub mod Fills
+pub mod Edges

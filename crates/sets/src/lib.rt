@@ -2,11 +2,14 @@ ghost use mathlib.Core.Path.{_≡_};
 ghost use mathlib.Core.Bool.{Bool, true, false};
 ghost use mathlib.Core.List.{List, [], _∷_};
 ghost use Prim.Native.Nat.{ℕ, _+_, _-_, _*_, _^_, _<_, _≤_};
-ghost use lib.ListN.{length, getD, set, replicate};
+ghost use lib.ListN.{length, getD, set, replicate, take};
 ghost use Rattle.words.specs.Set.{empty, unionOf};
 ghost use Rattle.grammar.specs.Table.{partBy, partIn, upTo, symbolWord};
 ghost use Rattle.sets.specs.Beginning.{nothing, marked, beginBy};
-ghost use Rattle.sets.specs.Steps.{pairAt, rootIn, Small, Tame, Begun, BegunAll, MarkedOnce, MarkedAll};
+ghost use Rattle.sets.specs.Steps.{pairAt, rootIn, Small, Tame, Begun, BegunAll, MarkedOnce, MarkedAll, kept, edgesBy, Grown, handed, succeedGiven, altGiven, Fine, Gave, Flowed, RoundsAsk};
+ghost use Rattle.sets.specs.Flows.{edge as edgeTo, gift as giftTo, succeedGifts, altGifts, given, when};
+ghost use Rattle.fixpoint.specs.laws.Sys.{none, edges, Solved};
+ghost use Rattle.fixpoint.specs.laws.Pair.{Set2};
 
 // The three sets of an expression, which travel together with its ε mark (01, Lakes made plain).
 pub struct Sets {
@@ -25,7 +28,7 @@ pub struct Record {
 
 fn node(t: &grammar::Table, e: usize) -> Record
     requires { ⌜ e < 1024 ⌝ }
-    ensures { λ r. ⌜ partBy (r .op) (r .left) (r .right) ≡ partIn (now (t .entry)) e ⌝ }
+    ensures { λ r. ⌜ (partBy (r .op) (r .left) (r .right) ≡ partIn (now (t .entry)) e) × (r .left < 4294967296) ⌝ }
 {
     let at = grammar::EXPRESSIONS + grammar::EXPRESSION * e;
     let op = words::word(t, at);
@@ -210,4 +213,321 @@ fn mark_all(t: &grammar::Table, marks: &mut [bool], sets: &mut [[u64; 2]], eps: 
         mark_round(t, marks, sets, eps);
         k += 1;
     }
+}
+
+fn store(a: &mut [usize], i: usize, v: usize)
+    requires { ⌜ i < length (now a) ⌝ }
+    ensures { λ r. ⌜ now (a .exit) ≡ set (now (a .entry)) i v ⌝ }
+{
+    a[i] = v;
+}
+
+// The edge from one expression to another, behind the first m; none where there is no such expression.
+fn add(
+    src: &mut [usize; 2048],
+    dst: &mut [usize; 2048],
+    m: usize,
+    from: usize,
+    to: usize,
+    n: usize,
+) -> usize
+    requires { ⌜ m < 2048 ⌝ }
+    ensures { λ r. ⌜ Grown (now (src .entry)) (now (dst .entry)) m (kept n (edgeTo from to ∷ [])) (now (src .exit)) (now (dst .exit)) r ⌝ }
+{
+    if to < n {
+        store(src, m, from);
+        store(dst, m, to);
+        return m + 1;
+    }
+    m
+}
+
+// Two edges.
+fn add_two(
+    src: &mut [usize; 2048],
+    dst: &mut [usize; 2048],
+    m: usize,
+    from: usize,
+    x: usize,
+    y: usize,
+    n: usize,
+) -> usize
+    requires { ⌜ m ≤ 2046 ⌝ }
+    ensures { λ r. ⌜ Grown (now (src .entry)) (now (dst .entry)) m (kept n (edgeTo from x ∷ edgeTo from y ∷ [])) (now (src .exit)) (now (dst .exit)) r ⌝ }
+{
+    let q = add(src, dst, m, from, x, n);
+    add(src, dst, q, from, y, n)
+}
+
+// What a sequence hands on: x gets it, and y only if x has ε (01: SUCCEED from the right, ALT from the left).
+fn hand_on(
+    eps: &[bool],
+    src: &mut [usize; 2048],
+    dst: &mut [usize; 2048],
+    m: usize,
+    from: usize,
+    x: usize,
+    y: usize,
+    n: usize,
+) -> usize
+    requires { ⌜ m ≤ 2046 ⌝ }
+    ensures { λ r. ⌜ Grown (now (src .entry)) (now (dst .entry)) m (kept n (edgeTo from x ∷ when (getD (now (eps .entry)) x false) (edgeTo from y))) (now (src .exit)) (now (dst .exit)) r ⌝ }
+{
+    if flag_at(eps, x) {
+        return add_two(src, dst, m, from, x, y, n);
+    }
+    add(src, dst, m, from, x, n)
+}
+
+// The edges of expression e: of SUCCEED where `back`, else of ALT.
+fn hand(
+    t: &grammar::Table,
+    eps: &[bool],
+    back: bool,
+    src: &mut [usize; 2048],
+    dst: &mut [usize; 2048],
+    m: usize,
+    e: usize,
+    n: usize,
+) -> usize
+    requires { ⌜ (m ≤ 2046) × (e < 1024) ⌝ }
+    ensures { λ r. ⌜ Grown (now (src .entry)) (now (dst .entry)) m (kept n (edgesBy back (pairAt [] (now (eps .entry))) (rootIn (now (t .entry))) e (partIn (now (t .entry)) e))) (now (src .exit)) (now (dst .exit)) r ⌝ }
+{
+    let k = node(t, e);
+    let op = k.op;
+    let l = k.left;
+    let r = k.right;
+    match op {
+        0 => {
+            return m;
+        }
+        1 => {
+            let i = root(t, l);
+            return add(src, dst, m, e, i, n);
+        }
+        2 => {
+            if back {
+                return hand_on(eps, src, dst, m, e, r, l, n);
+            }
+            return hand_on(eps, src, dst, m, e, l, r, n);
+        }
+        3 => {
+            return add_two(src, dst, m, e, l, r, n);
+        }
+        4 => {
+            return add(src, dst, m, e, l, n);
+        }
+        5 => {
+            return add(src, dst, m, e, l, n);
+        }
+        6 => {
+            return add(src, dst, m, e, l, n);
+        }
+        _ => {
+            return m;
+        }
+    }
+}
+
+// All edges, and how many: at most two an expression.
+fn hand_all(
+    t: &grammar::Table,
+    eps: &[bool],
+    back: bool,
+    src: &mut [usize; 2048],
+    dst: &mut [usize; 2048],
+    n: usize,
+) -> usize
+    requires { ⌜ n ≤ 1024 ⌝ }
+    ensures { λ r. ⌜ (r ≤ 2048) × (edges (now (src .exit)) (now (dst .exit)) r ≡ handed (now (t .entry)) (now (eps .entry)) back n n) ⌝ }
+{
+    let mut m: usize = 0;
+    let mut e: usize = 0;
+    while e < n {
+        m = hand(t, eps, back, src, dst, m, e, n);
+        e += 1;
+    }
+    m
+}
+
+fn fits(x: u64) -> u64
+    ensures { λ r. ⌜ (r ≡ x) × (r < 2 ^ 64) ⌝ }
+{
+    x
+}
+
+// The same set, of which it is known that its words are words.
+fn clean(s: [u64; 2]) -> [u64; 2]
+    ensures { λ r. ⌜ (r ≡ s) × Set2 64 64 r ⌝ }
+{
+    let a = fits(s[0]);
+    let b = fits(s[1]);
+    [a, b]
+}
+
+// Expression i gets the set s.
+fn gift(base: &mut [[u64; 2]], i: usize, s: [u64; 2])
+    ensures { λ r. ⌜ Gave (giftTo i s ∷ []) (now (base .entry)) (now (base .exit)) ⌝ }
+{
+    if i < base.len() {
+        let u = words::union(base[i], s);
+        base[i] = clean(u);
+    }
+}
+
+// What expression e gives at once for SUCCEED.
+fn succeed_gift(t: &grammar::Table, sets: &[[u64; 2]], base: &mut [[u64; 2]], e: usize)
+    requires { ⌜ e < 1024 ⌝ }
+    ensures { λ u. ⌜ Gave (succeedGifts (pairAt (now (sets .entry)) []) (rootIn (now (t .entry))) e (partIn (now (t .entry)) e)) (now (base .entry)) (now (base .exit)) ⌝ }
+{
+    let k = node(t, e);
+    let op = k.op;
+    let l = k.left;
+    let r = k.right;
+    match op {
+        2 => {
+            gift(base, l, set_at(sets, r));
+            return;
+        }
+        5 => {
+            gift(base, l, set_at(sets, l));
+            return;
+        }
+        6 => {
+            gift(base, l, set_at(sets, l));
+            return;
+        }
+        _ => {
+            return;
+        }
+    }
+}
+
+// What expression e gives at once for ALT.
+fn alt_gift(
+    t: &grammar::Table,
+    sets: &[[u64; 2]],
+    eps: &[bool],
+    succ: &[[u64; 2]],
+    base: &mut [[u64; 2]],
+    e: usize,
+)
+    requires { ⌜ e < 1024 ⌝ }
+    ensures { λ u. ⌜ Gave (altGifts (pairAt (now (sets .entry)) (now (eps .entry))) (rootIn (now (t .entry))) (λ i. getD (now (succ .entry)) i empty) e (partIn (now (t .entry)) e)) (now (base .entry)) (now (base .exit)) ⌝ }
+{
+    let k = node(t, e);
+    let op = k.op;
+    let l = k.left;
+    let r = k.right;
+    match op {
+        3 => {
+            gift(base, l, set_at(sets, r));
+            if flag_at(eps, r) {
+                gift(base, l, set_at(succ, e));
+                return;
+            }
+            return;
+        }
+        4 => {
+            gift(base, l, set_at(succ, e));
+            return;
+        }
+        5 => {
+            gift(base, l, set_at(succ, e));
+            return;
+        }
+        6 => {
+            gift(base, l, set_at(succ, e));
+            return;
+        }
+        _ => {
+            return;
+        }
+    }
+}
+
+fn succeed_base(t: &grammar::Table, sets: &[[u64; 2]], base: &mut [[u64; 2]])
+    requires { ⌜ length (now base) ≤ 1024 ⌝ }
+    ensures { λ u. ⌜ (now (base .exit) ≡ given (succeedGiven (now (t .entry)) (now (sets .entry)) (length (now (base .entry)))) (none (length (now (base .entry))))) × Fine (now (base .exit)) ⌝ }
+{
+    fixpoint::clear(base);
+    let mut e = 0;
+    while e < base.len() {
+        succeed_gift(t, sets, base, e);
+        e += 1;
+    }
+}
+
+fn alt_base(
+    t: &grammar::Table,
+    sets: &[[u64; 2]],
+    eps: &[bool],
+    succ: &[[u64; 2]],
+    base: &mut [[u64; 2]],
+)
+    requires { ⌜ length (now base) ≤ 1024 ⌝ }
+    ensures { λ u. ⌜ (now (base .exit) ≡ given (altGiven (now (t .entry)) (now (sets .entry)) (now (eps .entry)) (now (succ .entry)) (length (now (base .entry)))) (none (length (now (base .entry))))) × Fine (now (base .exit)) ⌝ }
+{
+    fixpoint::clear(base);
+    let mut e = 0;
+    while e < base.len() {
+        alt_gift(t, sets, eps, succ, base, e);
+        e += 1;
+    }
+}
+
+// Rounds along the first m edges.
+fn rounds(
+    src: &[usize],
+    dst: &[usize],
+    m: usize,
+    base: &[[u64; 2]],
+    cur: &mut [[u64; 2]],
+    next: &mut [[u64; 2]],
+) -> usize
+    requires { ⌜ RoundsAsk (now src) (now dst) m (now base) (length (now cur)) (length (now next)) ⌝ }
+    ensures { λ r. ⌜ Solved (take m (now (src .entry))) (take m (now (dst .entry))) (now (base .entry)) r (now (cur .exit)) (now (next .exit)) ⌝ }
+{
+    fixpoint::solve(&src[..m], &dst[..m], base, cur, next)
+}
+
+// Rounds of SUCCEED, of which nobody asks the count.
+fn succeed_all(
+    t: &grammar::Table,
+    sets: &[[u64; 2]],
+    eps: &[bool],
+    src: &mut [usize; 2048],
+    dst: &mut [usize; 2048],
+    base: &mut [[u64; 2]],
+    cur: &mut [[u64; 2]],
+    next: &mut [[u64; 2]],
+) -> usize
+    requires { ⌜ (length (now base) ≤ 1024) × (length (now cur) ≡ length (now base)) × (length (now next) ≡ length (now base)) ⌝ }
+    ensures { λ r. ⌜ Flowed (length (now (base .entry))) (succeedGiven (now (t .entry)) (now (sets .entry)) (length (now (base .entry)))) (handed (now (t .entry)) (now (eps .entry)) true (length (now (base .entry))) (length (now (base .entry)))) r (now (cur .exit)) ⌝ }
+{
+    succeed_base(t, sets, base);
+    let n = base.len();
+    let m = hand_all(t, eps, true, src, dst, n);
+    rounds(src, dst, m, base, cur, next)
+}
+
+// Rounds of ALT, and how many.
+fn alt_all(
+    t: &grammar::Table,
+    sets: &[[u64; 2]],
+    eps: &[bool],
+    succ: &[[u64; 2]],
+    src: &mut [usize; 2048],
+    dst: &mut [usize; 2048],
+    base: &mut [[u64; 2]],
+    cur: &mut [[u64; 2]],
+    next: &mut [[u64; 2]],
+) -> usize
+    requires { ⌜ (length (now base) ≤ 1024) × (length (now cur) ≡ length (now base)) × (length (now next) ≡ length (now base)) ⌝ }
+    ensures { λ r. ⌜ Flowed (length (now (base .entry))) (altGiven (now (t .entry)) (now (sets .entry)) (now (eps .entry)) (now (succ .entry)) (length (now (base .entry)))) (handed (now (t .entry)) (now (eps .entry)) false (length (now (base .entry))) (length (now (base .entry)))) r (now (cur .exit)) ⌝ }
+{
+    alt_base(t, sets, eps, succ, base);
+    let n = base.len();
+    let m = hand_all(t, eps, false, src, dst, n);
+    rounds(src, dst, m, base, cur, next)
 }

@@ -35,8 +35,11 @@ word-requires-3 c κs = search needs
 
 returns : tie.Need-returns
 unfolding partIn
-returns c = ap₂ (λ (f : ℕ → Part) (r : ℕ). f r)
-    (ap₂ partBy (c .before .before .before .before .word .ensures .0 ∙ ap (λ (i : ℕ). getD (c .before .before .before .before .before .before .args .t .now) i 0) (let q : 19208 + 3 * c .before .before .before .before .before .before .args .e ≡ 19208 + 3 * c .before .before .before .before .before .before .args .e + 0 = omega arith in q)) (c .before .before .word2 .ensures .0)) (c .word3 .ensures .0)
+returns c = (
+  ap₂ (λ (f : ℕ → Part) (r : ℕ). f r)
+      (ap₂ partBy (c .before .before .before .before .word .ensures .0 ∙ ap (λ (i : ℕ). getD (c .before .before .before .before .before .before .args .t .now) i 0) (let q : 19208 + 3 * c .before .before .before .before .before .before .args .e ≡ 19208 + 3 * c .before .before .before .before .before .before .args .e + 0 = omega arith in q)) (c .before .before .word2 .ensures .0)) (c .word3 .ensures .0),
+  c .before .before .word2 .ensures .1,
+)
 
 pub node-spec : {M : Type 1} → statement M
 node-spec =
