@@ -3,4 +3,5 @@ pub mod Beginning
 pub mod Flows
 pub mod Analysis
 pub mod Steps
+pub mod Proper
 pub mod laws
