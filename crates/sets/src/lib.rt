@@ -26,7 +26,7 @@ pub struct Record {
     pub right: usize,
 }
 
-fn node(t: &grammar::Table, e: usize) -> Record
+pub fn node(t: &grammar::Table, e: usize) -> Record
     requires { ⌜ e < 1024 ⌝ }
     ensures { λ r. ⌜ (partBy (r .op) (r .left) (r .right) ≡ partIn (now (t .entry)) e) × (r .left < 4294967296) ⌝ }
 {
@@ -42,14 +42,14 @@ fn node(t: &grammar::Table, e: usize) -> Record
 }
 
 // The set at i; the empty set past the end.
-fn set_at(s: &[[u64; 2]], i: usize) -> [u64; 2]
+pub fn set_at(s: &[[u64; 2]], i: usize) -> [u64; 2]
     ensures { λ r. ⌜ r ≡ getD (now (s .entry)) i empty ⌝ }
 {
     if i < s.len() { s[i] } else { [0, 0] }
 }
 
 // The mark at i; no mark past the end.
-fn flag_at(s: &[bool], i: usize) -> bool
+pub fn flag_at(s: &[bool], i: usize) -> bool
     ensures { λ r. ⌜ r ≡ getD (now (s .entry)) i false ⌝ }
 {
     if i < s.len() { s[i] } else { false }
@@ -150,7 +150,7 @@ fn begin_one(t: &grammar::Table, marks: &[bool], sets: &mut [[u64; 2]], eps: &mu
 }
 
 // BEGINNING and ε of every expression, parts before wholes, where `marks` says which symbols' bodies have ε.
-fn begin_all(t: &grammar::Table, marks: &[bool], sets: &mut [[u64; 2]], eps: &mut [bool])
+pub fn begin_all(t: &grammar::Table, marks: &[bool], sets: &mut [[u64; 2]], eps: &mut [bool])
     requires { ⌜ (length (now sets) ≤ 1024) × (length (now eps) ≡ length (now sets)) ⌝ }
     ensures { λ r. ⌜ BegunAll (now (t .entry)) (now (marks .entry)) (length (now (sets .entry))) (now (sets .exit)) (now (eps .exit)) ⌝ }
 {
@@ -162,7 +162,7 @@ fn begin_all(t: &grammar::Table, marks: &[bool], sets: &mut [[u64; 2]], eps: &mu
 }
 
 // The number of the body of symbol r.
-fn root(t: &grammar::Table, r: usize) -> usize
+pub fn root(t: &grammar::Table, r: usize) -> usize
     requires { ⌜ r < 4294967296 ⌝ }
     ensures { λ u. ⌜ u ≡ rootIn (now (t .entry)) r ⌝ }
 {
@@ -203,7 +203,7 @@ fn unmark(marks: &mut [bool])
 }
 
 // The ε marks by symbol, from none on, as many rounds as there are symbols (01: "All are least").
-fn mark_all(t: &grammar::Table, marks: &mut [bool], sets: &mut [[u64; 2]], eps: &mut [bool])
+pub fn mark_all(t: &grammar::Table, marks: &mut [bool], sets: &mut [[u64; 2]], eps: &mut [bool])
     requires { ⌜ (length (now marks) ≤ 64) × (length (now sets) ≤ 1024) × (length (now eps) ≡ length (now sets)) ⌝ }
     ensures { λ u. ⌜ MarkedAll (now (t .entry)) (length (now (sets .entry))) (length (now (marks .entry))) (now (marks .exit)) ⌝ }
 {
@@ -492,7 +492,7 @@ fn rounds(
 }
 
 // Rounds of SUCCEED, of which nobody asks the count.
-fn succeed_all(
+pub fn succeed_all(
     t: &grammar::Table,
     sets: &[[u64; 2]],
     eps: &[bool],
@@ -512,7 +512,7 @@ fn succeed_all(
 }
 
 // Rounds of ALT, and how many.
-fn alt_all(
+pub fn alt_all(
     t: &grammar::Table,
     sets: &[[u64; 2]],
     eps: &[bool],
