@@ -3,7 +3,8 @@ ghost use mathlib.Core.Bool.{Bool, true, false};
 ghost use mathlib.Core.List.{List, [], _∷_};
 ghost use Prim.Native.Nat.{ℕ, _+_, _-_, _*_, _^_, _<_, _≤_};
 ghost use lib.ListN.{length, getD, set, take};
-ghost use Rattle.analysis.specs.Lent.{Begins, Parted, Fronted, SetsOf};
+ghost use Rattle.analysis.specs.Lent.{Begins, Parted, Fronted, SetsOf, lakeIn, hitIn, blockedIn, skipIn, skipsIn, CannotSkip};
+ghost use mathlib.Core.Bool.{cond, _||_};
 
 // ε marks by symbol, then BEGINNING of every expression (01, Lakes made plain).
 fn begins(t: &grammar::Table, marks: &mut [bool], sets: &mut [[u64; 2]], eps: &mut [bool])
@@ -115,4 +116,91 @@ pub fn sets_at(
         alt: a,
         eps: x,
     }
+}
+
+// Whether symbol n is a lake.
+fn is_lake(t: &grammar::Table, n: usize) -> bool
+    requires { ⌜ n < 64 ⌝ }
+    ensures { λ r. ⌜ r ≡ lakeIn (now (t .entry)) n ⌝ }
+{
+    let k = words::word(t, grammar::SYMBOLS + grammar::SYMBOL * n);
+    k != 0
+}
+
+// Whether n is a nonterminal of the set whose body has ε, or one before it was.
+fn hit(t: &grammar::Table, marks: &[bool], s: [u64; 2], n: usize, found: bool) -> bool
+    requires { ⌜ n < 64 ⌝ }
+    ensures { λ r. ⌜ r ≡ (hitIn (now (t .entry)) (now (marks .entry)) s n || found) ⌝ }
+{
+    if !words::member(s, n) {
+        return found;
+    }
+    if is_lake(t, n) {
+        return found;
+    }
+    if sets::flag_at(marks, n) {
+        return true;
+    }
+    found
+}
+
+fn blocked(t: &grammar::Table, marks: &[bool], s: [u64; 2], r: usize) -> bool
+    requires { ⌜ r ≤ 64 ⌝ }
+    ensures { λ u. ⌜ u ≡ blockedIn (now (t .entry)) (now (marks .entry)) s r ⌝ }
+{
+    let mut found = false;
+    let mut n: usize = 0;
+    while n < r {
+        found = hit(t, marks, s, n, found);
+        n += 1;
+    }
+    found
+}
+
+// Whether lake n cannot skip.
+fn stuck(t: &grammar::Table, marks: &[bool], alts: &[[u64; 2]], r: usize, n: usize) -> bool
+    requires { ⌜ (r ≤ 64) × (n < 64) ⌝ }
+    ensures { λ u. ⌜ u ≡ skipIn (now (t .entry)) (now (marks .entry)) (now (alts .entry)) r n ⌝ }
+{
+    if is_lake(t, n) {
+        let i = sets::root(t, n);
+        let s = sets::set_at(alts, i);
+        return blocked(t, marks, s, r);
+    }
+    false
+}
+
+fn noted(w: u64, n: usize, yes: bool) -> u64
+    requires { ⌜ (w < 2 ^ n) × (n < 64) ⌝ }
+    ensures { λ u. ⌜ u ≡ w + cond yes (2 ^ n) 0 ⌝ }
+{
+    if yes {
+        return w + sets::bit(n);
+    }
+    w
+}
+
+fn note(t: &grammar::Table, marks: &[bool], alts: &[[u64; 2]], r: usize, n: usize, w: u64) -> u64
+    requires { ⌜ (r ≤ 64) × (n < 64) × (w < 2 ^ n) ⌝ }
+    ensures { λ u. ⌜ u ≡ w + cond (skipIn (now (t .entry)) (now (marks .entry)) (now (alts .entry)) r n) (2 ^ n) 0 ⌝ }
+{
+    let yes = stuck(t, marks, alts, r, n);
+    noted(w, n, yes)
+}
+
+// The lakes with a nonterminal in ALT whose body has ε, bit = symbol (01, "Other calls").
+pub fn cannot_skip(t: &grammar::Table, marks: &[bool; 64], alts: &[[u64; 2]; 1024]) -> u64
+    ensures { λ w. ⌜ CannotSkip (now (t .entry)) (now (marks .entry)) (now (alts .entry)) w ⌝ }
+{
+    let r = words::word(t, 0);
+    if r > 64 {
+        return 0;
+    }
+    let mut w: u64 = 0;
+    let mut n: usize = 0;
+    while n < r {
+        w = note(t, marks, alts, r, n, w);
+        n += 1;
+    }
+    w
 }

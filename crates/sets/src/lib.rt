@@ -55,7 +55,7 @@ pub fn flag_at(s: &[bool], i: usize) -> bool
     if i < s.len() { s[i] } else { false }
 }
 
-fn bit(k: usize) -> u64
+pub fn bit(k: usize) -> u64
     ensures { λ r. ⌜ (k < 64 → r ≡ 2 ^ k) ⌝ }
 {
     if k < 64 { 1 << k } else { 0 }
