@@ -2,3 +2,7 @@
 pub mod Stores
 pub mod Shifts
 pub mod Bodies
+pub mod Next
+pub mod Water
+pub mod Final
+pub mod Proper

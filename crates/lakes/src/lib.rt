@@ -3,8 +3,13 @@ ghost use mathlib.Core.Bool.{Bool, true, false};
 ghost use mathlib.Core.List.{List, [], _∷_};
 ghost use Prim.Native.Nat.{ℕ, _+_, _-_, _*_, _^_, _<_, _≤_};
 ghost use lib.ListN.{length, getD, set};
+ghost use lib.Dec.{eqb};
 ghost use Rattle.lakes.specs.Runs.{Near, stored, CopiedOne, CopiedRun, WaterTo, BodyTo};
 ghost use Rattle.lakes.specs.Runs.{moved as movedTo};
+ghost use Rattle.lakes.specs.Made.{nextBy, lakeAt, MadeNext, WaterAt, SteppedOne, BuiltAll};
+ghost use Rattle.grammar.specs.Table.{symbolWord, nameIn};
+ghost use Rattle.grammar.specs.Same.{sameSymbol};
+ghost use Rattle.sets.specs.Intermediate.{waterName};
 
 // The record of expression m, stored; past the table's end nothing.
 pub fn put_part(mid: &mut [u32], m: usize, op: usize, l: usize, r: usize)
@@ -156,4 +161,160 @@ fn body(
         return lake_body(t, mid, a, b, wa, wb, m);
     }
     plain_body(t, mid, a, b, m)
+}
+
+// How far step 1 has come in both tables.
+pub struct Reached {
+    pub from: usize,
+    pub count: usize,
+}
+
+fn next_from(from: usize, b: usize) -> usize
+    ensures { λ u. ⌜ u ≡ nextBy from b ⌝ }
+{
+    if b == 0 {
+        return from;
+    }
+    b
+}
+
+// The intermediate body of symbol r, its expressions from `from` on in t, behind the first m.
+fn symbol(
+    t: &[u32],
+    mid: &mut [u32],
+    r: usize,
+    wa: usize,
+    wb: usize,
+    from: usize,
+    m: usize,
+) -> Reached
+    requires { ⌜ (r < 64) × (wa < 4294967296) × (wb < 4294967296) × (from < 4294967296) × (m < 70368744177664) ⌝ }
+    ensures { λ u. ⌜ (u .from < 4294967296) × (u .count ≤ m + 12884901888) × MadeNext (now (t .entry)) r wa wb from m (now (mid .entry)) (u .from) (u .count) (now (mid .exit)) ⌝ }
+{
+    let at = grammar::SYMBOLS + grammar::SYMBOL * r;
+    let kind = words::word(t, at);
+    let b = words::word(t, at + 1);
+    let p = body(t, mid, kind != 0, from, b, wa, wb, m);
+    words::put(mid, at + 1, cap(p));
+    let f = next_from(from, b);
+    Reached { from: f, count: p }
+}
+
+// Whether the word at i is v.
+fn is_word(t: &[u32], i: usize, v: usize) -> bool
+    ensures { λ u. ⌜ u ≡ eqb v (getD (now (t .entry)) i 0) ⌝ }
+{
+    v == words::word(t, i)
+}
+
+// Whether symbol s is called `water`.
+fn is_water(t: &[u32], s: usize) -> bool
+    requires { ⌜ s < 64 ⌝ }
+    ensures { λ u. ⌜ u ≡ sameSymbol waterName (nameIn (now (t .entry)) s) ⌝ }
+{
+    let at = grammar::SYMBOLS + grammar::SYMBOL * s;
+    if !is_word(t, at, 0) {
+        return false;
+    }
+    if !is_word(t, at + 3, 5) {
+        return false;
+    }
+    if !is_word(t, at + 4, 119) {
+        return false;
+    }
+    if !is_word(t, at + 5, 97) {
+        return false;
+    }
+    if !is_word(t, at + 6, 116) {
+        return false;
+    }
+    if !is_word(t, at + 7, 101) {
+        return false;
+    }
+    is_word(t, at + 8, 114)
+}
+
+// Where the run of symbol s + 1 begins.
+fn pass(t: &[u32], s: usize, from: usize) -> usize
+    requires { ⌜ (s < 64) × (from < 4294967296) ⌝ }
+    ensures { λ u. ⌜ (u < 4294967296) × (u ≡ nextBy from (symbolWord (now (t .entry)) s 1)) ⌝ }
+{
+    let b = words::word(t, grammar::SYMBOLS + grammar::SYMBOL * s + 1);
+    next_from(from, b)
+}
+
+// The run of water's right side: from where, and its end, 0 where there is none.
+fn water(t: &[u32], r: usize) -> Reached
+    requires { ⌜ r ≤ 64 ⌝ }
+    ensures { λ u. ⌜ (u .from < 4294967296) × (u .count < 4294967296) × WaterAt (now (t .entry)) r (u .from) (u .count) ⌝ }
+{
+    let mut from: usize = 0;
+    let mut s: usize = 0;
+    while s < r {
+        if is_water(t, s) {
+            let b = words::word(t, grammar::SYMBOLS + grammar::SYMBOL * s + 1);
+            return Reached {
+                from: from,
+                count: b,
+            };
+        }
+        from = pass(t, s, from);
+        s += 1;
+    }
+    Reached { from: 0, count: 0 }
+}
+
+fn copy_word(t: &[u32], mid: &mut [u32], i: usize)
+    ensures { λ u. ⌜ now (mid .exit) ≡ set (now (mid .entry)) i (getD (now (t .entry)) i 0) ⌝ }
+{
+    let v = words::word(t, i);
+    words::put(mid, i, v);
+}
+
+// The words below the expressions.
+pub fn copy_low(t: &[u32], mid: &mut [u32])
+    ensures { λ u. ⌜ ((i : ℕ) → i < 19208 → i < length (now (mid .entry)) → getD (now (mid .exit)) i 0 ≡ getD (now (t .entry)) i 0) ⌝ }
+{
+    let mut i: usize = 0;
+    while i < 19208 {
+        copy_word(t, mid, i);
+        i += 1;
+    }
+}
+
+// The bodies of the first r symbols, one behind the other: how many expressions.
+fn build(t: &[u32], mid: &mut [u32], r: usize, wa: usize, wb: usize) -> usize
+    requires { ⌜ (r ≤ 64) × (wa < 4294967296) × (wb < 4294967296) ⌝ }
+    ensures { λ u. ⌜ BuiltAll (now (t .entry)) r wa wb (now (mid .entry)) u (now (mid .exit)) ⌝ }
+{
+    let mut from: usize = 0;
+    let mut m: usize = 0;
+    let mut s: usize = 0;
+    while s < r {
+        let u = symbol(t, mid, s, wa, wb, from, m);
+        from = u.from;
+        m = u.count;
+        s += 1;
+    }
+    m
+}
+
+// Step 1 (01, Lakes made plain): the intermediate grammar of t, into mid. The number of its expressions, 1,025 where they are more than 1,024.
+pub fn step_one(t: &grammar::Table, mid: &mut grammar::Table) -> usize
+    ensures { λ k. ⌜ SteppedOne (now (t .entry)) (now (mid .exit)) k ⌝ }
+{
+    let r = words::word(t, 0);
+    if r > 64 {
+        return 1025;
+    }
+    copy_low(t, mid);
+    let w = water(t, r);
+    let a = w.from;
+    let b = w.count;
+    let m = build(t, mid, r, a, b);
+    words::put(mid, 2, cap(m));
+    if m > 1024 {
+        return 1025;
+    }
+    m
 }
