@@ -1,0 +1,3 @@
+pub mod Lent
+pub mod Rules
+pub mod laws

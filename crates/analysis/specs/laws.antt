@@ -1,0 +1,6 @@
+-- Laws of the definitions beside this file.
+pub mod Joined
+pub mod Skip
+pub mod Rules
+pub mod Marks
+pub mod Least
