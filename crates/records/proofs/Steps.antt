@@ -11,23 +11,12 @@ use lib.Seq.{sets}
 use borrow.Author.Tests.{eq-eqb, ne-eqb, lt-ltb, le-ltb}
 use Rattle.grammar.specs.Same.{sameBytes}
 use Rattle.grammar.specs.Table.{wordsFrom}
+use Rattle.records.specs.laws.Caps.{cap-le}
+use Rattle.records.specs.laws.Seeks.{seek-within}
+use Rattle.records.specs.laws.Words.{words-here, words-at, words-none}
 use Rattle.records.specs.Rows.{cap, rowIs, seek, kept, Noted}
 
 -- ── words ──
-words-by : (t : List ℕ) (p x j : ℕ) → x ≡ suc j → wordsFrom t p x ≡ getD t p 0 ∷ wordsFrom t (suc p) j
-unfolding wordsFrom
-words-by t p x j e = ap (λ (y : ℕ). wordsFrom t p y) e
-
-pub words-here : (t : List ℕ) (p q k n : ℕ) → suc p ≡ q → k < n → wordsFrom t p (n - k) ≡ getD t p 0 ∷ wordsFrom t q (n - (k + 1))
-words-here t p q k n e h = words-by t p (n - k) (n - (k + 1)) (omega arith) ∙ ap (λ (x : ℕ). getD t p 0 ∷ wordsFrom t x (n - (k + 1))) e
-
-pub words-at : (t : List ℕ) (i k n : ℕ) → k < n → wordsFrom t (i + k) (n - k) ≡ getD t (i + k) 0 ∷ wordsFrom t (i + (k + 1)) (n - (k + 1))
-words-at t i k n h = words-here t (i + k) (i + (k + 1)) k n (omega arith) h
-
-pub words-none : (t : List ℕ) (i k n : ℕ) → n ≤ k → wordsFrom t i (n - k) ≡ []
-unfolding wordsFrom
-words-none t i k n h = let e : n - k ≡ 0 = omega arith in ap (λ (x : ℕ). wordsFrom t i x) e
-
 same-cons : (x y : ℕ) (s t : List ℕ) → x ≡ y → sameBytes (x ∷ s) (y ∷ t) ≡ sameBytes s t
 unfolding sameBytes
 same-cons x y s t e = ap (λ (b : Bool). b && sameBytes s t) (eq-eqb x y e)
@@ -106,15 +95,6 @@ module _ (t rec : List ℕ) (o w : ℕ) where
   pub seek-whole : (b n : ℕ) → seek t rec o w b n ≡ 0 + seek t rec o w b (n - 0)
   seek-whole b n = let e : n ≡ n - 0 = omega arith in ap (λ (x : ℕ). seek t rec o w b x) e ∙ omega arith
 
-  pub seek-within : (b n : ℕ) → seek t rec o w b n ≤ n
-  unfolding seek
-  seek-within b zero = omega arith
-  seek-within b (suc n) = by (rowIs t b rec o w) (seek-within (b + w) n)
-    where
-      by : (x : Bool) → seek t rec o w (b + w) n ≤ n → cond x 0 (suc (seek t rec o w (b + w) n)) ≤ suc n
-      by true h = omega arith
-      by false h = omega arith
-
 -- ── where a record lies ──
 pub left-on : (w n i : ℕ) → i < n → w * (n - i) ≡ w * (n - (i + 1)) + w
 left-on w n i h = let e : n - i ≡ suc (n - (i + 1)) = omega arith in ap (λ (x : ℕ). w * x) e ∙ mul-suc w (n - (i + 1))
@@ -133,6 +113,7 @@ module _ (old rec : List ℕ) (head o w base c n r : ℕ) (a : c ≡ getD old he
   pub noted-known : r < n → Noted old old rec head o w base r
   noted-known h = record {
     number = told;
+    small = omega (arith, f, seek-within old rec o w base n, b, cap-le c 64);
     known = λ _. refl;
     added = λ k l. absurd (omega (arith, here));
     over = λ k l. absurd (omega (arith, here));
@@ -141,6 +122,7 @@ module _ (old rec : List ℕ) (head o w base c n r : ℕ) (a : c ≡ getD old he
   pub noted-added : (new : List ℕ) → n ≤ r → n < 64 → new ≡ set (sets old (base + w * n) (wordsFrom rec 0 w)) head (n + 1) → Noted old new rec head o w base r
   noted-added new h l e = record {
     number = told;
+    small = omega (arith, f, seek-within old rec o w base n, b, cap-le c 64);
     known = λ k. absurd (omega (arith, here));
     added = λ _ _. e ∙ ap (λ (x : ℕ). set (sets old (base + w * x) (wordsFrom rec 0 w)) head (x + 1)) here;
     over = λ _ k. absurd (omega (arith, here));
@@ -149,6 +131,7 @@ module _ (old rec : List ℕ) (head o w base c n r : ℕ) (a : c ≡ getD old he
   pub noted-over : (new : List ℕ) → n ≤ r → 64 ≤ n → new ≡ set old head 65 → Noted old new rec head o w base r
   noted-over new h l e = record {
     number = told;
+    small = omega (arith, f, seek-within old rec o w base n, b, cap-le c 64);
     known = λ k. absurd (omega (arith, here));
     added = λ _ k. absurd (omega (arith, here));
     over = λ _ _. e;

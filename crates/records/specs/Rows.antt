@@ -30,6 +30,7 @@ kept t head = cap 64 (getD t head 0)
 -- the record's number, and the words afterwards: as they were where it is known; with the record and a new count; or with the count that says "more"
 pub record Noted (old new rec : List ℕ) (head o w base r : ℕ) : Type 0 where
   pub number : r ≡ seek old rec o w base (kept old head)
+  pub small : r ≤ 64
   pub known : r < kept old head → new ≡ old
   pub added : kept old head ≤ r → kept old head < 64 → new ≡ set (sets old (base + w * kept old head) (wordsFrom rec 0 w)) head (kept old head + 1)
   pub over : kept old head ≤ r → 64 ≤ kept old head → new ≡ set old head 65

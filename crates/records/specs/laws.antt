@@ -2,5 +2,6 @@
 pub mod Caps
 pub mod Words
 pub mod Rows
+pub mod Seeks
 pub mod Kept
 pub mod Firsts

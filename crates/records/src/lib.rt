@@ -54,7 +54,7 @@ fn same_record(t: &[u32], b: usize, rec: &[u32], o: usize, width: usize) -> bool
 }
 
 // The number of the first of n records that is `rec`; n where none is.
-fn find(t: &[u32], rec: &[u32], o: usize, width: usize, base: usize, n: usize) -> usize
+pub fn find(t: &[u32], rec: &[u32], o: usize, width: usize, base: usize, n: usize) -> usize
     requires { ⌜ (o ≤ width) × (base + width * n < 4294967296) ⌝ }
     ensures { λ r. ⌜ r ≡ seek (now (t .entry)) (now (rec .entry)) o width base n ⌝ }
 {
@@ -70,7 +70,8 @@ fn find(t: &[u32], rec: &[u32], o: usize, width: usize, base: usize, n: usize) -
     i
 }
 
-fn least(a: usize, b: usize) -> usize
+// The smaller one.
+pub fn least(a: usize, b: usize) -> usize
     ensures { λ r. ⌜ r ≡ cap b a ⌝ }
 {
     if a < b {

@@ -22,12 +22,15 @@ pub record Kept {A : Type 0} (d : A) (enc : A → List ℕ) (o w : ℕ) (t : Lis
   pub count : getD t head 0 ≡ cap 65 (length l)
   pub rows : (i : ℕ) → i < 64 → i < length l → At o w t (base + w * i) (enc (getD l i d))
 
--- what `note` leaves: the list m, x's number in it, and all other words as they were
-pub record With {A : Type 0} (d : A) (enc : A → List ℕ) (o w : ℕ) (same : A → A → Bool) (old new : List ℕ) (head base r : ℕ) (x : A) (m : List A) : Type 0 where
+-- what `note` of x leaves of the list l: the list m, x's number in it, and all other words as they were
+pub record With {A : Type 0} (d : A) (enc : A → List ℕ) (o w : ℕ) (same : A → A → Bool) (old new : List ℕ) (head base r : ℕ) (x : A) (l m : List A) : Type 0 where
   pub held : Kept d enc o w new head base m
   pub number : length m ≤ 64 → r ≡ indexOf same x m
   pub frame : (j : ℕ) → (j ≡ head → ⊥) → (j < base) ⊎ (base + w * 64 ≤ j) → getD new j 0 ≡ getD old j 0
   pub long : length new ≡ length old
+  -- the whole records: those that there were, and a new one
+  pub before : (i j : ℕ) → i < 64 → i < length l → j < w → getD new (base + w * i + j) 0 ≡ getD old (base + w * i + j) 0
+  pub fresh : (i j : ℕ) → i < 64 → length l ≤ i → i < length m → j < w → getD new (base + w * i + j) 0 ≡ getD (enc x) j 0
 
 pub at-moved : (o w : ℕ) → 0 < w → (t t′ : List ℕ) (b : ℕ) (rec : List ℕ) → At o w t b rec → ((j : ℕ) → b ≤ j → j < b + w → getD t′ j 0 ≡ getD t j 0) → At o w t′ b rec
 at-moved o w z t t′ b rec a h = record {
@@ -35,17 +38,33 @@ at-moved o w z t t′ b rec a h = record {
   others = λ j k l. h (b + j) (omega arith) (omega arith) ∙ a .others j k l;
 }
 
+-- how many records there are, where all are kept
+pub kept-all : {A : Type 0} (d : A) (enc : A → List ℕ) (o w : ℕ) (t : List ℕ) (head base : ℕ) (l : List A) → Kept d enc o w t head base l → length l ≤ 64 → kept t head ≡ length l
+kept-all d enc o w t head base l k h = ⊎-elim
+    (λ (e : length l ≡ 64). ap (λ (y : ℕ). cap 64 y) (k .count ∙ sym (cap-low (length l) 65 (omega arith))) ∙ sym (cap-high (length l) 64 (omega arith)) ∙ sym e)
+    (λ (p : length l < 64). ap (λ (y : ℕ). cap 64 y) (k .count ∙ sym (cap-low (length l) 65 (omega arith))) ∙ sym (cap-low (length l) 64 p))
+    (eq-or-lt-of-le h)
+
+-- other words may change
+pub kept-moved : {A : Type 0} (d : A) (enc : A → List ℕ) (o w : ℕ) → 0 < w → (t t′ : List ℕ) (head base : ℕ) (l : List A) → Kept d enc o w t head base l
+    → getD t′ head 0 ≡ getD t head 0 → ((j : ℕ) → base ≤ j → j < base + w * 64 → getD t′ j 0 ≡ getD t j 0) → Kept d enc o w t′ head base l
+kept-moved d enc o w z t t′ head base l k e h = record {
+  count = e ∙ k .count;
+  rows = λ i p q. at-moved o w z t t′ (base + w * i) (enc (getD l i d)) (k .rows i p q)
+      (λ j u v. h j (omega arith) (omega (arith, mul-suc w i, mul-le-mul-left w (let g : suc i ≤ 64 = p in g))));
+}
+
 module _ {A : Type 0} (d : A) (enc : A → List ℕ) (o w : ℕ) (ow : o ≤ w) (wide : 0 < w) (same : A → A → Bool) (dec : List ℕ → ℕ → A) (Fit : A → Type 0)
     (read : (t : List ℕ) (b : ℕ) (x : A) → At o w t b (enc x) → Fit x → dec t b ≡ x)
     (sound : (x y : A) → same x y ≡ true → x ≡ y) (refls : (x : A) → same x x ≡ true) where
-  row-same : (t : List ℕ) (b : ℕ) (x y : A) → At o w t b (enc y) → Fit x → Fit y → rowIs t b (enc x) o w ≡ same x y
+  row-same : (t : List ℕ) (b : ℕ) (x y : A) → At o w t b (enc y) → (At o w t b (enc x) → Fit x) → Fit y → rowIs t b (enc x) o w ≡ same x y
   row-same t b x y a f g = by (rowIs t b (enc x) o w) (same x y) refl refl
     where
       by : (p q : Bool) → rowIs t b (enc x) o w ≡ p → same x y ≡ q → p ≡ q
       by true true u v = refl
       by false false u v = refl
       by true false u v =
-          let e : x ≡ y = sym (read t b x (row-at o w ow t b (enc x) u) f) ∙ read t b y a g in
+          let e : x ≡ y = sym (read t b x (row-at o w ow t b (enc x) u) (f (row-at o w ow t b (enc x) u))) ∙ read t b y a g in
           absurd (true≢false (sym (refls x) ∙ ap (same x) e ∙ v))
       by false true u v = absurd (false≢true (sym u ∙ at-row o w ow t b (enc x) (subst (λ (z : A). At o w t b (enc z)) (sym (sound x y v)) a)))
 
@@ -58,33 +77,38 @@ module _ {A : Type 0} (d : A) (enc : A → List ℕ) (o w : ℕ) (ow : o ≤ w) 
       by true u v g = subst Fit (sym (sound x y u)) (h .0)
       by false u v g = g (sym (or-right (same x y) (isIn same x l) u) ∙ v)
 
-  seek-index : (t : List ℕ) (x : A) (l : List A) (b : ℕ) → ((i : ℕ) → i < length l → At o w t (b + w * i) (enc (getD l i d))) → All Fit l → Fit x → seek t (enc x) o w b (length l) ≡ indexOf same x l
+  -- x has to fit only where a record is it
+  pub seek-index : (t : List ℕ) (x : A) (l : List A) (b : ℕ) → ((i : ℕ) → i < length l → At o w t (b + w * i) (enc (getD l i d))) → All Fit l → ((c : ℕ) (y : A) → At o w t c (enc x) → At o w t c (enc y) → Fit y → Fit x) → seek t (enc x) o w b (length l) ≡ indexOf same x l
   unfolding seek indexOf
   seek-index t x [] b h f g = refl
   seek-index t x (y ∷ l) b h f g =
-      ap (λ (p : Bool). cond p 0 (suc (seek t (enc x) o w (b + w) (length l))))
-      (row-same t b x y (subst (λ (k : ℕ). At o w t k (enc y)) (let e : b + w * 0 ≡ b = omega arith in e) (h 0 (omega arith))) g (f .0))
+      let a : At o w t b (enc y) = subst (λ (k : ℕ). At o w t k (enc y)) (let e : b + w * 0 ≡ b = omega arith in e) (h 0 (omega arith)) in
+      ap (λ (p : Bool). cond p 0 (suc (seek t (enc x) o w (b + w) (length l)))) (row-same t b x y a (λ u. g b y u a (f .0)) (f .0))
       ∙ ap (λ (k : ℕ). cond (same x y) 0 (suc k))
       (seek-index t x l (b + w)
       (λ i k. subst (λ (z : ℕ). At o w t z (enc (getD l i d))) (let e : b + w * suc i ≡ b + w + w * i = omega (arith, mul-suc w i) in e) (h (suc i) (omega arith))) (f .1) g)
 
+  pub fits-also : (x : A) (l : List A) → All Fit (also same x l) → Fit x
+  fits-also x l h = by (isIn same x l) refl
+    where
+      by : (p : Bool) → isIn same x l ≡ p → Fit x
+      by true e = all-in x l e (subst (All Fit) (also-in same x l e) h)
+      by false e = all-last Fit l x (subst (All Fit) (also-new same x l e) h)
+
   module _ (head base : ℕ) (below : head < base) (old new : List ℕ) (r : ℕ) (x : A) (l : List A) (long : base + w * 64 ≤ length old)
       (k : Kept d enc o w old head base l) (fits : All Fit (also same x l)) (n : Noted old new (enc x) head o w base r) where
     abbrev Result : List A → Type 0
-    Result m = With d enc o w same old new head base r x m
+    Result m = With d enc o w same old new head base r x l m
 
     few : length l ≤ 64 → kept old head ≡ length l
-    few h = ⊎-elim
-        (λ (e : length l ≡ 64). ap (λ (y : ℕ). cap 64 y) (k .count ∙ sym (cap-low (length l) 65 (omega arith))) ∙ sym (cap-high (length l) 64 (omega arith)) ∙ sym e)
-        (λ (p : length l < 64). ap (λ (y : ℕ). cap 64 y) (k .count ∙ sym (cap-low (length l) 65 (omega arith))) ∙ sym (cap-low (length l) 64 p))
-        (eq-or-lt-of-le h)
+    few h = kept-all d enc o w old head base l k h
 
     many : 64 < length l → kept old head ≡ 64
     many h = ap (λ (y : ℕ). cap 64 y) (k .count ∙ sym (cap-high (length l) 65 (omega arith))) ∙ sym (cap-high 65 64 (omega arith))
 
     index : length l ≤ 64 → Fit x → All Fit l → r ≡ indexOf same x l
     index h f a =
-        n .number ∙ ap (λ (y : ℕ). seek old (enc x) o w base y) (few h) ∙ seek-index old x l base (λ i p. k .rows i (omega arith) p) a f
+        n .number ∙ ap (λ (y : ℕ). seek old (enc x) o w base y) (few h) ∙ seek-index old x l base (λ i p. k .rows i (omega arith) p) a (λ _ _ _ _ _. f)
 
     row-end : (i j : ℕ) → i < j → w * i + w ≤ w * j
     row-end i j h = omega (arith, mul-suc w i, mul-le-mul-left w (let p : suc i ≤ j = h in p))
@@ -97,7 +121,7 @@ module _ {A : Type 0} (d : A) (enc : A → List ℕ) (o w : ℕ) (ow : o ≤ w) 
     stays v e j h s = ap (λ (t : List ℕ). getD t j 0) e ∙ getD-set-other old head j v 0 h
 
     unchanged : new ≡ old → (length l ≤ 64 → r ≡ indexOf same x l) → Result l
-    unchanged e f = record { held = subst (λ (t : List ℕ). Kept d enc o w t head base l) (sym e) k; number = f; frame = λ j _ _. ap (λ (t : List ℕ). getD t j 0) e; long = ap length e }
+    unchanged e f = record { held = subst (λ (t : List ℕ). Kept d enc o w t head base l) (sym e) k; number = f; frame = λ j _ _. ap (λ (t : List ℕ). getD t j 0) e; long = ap length e; before = λ i j _ _ _. ap (λ (t : List ℕ). getD t (base + w * i + j) 0) e; fresh = λ i j _ p q _. absurd (omega arith) }
 
     -- only the count changes: there are more than 64
     more : (m : List A) → 64 < length m → (ys : List A) → m ≡ l ++ ys → 64 ≤ length l → new ≡ set old head 65 → Result m
@@ -111,6 +135,8 @@ module _ {A : Type 0} (d : A) (enc : A → List ℕ) (o w : ℕ) (ow : o ≤ w) 
       number = λ p. absurd (omega arith);
       frame = stays 65 e;
       long = ap length e ∙ length-set old head 65;
+      before = λ i j _ _ _. ap (λ (t : List ℕ). getD t (base + w * i + j) 0) e ∙ getD-set-other old head (base + w * i + j) 65 0 (λ f. omega arith);
+      fresh = λ i j p q _ _. absurd (omega arith);
     }
 
     -- the same, where nothing changes
@@ -127,6 +153,8 @@ module _ {A : Type 0} (d : A) (enc : A → List ℕ) (o w : ℕ) (ow : o ≤ w) 
           number = λ p. absurd (omega arith);
           frame = λ j _ _. ap (λ (t : List ℕ). getD t j 0) e;
           long = ap length e;
+          before = λ i j _ _ _. ap (λ (t : List ℕ). getD t (base + w * i + j) 0) e;
+          fresh = λ i j p q _ _. absurd (omega arith);
         }
 
     -- x is added
@@ -178,6 +206,10 @@ module _ {A : Type 0} (d : A) (enc : A → List ℕ) (o w : ℕ) (ow : o ≤ w) 
             ∙ index-out same x l out ∙ sym (index-new same x l (refls x) out);
         frame = λ j h s. apart j h (⊎-elim (λ (p : j < base). inl (omega arith)) (λ (p : base + w * 64 ≤ j). inr (omega (arith, row-end (length l) 64 few-l))) s);
         long = ap length e ∙ length-set (sets old (base + w * length l) (wordsFrom (enc x) 0 w)) head (length l + 1) ∙ length-sets old (base + w * length l) (wordsFrom (enc x) 0 w);
+        before = λ i j _ p q. apart (base + w * i + j) (λ f. omega arith) (inl (omega (arith, row-end i (length l) p)));
+        fresh = λ i j _ p q z.
+            let f : i ≡ length l = omega (arith, length-append l (x ∷ [])) in
+            ap (λ (k : ℕ). getD new (base + w * k + j) 0) f ∙ inside j z;
       }
 
     known-one : isIn same x l ≡ true → length l ≤ 64 → Result l

@@ -78,6 +78,21 @@ words-get a i zero k l = absurd (omega arith)
 words-get a i (suc n) zero l = sym (no-more a i)
 words-get a i (suc n) (suc k) l = words-get a (suc i) n k (omega arith) ∙ ap (λ (x : ℕ). getD a x 0) (let f : suc i + k ≡ i + suc k = omega arith in f)
 
+-- one word more
+words-by : (t : List ℕ) (p x j : ℕ) → x ≡ suc j → wordsFrom t p x ≡ getD t p 0 ∷ wordsFrom t (suc p) j
+unfolding wordsFrom
+words-by t p x j e = ap (λ (y : ℕ). wordsFrom t p y) e
+
+pub words-here : (t : List ℕ) (p q k n : ℕ) → suc p ≡ q → k < n → wordsFrom t p (n - k) ≡ getD t p 0 ∷ wordsFrom t q (n - (k + 1))
+words-here t p q k n e h = words-by t p (n - k) (n - (k + 1)) (omega arith) ∙ ap (λ (x : ℕ). getD t p 0 ∷ wordsFrom t x (n - (k + 1))) e
+
+pub words-at : (t : List ℕ) (i k n : ℕ) → k < n → wordsFrom t (i + k) (n - k) ≡ getD t (i + k) 0 ∷ wordsFrom t (i + (k + 1)) (n - (k + 1))
+words-at t i k n h = words-here t (i + k) (i + (k + 1)) k n (omega arith) h
+
+pub words-none : (t : List ℕ) (i k n : ℕ) → n ≤ k → wordsFrom t i (n - k) ≡ []
+unfolding wordsFrom
+words-none t i k n h = let e : n - k ≡ 0 = omega arith in ap (λ (x : ℕ). wordsFrom t i x) e
+
 -- ── a run of stores ──
 pub sets-out : (vs t : List ℕ) (b j : ℕ) → (j < b) ⊎ (b + length vs ≤ j) → getD (sets t b vs) j 0 ≡ getD t j 0
 sets-out [] t b j h = refl
