@@ -8,23 +8,23 @@ use mathlib.Core.Option.{Option, none, some}
 use lib.ListN.{length}
 use Rattle.tokens.specs.declared.Mode.{Mode}
 use Rattle.tokens.specs.declared.Token.{Token}
-use Rattle.tokens.specs.Token.{Symbol, Leaf, Tok, symbol, leaf, Lexeme}
+use Rattle.tokens.specs.Token.{Symbol, Leaf, Tok, symbol, leaf, arrow, Lexeme}
 use Rattle.tokens.specs.Tokens.{tokenAt, toksOf, toks, lexemes}
 use Rattle.tokens.specs.Code.{coded}
 use Rattle.tokens.specs.laws.Forward.{lexemesAt}
 use Rattle.grammar.specs.Exp.{Exp, Rule, sym, ter}
 use Rattle.grammar.specs.Same.{sameSymbol}
-use Rattle.grammar.specs.Syntax.{Primary, Suffixed, Rules, tokens}
-use Rattle.grammar.specs.Trees.{treeF, treeQ, trees}
+use Rattle.grammar.specs.Syntax.{Choice, Primary, Suffixed, Rules, tokens}
+use Rattle.grammar.specs.Trees.{treeC, treeF, treeQ, trees}
 use Rattle.grammar.specs.Numbers.{symbolsOf, terminalsOf, expressionsOf, numbered}
 use Rattle.grammar.specs.Holds.{Holds}
 use Rattle.reading.specs.Machine.{start, fine, judge}
-use Rattle.reading.specs.Reader.{Res, ok, sufBy, rulesP}
+use Rattle.reading.specs.Reader.{Res, ok, sufBy, choiceP, rulesP}
 use Rattle.reading.specs.Reading.{second, unruled, leftsIn}
 use Rattle.records.specs.Rows.{cap}
 use Rattle.records.specs.laws.Rows.{adds}
 use Rattle.building.specs.declared.Counts.{Counts}
-use Rattle.building.specs.Lay.{St, st, lay, layRules, gathered, Rel}
+use Rattle.building.specs.Lay.{St, st, lay, headed, layRules, gathered, Rel}
 
 -- the tokens from a place on
 abbrev pub toksAt : Mode → List ℕ → ℕ → List Tok
@@ -55,6 +55,14 @@ pub record Suffixes (m : Mode) (s : List ℕ) (at to : ℕ) (old new : List ℕ)
   pub low : at ≤ to
   pub high : to ≤ length s
   pub same : (q : Primary) (e : Suffixed) (r : List Tok) → sufBy q (toksAt m s at) ≡ ok e r → (toksAt m s to ≡ r) × ((u : St) → Rel old (lay (treeQ q) u) → Rel new (lay (treeF e) u))
+
+-- one rule: symbol k gets its body
+pub record Ruled (m : Mode) (s : List ℕ) (at k to : ℕ) (old new : List ℕ) : Type 0 where
+  pub low : at ≤ to
+  pub high : to ≤ length s
+  pub forth : (toksAt m s at ≡ [] → ⊥) → at < to
+  pub same : (f : ℕ) (h : Symbol) (l : List Tok) (c : Choice) (r : List Tok) → toksAt m s at ≡ symbol h ∷ arrow ∷ l → choiceP f l ≡ ok c r
+      → (toksAt m s to ≡ r) × ((u : St) → k ≡ length (u .heads) → Rel old u → Rel new (headed (lay (treeC c) u)))
 
 -- the rules, with the bodies of symbols 0, 1, ..
 pub record Laid (m : Mode) (s old new : List ℕ) : Type 0 where

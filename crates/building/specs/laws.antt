@@ -8,3 +8,8 @@ pub mod Reads
 pub mod Glue
 pub mod Found
 pub mod Marks
+pub mod Rules
+pub mod Symbols
+pub mod Laid
+pub mod Within
+pub mod Whole

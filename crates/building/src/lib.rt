@@ -6,7 +6,7 @@ ghost use mathlib.Core.Bool.{_||_};
 ghost use lib.ListN.{length};
 ghost use Rattle.grammar.specs.Trees.{treeC, treeS, treeP, treeQ};
 ghost use Rattle.reading.specs.Reader.{begins, isArrow, choiceP, seqP, prefP, primP};
-ghost use Rattle.building.specs.Promises.{toksAt, Over, Occurs, Matches, Grown, Suffixes, Laid, Named, Marked, Built};
+ghost use Rattle.building.specs.Promises.{toksAt, Over, Occurs, Matches, Grown, Suffixes, Ruled, Laid, Named, Marked, Built};
 
 pub mod entries;
 pub mod parts;
@@ -15,6 +15,7 @@ use entries::note_any;
 use entries::note_leaf;
 use entries::note_symbol;
 use entries::symbol_number;
+use grammar::Table;
 use parts::add_over;
 use parts::add_pair;
 use parts::add_part;
@@ -231,4 +232,74 @@ fn choice(mode: Mode, text: &[u8], at: usize, t: &mut [u32]) -> usize
         add_pair(t, 3, a);
         i = j;
     }
+}
+
+// ── rules ──
+// One rule: behind its name and the arrow stands the body of symbol k.
+fn rule(mode: Mode, text: &[u8], at: usize, k: usize, t: &mut [u32]) -> usize
+    requires { ⌜ (at ≤ length (now text)) × (length (now text) ≤ 1048576) ⌝ }
+    ensures { λ r. ⌜ Ruled mode (now (text .entry)) at k r (now (t .entry)) (now (t .exit)) ⌝ }
+{
+    let a = over(mode, text, at);
+    let b = over(mode, text, a);
+    let j = choice(mode, text, b, t);
+    set_body(t, k);
+    j
+}
+
+// "Left sides in order": rule after rule gives the bodies of symbols 0, 1, ..
+fn rules(mode: Mode, text: &[u8], t: &mut [u32])
+    requires { ⌜ length (now text) ≤ 1048576 ⌝ }
+    ensures { λ r. ⌜ Laid mode (now (text .entry)) (now (t .entry)) (now (t .exit)) ⌝ }
+{
+    let mut i = 0;
+    let mut k = 0;
+    loop {
+        let h = token_at(mode, text, i);
+        let kind = h.kind;
+        if kind == tokens::END {
+            return;
+        }
+        let j = rule(mode, text, i, k, t);
+        k += 1;
+        i = j;
+    }
+}
+
+// ── the whole ──
+// Symbols: the left sides, then every one that is new, which only a lake without a rule can be. `.` is the first terminal.
+fn fill(mode: Mode, text: &[u8], t: &mut [u32]) -> Counts
+    requires { ⌜ length (now text) ≤ 1048576 ⌝ }
+    ensures { λ r. ⌜ Built mode (now (text .entry)) (now (t .entry)) (now (t .exit)) r ⌝ }
+{
+    put(t, 0, 0);
+    put(t, 1, 0);
+    put(t, 2, 0);
+    mark_all(mode, text, false, t);
+    mark_all(mode, text, true, t);
+    let n = word(t, 0);
+    if 64 < n {
+        return Counts {
+            symbols: n,
+            terminals: 0,
+            expressions: 0,
+        };
+    }
+    let any = note_any(t);
+    rules(mode, text, t);
+    let x = word(t, 1);
+    let e = word(t, 2);
+    Counts {
+        symbols: n,
+        terminals: x,
+        expressions: e,
+    }
+}
+
+// The table of the grammar that the text is, and how many symbols, terminals and expressions it has.
+pub fn build(mode: Mode, text: &[u8], t: &mut Table) -> Counts
+    requires { ⌜ length (now text) ≤ 1048576 ⌝ }
+    ensures { λ r. ⌜ Built mode (now (text .entry)) (now (t .entry)) (now (t .exit)) r ⌝ }
+{
+    fill(mode, text, t)
 }
