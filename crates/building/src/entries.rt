@@ -7,6 +7,10 @@ ghost use Rattle.tokens.specs.Code.{literalFrom};
 ghost use Rattle.records.specs.Rows.{cap, seek, kept, Noted};
 ghost use Rattle.building.specs.Entries.{symbolAt, symbolRow, lakeOf, leafRow, bitOf, leafAt};
 ghost use Rattle.grammar.specs.Table.{wordsFrom};
+use grammar::SYMBOL;
+use grammar::SYMBOLS;
+use grammar::TERMINAL;
+use grammar::TERMINALS;
 use records::find;
 use records::least;
 use records::note;
@@ -68,7 +72,7 @@ pub fn note_symbol(text: &[u8], kind: u8, start: usize, size: usize, t: &mut [u3
     ensures { λ r. ⌜ Noted (now (t .entry)) (now (t .exit)) (symbolAt (now (text .entry)) kind start size) 0 3 42 8 r ⌝ }
 {
     let row = symbol_row(text, kind, start, size);
-    note(t, &row, 0, 3, 42, 8)
+    note(t, &row, 0, 3, SYMBOL, SYMBOLS)
 }
 
 // The number of a symbol that is used; the number of symbols where it is none of them.
@@ -79,7 +83,7 @@ pub fn symbol_number(text: &[u8], kind: u8, start: usize, size: usize, t: &[u32]
     let row = symbol_row(text, kind, start, size);
     let c = word(t, 0);
     let n = least(c, 64);
-    find(t, &row, 3, 42, 8, n)
+    find(t, &row, 3, SYMBOL, SYMBOLS, n)
 }
 
 // The record of a literal whose characters stand from `from` on. None that a text may have is longer than 256 bytes.
@@ -163,7 +167,7 @@ pub fn note_leaf(
     ensures { λ r. ⌜ Noted (now (t .entry)) (now (t .exit)) (leafAt mode (now (text .entry)) kind start size) 1 1 258 2696 r ⌝ }
 {
     let row = leaf_row(mode, text, kind, start, size);
-    note(t, &row, 1, 1, 258, 2696)
+    note(t, &row, 1, 1, TERMINAL, TERMINALS)
 }
 
 // "`.` is 0 always".
@@ -171,5 +175,5 @@ pub fn note_any(t: &mut [u32]) -> usize
     ensures { λ r. ⌜ Noted (now (t .entry)) (now (t .exit)) (replicate 258 0) 1 1 258 2696 r ⌝ }
 {
     let row = [0; 258];
-    note(t, &row, 1, 1, 258, 2696)
+    note(t, &row, 1, 1, TERMINAL, TERMINALS)
 }

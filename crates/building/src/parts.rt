@@ -3,8 +3,14 @@ ghost use Prim.Native.Nat.{_+_, _-_, _*_, _<_, _≤_};
 ghost use mathlib.Core.Path.{_≡_};
 ghost use lib.ListN.{getD};
 ghost use Rattle.building.specs.Entries.{pushed, bodied, prefixOp, suffixOp};
+use grammar::EXPRESSION;
+use grammar::EXPRESSIONS;
+use grammar::SYMBOL;
 use words::put;
 use words::word;
+
+// Where the body of symbol 0 stands: behind its kind.
+const BODIES: usize = grammar::SYMBOLS + 1;
 
 pub fn before(x: usize) -> usize
     ensures { λ r. ⌜ r ≡ x - 1 ⌝ }
@@ -22,7 +28,7 @@ pub fn add_part(t: &mut [u32], kind: usize, left: usize, right: usize)
 {
     let c = word(t, 2);
     if c < 1024 {
-        let b = 19208 + 3 * c;
+        let b = EXPRESSIONS + EXPRESSION * c;
         put(t, b, kind);
         put(t, b + 1, left);
         put(t, b + 2, right);
@@ -59,7 +65,7 @@ pub fn set_body(t: &mut [u32], k: usize)
 {
     if k < 64 {
         let c = word(t, 2);
-        put(t, 9 + 42 * k, c);
+        put(t, BODIES + SYMBOL * k, c);
     }
 }
 
