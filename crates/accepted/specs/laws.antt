@@ -1,0 +1,2 @@
+-- What the grammar of a text that refusals 1 to 5 let through has. Assumes nothing.
+pub mod Dot
