@@ -1,2 +1,3 @@
 -- What the grammar of a text that refusals 1 to 5 let through has. Assumes nothing.
 pub mod Dot
+pub mod Short
