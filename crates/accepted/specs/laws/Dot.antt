@@ -1,11 +1,10 @@
 -- `.` is terminal 0 of every grammar (01, Notation: "`.` is 0 always"). Assumes nothing.
-use Prim.Native.Nat.{ℕ, zero, suc, _<_}
+use Prim.Native.Nat.{_<_}
 use mathlib.Core.Path.{_≡_, refl}
-use mathlib.Core.Bool.{true, false}
-use mathlib.Core.List.{List, [], _∷_}
+use mathlib.Core.List.{List}
 use native.Mathlib.Omega.{arith}
 use lib.ListN.{length}
-use Rattle.tokens.specs.Token.{Leaf, any}
+use Rattle.tokens.specs.Token.{any}
 use Rattle.grammar.specs.Exp.{Rule}
 use Rattle.grammar.specs.Same.{sameLeaf, indexOf}
 use Rattle.grammar.specs.Numbers.{terminalsOf, numbered}

@@ -1,12 +1,12 @@
 -- The names of a text that refusal 3 lets through have at most 38 bytes, and its literals at most 256. Assumes nothing.
-use Prim.Native.Nat.{ℕ, _≤_, _<_}
+use Prim.Native.Nat.{ℕ, _≤_}
 use mathlib.Core.Path.{_≡_, refl, sym, ap, _∙_, subst}
 use mathlib.Core.Bool.{true, false}
 use mathlib.Core.List.{List, [], _∷_}
 use native.Mathlib.Omega.{arith}
-use lib.ListN.{length, getD}
+use lib.ListN.{getD}
 use Rattle.tokens.specs.declared.Mode.{Mode}
-use Rattle.tokens.specs.Token.{Symbol, name, lake, Leaf, any, literal, class, Tok}
+use Rattle.tokens.specs.Token.{Symbol, name, lake, Leaf, any, literal, class}
 use Rattle.tokens.specs.Tokens.{toks, lexemes}
 use Rattle.grammar.specs.Same.{sameSymbol, sameLeaf}
 use Rattle.grammar.specs.Syntax.{Rules, tokens}
