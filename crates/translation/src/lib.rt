@@ -1,0 +1,94 @@
+ghost use mathlib.Core.Path.{_≡_};
+ghost use mathlib.Core.Bool.{Bool, true, false};
+ghost use mathlib.Core.List.{List, [], _∷_};
+ghost use Prim.Native.Nat.{ℕ, _+_, _-_, _*_, _^_, _<_, _≤_};
+ghost use lib.ListN.{length, getD, set};
+ghost use Rattle.lakes.specs.Made.{lakeAt};
+ghost use Rattle.translation.specs.Skips.{Added, AddedSymbol, AddedTerminal, AddedSymbols, AddedTerminals, ChoiceTo, SkipTo, PlainTo};
+ghost use Rattle.translation.specs.Stepped.{PlainNext, PlainAll, SteppedTwo};
+
+// One alternative more, behind the first m; the choice that ends there began at o, and there is none where m is o (01, step 2: `s1 / .. / sn`).
+fn add(out: &mut [u32], op: usize, x: usize, o: usize, m: usize) -> usize
+    requires { ⌜ (op < 4294967296) × (x < 4294967296) × (m < 140737488355328) ⌝ }
+    ensures { λ u. ⌜ (u ≤ m + 2) × Added op x o (now (out .entry)) m (now (out .exit)) u ⌝ }
+{
+    lakes::put_part(out, m, op, x, 0);
+    if m == o {
+        return m + 1;
+    }
+    let l = lakes::cap(lakes::span(1, m));
+    let r = lakes::cap(m);
+    lakes::put_part(out, m + 1, 3, l, r);
+    m + 2
+}
+
+// Whether symbol i is a lake.
+fn is_lake(t: &[u32], i: usize) -> bool
+    requires { ⌜ i < 64 ⌝ }
+    ensures { λ u. ⌜ u ≡ lakeAt (now (t .entry)) i ⌝ }
+{
+    let k = words::word(t, grammar::SYMBOLS + grammar::SYMBOL * i);
+    k != 0
+}
+
+// Symbol i, if it is a nonterminal of the set: "Lakes in ALT(b) are dropped".
+fn add_symbol(t: &[u32], out: &mut [u32], s: [u64; 2], i: usize, o: usize, m: usize) -> usize
+    requires { ⌜ (i < 64) × (m < 140737488355328) ⌝ }
+    ensures { λ u. ⌜ (u ≤ m + 2) × AddedSymbol (now (t .entry)) s i o (now (out .entry)) m (now (out .exit)) u ⌝ }
+{
+    if !words::member(s, i) {
+        return m;
+    }
+    if is_lake(t, i) {
+        return m;
+    }
+    add(out, 1, i, o, m)
+}
+
+// Terminal i, if it is in the set.
+fn add_terminal(out: &mut [u32], s: [u64; 2], i: usize, o: usize, m: usize) -> usize
+    requires { ⌜ (i < 64) × (m < 140737488355328) ⌝ }
+    ensures { λ u. ⌜ (u ≤ m + 2) × AddedTerminal s i o (now (out .entry)) m (now (out .exit)) u ⌝ }
+{
+    if !words::member(s, 64 + i) {
+        return m;
+    }
+    add(out, 0, i, o, m)
+}
+
+// "the nonterminals of ALT(b) by number"
+fn add_symbols(t: &[u32], out: &mut [u32], s: [u64; 2], n: usize, o: usize) -> usize
+    requires { ⌜ (n ≤ 64) × (o < 70368744200000) ⌝ }
+    ensures { λ u. ⌜ (u ≤ o + 128) × AddedSymbols (now (t .entry)) s n o (now (out .entry)) (now (out .exit)) u ⌝ }
+{
+    let mut m = o;
+    let mut i: usize = 0;
+    while i < n {
+        m = add_symbol(t, out, s, i, o, m);
+        i += 1;
+    }
+    m
+}
+
+// "then its terminals by number"
+fn add_terminals(out: &mut [u32], s: [u64; 2], n: usize, o: usize, from: usize) -> usize
+    requires { ⌜ (n ≤ 64) × (from < 70368744300000) ⌝ }
+    ensures { λ u. ⌜ (u ≤ from + 128) × AddedTerminals s n o (now (out .entry)) from (now (out .exit)) u ⌝ }
+{
+    let mut m = from;
+    let mut i: usize = 0;
+    while i < n {
+        m = add_terminal(out, s, i, o, m);
+        i += 1;
+    }
+    m
+}
+
+// `s1 / .. / sn`
+fn choice(t: &[u32], out: &mut [u32], s: [u64; 2], r: usize, x: usize, m: usize) -> usize
+    requires { ⌜ (r ≤ 64) × (x ≤ 64) × (m < 70368744200000) ⌝ }
+    ensures { λ u. ⌜ (u ≤ m + 256) × ChoiceTo (now (t .entry)) s r x (now (out .entry)) m (now (out .exit)) u ⌝ }
+{
+    let p = add_symbols(t, out, s, r, m);
+    add_terminals(out, s, x, m, p)
+}
