@@ -92,3 +92,69 @@ fn choice(t: &[u32], out: &mut [u32], s: [u64; 2], r: usize, x: usize, m: usize)
     let p = add_symbols(t, out, s, r, m);
     add_terminals(out, s, x, m, p)
 }
+
+// `!(s1 / .. / sn) .`; "With n = 0 it is `b / .`".
+fn skip(t: &[u32], out: &mut [u32], s: [u64; 2], r: usize, x: usize, m: usize) -> usize
+    requires { ⌜ (r ≤ 64) × (x ≤ 64) × (m < 70368744200000) ⌝ }
+    ensures { λ u. ⌜ (u ≤ m + 259) × SkipTo (now (t .entry)) s r x (now (out .entry)) m (now (out .exit)) u ⌝ }
+{
+    let p = choice(t, out, s, r, x, m);
+    if p == m {
+        lakes::put_part(out, p, 0, 0, 0);
+        return p + 1;
+    }
+    let l = lakes::cap(lakes::span(1, p));
+    lakes::put_part(out, p, 8, l, 0);
+    lakes::put_part(out, p + 1, 0, 0, 0);
+    let a = lakes::cap(p);
+    let b = lakes::cap(p + 1);
+    lakes::put_part(out, p + 2, 2, a, b);
+    p + 3
+}
+
+// "Lake body b becomes `b / !(s1 / .. / sn) .`"
+fn lake_body(
+    t: &[u32],
+    out: &mut [u32],
+    s: [u64; 2],
+    r: usize,
+    x: usize,
+    a: usize,
+    b: usize,
+    m: usize,
+) -> usize
+    requires { ⌜ (r ≤ 64) × (x ≤ 64) × (a < 4294967296) × (b < 4294967296) × (m < 70364449210368) ⌝ }
+    ensures { λ u. ⌜ (u ≤ m + 4294967556) × PlainTo (now (t .entry)) true s r x a b (now (out .entry)) m (now (out .exit)) u ⌝ }
+{
+    let k = lakes::span(a, b);
+    lakes::copy_run(t, out, a, k, m);
+    let q = m + k;
+    let p = skip(t, out, s, r, x, q);
+    let l = lakes::cap(lakes::span(1, q));
+    let y = lakes::cap(lakes::span(1, p));
+    lakes::put_part(out, p, 3, l, y);
+    p + 1
+}
+
+// The plain body of one symbol, its intermediate body the run from a to b.
+fn body(
+    t: &[u32],
+    out: &mut [u32],
+    lake: bool,
+    s: [u64; 2],
+    r: usize,
+    x: usize,
+    a: usize,
+    b: usize,
+    m: usize,
+) -> usize
+    requires { ⌜ (r ≤ 64) × (x ≤ 64) × (a < 4294967296) × (b < 4294967296) × (m < 70364449210368) ⌝ }
+    ensures { λ u. ⌜ (u ≤ m + 4294967556) × PlainTo (now (t .entry)) lake s r x a b (now (out .entry)) m (now (out .exit)) u ⌝ }
+{
+    if lake {
+        return lake_body(t, out, s, r, x, a, b, m);
+    }
+    let k = lakes::span(a, b);
+    lakes::copy_run(t, out, a, k, m);
+    m + k
+}

@@ -16,6 +16,7 @@ use Rattle.sets.specs.laws.Parts.{size-pos, parts-long}
 use Rattle.lakes.specs.Runs.{stored, Grew, nil, Run, CopiedRun}
 use Rattle.lakes.specs.Made.{lakeAt}
 use Rattle.lakes.specs.laws.Stores.{grew-one, grew-none, grew-two, grew-as}
+use Rattle.lakes.specs.laws.Bodies.{dot, run, both}
 use Rattle.plain.specs.Plain.{plainBy}
 use Rattle.translation.specs.Skips.{choiceParts, onlyIf, each, symbolIn, terminalOf, chosenIn, Adds, Added, AddedSymbol, AddedTerminal, AddedSymbols, AddedTerminals, Numbered, ChoiceTo, SkipTo, PlainTo}
 
@@ -107,3 +108,48 @@ each-more number f i o m n k a b c p q = subst (λ (j : ℕ). Adds number (each 
 pub choice-done : (t s : List ℕ) (r x m p u : ℕ) (mid b c : List ℕ) → AddedSymbols t s r m mid b p → AddedTerminals s x m b p c u → ChoiceTo t s r x mid m c u
 choice-done t s r x m p u mid b c h k number leaf n w =
     adds-two number m m p u mid b c (each (symbolIn t s) r) (each (terminalOf leaf s) x) (h number) (k number leaf n) mid [] w (grew-none mid m)
+
+-- ---- `!(s1 / .. / sn) .`
+module _ (t s : List ℕ) (r x m p : ℕ) (mid b : List ℕ) (chosen : ChoiceTo t s r x mid m b p) where
+  pub skip-none : (c : List ℕ) → p ≡ m → c ≡ stored b p 0 0 0 → SkipTo t s r x mid m c (p + 1)
+  unfolding skipOf
+  skip-none c e put number leaf n z w = by (chosenIn t leaf s r x) (chosen number leaf n w)
+    where
+      by : (ss : List (Exp ℕ)) → Grew mid m (choiceParts number m ss) b p → Grew mid m (partsOf number m (skipOf ss)) c (p + 1)
+      by [] g = grew-as (grew-two mid b c m p (p + 1) [] (partsOf number p (ter any)) g (dot number b c p (g .long ∙ w) z put)) (ap (λ (i : ℕ). partsOf number i (ter any)) e) refl
+      by (y ∷ ss) g = let bad : ⊥ = omega (arith, g .count, parts-long number (choiceOf y ss) m, size-pos (choiceOf y ss)) in absurd bad
+
+  pub skip-some : (c d f : List ℕ) (l u v : ℕ) → (p ≡ m → ⊥) → (p - 1 < 4294967296 → l ≡ p - 1) → c ≡ stored b p 8 l 0 → d ≡ stored c (p + 1) 0 0 0 → (p < 4294967296 → u ≡ p) → (p + 1 < 4294967296 → v ≡ p + 1)
+      → f ≡ stored d (p + 2) 2 u v → SkipTo t s r x mid m f (p + 3)
+  unfolding skipOf partsOf partBy size
+  skip-some c d f l u v ne hl pc pd hu hv pf number leaf n z w = by (chosenIn t leaf s r x) (chosen number leaf n w)
+    where
+      by : (ss : List (Exp ℕ)) → Grew mid m (choiceParts number m ss) b p → Grew mid m (partsOf number m (skipOf ss)) f (p + 3)
+      by [] g = let bad : ⊥ = ne (omega (arith, g .count)) in absurd bad
+      by (y ∷ ss) g =
+          let C = choiceOf y ss in
+          let pp : p ≡ m + size C = g .count ∙ ap (λ (i : ℕ). m + i) (parts-long number C m) in
+          let pos : 0 < size C = size-pos C in
+          let D = denies (last m C) in
+          let S = sequence (m + suc (size C) - 1) (m + suc (size C) + 1 - 1) in
+          let one : Grew mid m (partsOf number m C ++ (D ∷ [])) c (p + 1)
+          = grew-two mid b c m p (p + 1) (partsOf number m C) (D ∷ []) g
+          (subst (λ (k : List ℕ). Grew b p (D ∷ []) k (p + 1)) (sym pc) (grew-one b p 8 l 0 D (g .long ∙ w) (λ k. ap denies (hl (omega arith) ∙ (let q : p - 1 ≡ m + size C - 1 = omega arith in q))))) in
+          let two : Grew c (p + 1) (terminal (number any) ∷ []) d (p + 1 + 1) = dot number c d (p + 1) (one .long ∙ w) z pd in
+          let pf′ : f ≡ stored d (p + 1 + 1) 2 u v = pf ∙ ap (λ (i : ℕ). stored d i 2 u v) (let q : p + 2 ≡ p + 1 + 1 = omega arith in q) in
+          let three : Grew d (p + 1 + 1) (S ∷ []) f (p + 1 + 1 + 1)
+          = subst (λ (k : List ℕ). Grew d (p + 1 + 1) (S ∷ []) k (p + 1 + 1 + 1)) (sym pf′) (grew-one d (p + 1 + 1) 2 u v S (two .long ∙ one .long ∙ w)
+          (λ k. ap₂ sequence (hu (omega arith) ∙ (let q : p ≡ m + suc (size C) - 1 = omega arith in q)) (hv (omega arith) ∙ (let q : p + 1 ≡ m + suc (size C) + 1 - 1 = omega arith in q)))) in
+          grew-as (grew-two mid c f m (p + 1) (p + 1 + 1 + 1) (partsOf number m C ++ (D ∷ [])) (terminal (number any) ∷ S ∷ []) one
+          (grew-two c d f (p + 1) (p + 1 + 1) (p + 1 + 1 + 1) (terminal (number any) ∷ []) (S ∷ []) two three)) refl (omega arith)
+
+-- ---- a symbol's plain body
+module _ (t s : List ℕ) (r x a b m k : ℕ) (mid c : List ℕ) (span : k ≡ b - a) (copied : CopiedRun t a k mid m c) where
+  pub plain-lake : (d f : List ℕ) (p l y : ℕ) → SkipTo t s r x c (m + k) d p → (m + k - 1 < 4294967296 → l ≡ m + k - 1) → (p - 1 < 4294967296 → y ≡ p - 1) → f ≡ stored d p 3 l y → PlainTo t true s r x a b mid m f (p + 1)
+  unfolding stepTwo
+  plain-lake d f p l y skips hl hy put number leaf e n z w q h =
+      let one : Grew mid m (partsOf number m e) c (m + k) = run number t mid c a k m b e w q span h copied in
+      both number mid c d f m k p l y e (skipOf (chosenIn t leaf s r x)) one (omega arith) (skips number leaf n z (one .long ∙ w)) w hl hy put
+
+  pub plain-other : PlainTo t false s r x a b mid m c (m + k)
+  plain-other number leaf e n z w q h = run number t mid c a k m b e w q span h copied
