@@ -20,7 +20,7 @@ pub record Once (g : Grammar) : Type 0 where
   pub each-its : (x : ℕ) → x < length (g .terminals) → terminalIn g (getD (g .terminals) x any) ≡ x
 
 -- t holds the intermediate grammar of g, and its ALT sets stand at the front of alts
-pub record Analysed (t : List ℕ) (alts : List (List ℕ)) (g : Grammar) : Type 0 where
+pub record Ready (t : List ℕ) (alts : List (List ℕ)) (g : Grammar) : Type 0 where
   pub holds : Holds t (middle g)
   pub proper : Proper g
   pub once : Once g
@@ -36,13 +36,13 @@ PlainMade t g s from m out = MadeOf t (middle g) (plainOf g) s from m out
 
 abbrev pub PlainNext : List ℕ → List (List ℕ) → ℕ → ℕ → ℕ → ℕ → ℕ → List ℕ → ℕ → ℕ → List ℕ → Type 0
 PlainNext t alts r x s from m out from′ m′ out′ =
-    (g : Grammar) → Analysed t alts g → r ≡ symbolCount t → x ≡ terminalCount t → s < symbolCount t → PlainMade t g s from m out → PlainMade t g (s + 1) from′ m′ out′
+    (g : Grammar) → Ready t alts g → r ≡ symbolCount t → x ≡ terminalCount t → s < symbolCount t → PlainMade t g s from m out → PlainMade t g (s + 1) from′ m′ out′
 
 abbrev pub PlainAll : List ℕ → List (List ℕ) → ℕ → ℕ → List ℕ → ℕ → List ℕ → Type 0
 PlainAll t alts r x out m out′ =
-    (g : Grammar) → Analysed t alts g → r ≡ symbolCount t → x ≡ terminalCount t → PlainMade t g 0 0 0 out → (from : ℕ) × PlainMade t g r from m out′
+    (g : Grammar) → Ready t alts g → r ≡ symbolCount t → x ≡ terminalCount t → PlainMade t g 0 0 0 out → (from : ℕ) × PlainMade t g r from m out′
 
 -- step 2: the number of plain expressions, at most 1,025, and up to 1,024 the table of the plain grammar
 abbrev pub SteppedTwo : List ℕ → List (List ℕ) → List ℕ → ℕ → Type 0
 SteppedTwo t alts out k =
-    (g : Grammar) → Analysed t alts g → Short g → (k ≡ min 1025 (total (plainOf g))) × (total (plainOf g) ≤ 1024 → Holds out (withBodies g (plainOf g)))
+    (g : Grammar) → Ready t alts g → Short g → (k ≡ min 1025 (total (plainOf g))) × (total (plainOf g) ≤ 1024 → Holds out (withBodies g (plainOf g)))

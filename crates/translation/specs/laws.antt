@@ -1,2 +1,4 @@
 -- Laws of the definitions beside this file.
 pub mod Skips
+pub mod Bodies
+pub mod Stepped

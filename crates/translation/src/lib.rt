@@ -158,3 +158,67 @@ fn body(
     lakes::copy_run(t, out, a, k, m);
     m + k
 }
+
+// The plain body of symbol s, its intermediate expressions from `from` on in t, behind the first m.
+fn symbol(
+    t: &[u32],
+    alts: &[[u64; 2]],
+    out: &mut [u32],
+    r: usize,
+    x: usize,
+    s: usize,
+    from: usize,
+    m: usize,
+) -> lakes::Reached
+    requires { ⌜ (r ≤ 64) × (x ≤ 64) × (s < 64) × (from < 4294967296) × (m < 70364449210368) ⌝ }
+    ensures { λ u. ⌜ (u .from < 4294967296) × (u .count ≤ m + 4294967556) × PlainNext (now (t .entry)) (now (alts .entry)) r x s from m (now (out .entry)) (u .from) (u .count) (now (out .exit)) ⌝ }
+{
+    let at = grammar::SYMBOLS + grammar::SYMBOL * s;
+    let kind = words::word(t, at);
+    let b = words::word(t, at + 1);
+    let e = lakes::span(1, b);
+    let alt = sets::set_at(alts, e);
+    let p = body(t, out, kind != 0, alt, r, x, from, b, m);
+    words::put(out, at + 1, lakes::cap(p));
+    let f = lakes::next_from(from, b);
+    lakes::Reached { from: f, count: p }
+}
+
+// The plain bodies of the first r symbols, one behind the other: how many expressions.
+fn build(t: &[u32], alts: &[[u64; 2]], out: &mut [u32], r: usize, x: usize) -> usize
+    requires { ⌜ (r ≤ 64) × (x ≤ 64) ⌝ }
+    ensures { λ u. ⌜ PlainAll (now (t .entry)) (now (alts .entry)) r x (now (out .entry)) u (now (out .exit)) ⌝ }
+{
+    let mut from: usize = 0;
+    let mut m: usize = 0;
+    let mut s: usize = 0;
+    while s < r {
+        let u = symbol(t, alts, out, r, x, s, from, m);
+        from = u.from;
+        m = u.count;
+        s += 1;
+    }
+    m
+}
+
+// Step 2 (01, Lakes made plain): the plain grammar of the intermediate grammar t and its ALT sets, into out. The number of its expressions, 1,025 where they
+// are more than 1,024.
+pub fn step_two(t: &grammar::Table, alts: &[[u64; 2]; 1024], out: &mut grammar::Table) -> usize
+    ensures { λ k. ⌜ SteppedTwo (now (t .entry)) (now (alts .entry)) (now (out .exit)) k ⌝ }
+{
+    let r = words::word(t, 0);
+    let x = words::word(t, 1);
+    if r > 64 {
+        return 1025;
+    }
+    if x > 64 {
+        return 1025;
+    }
+    lakes::copy_low(t, out);
+    let m = build(t, alts, out, r, x);
+    words::put(out, 2, lakes::cap(m));
+    if m > 1024 {
+        return 1025;
+    }
+    m
+}
