@@ -2,3 +2,5 @@
 pub mod Skips
 pub mod Bodies
 pub mod Stepped
+pub mod Once
+pub mod Refused
