@@ -24,7 +24,7 @@ use Rattle.matching.specs.Cells.{cells}
 use Rattle.matching.specs.Nodes.{Listing, all, deep, full, listOf, listingOf, wordsOf, roomOf}
 use Rattle.writing.specs.Writing.{text}
 use Rattle.gurkenmond.specs.declared.Verdict.{Verdict}
-use Rattle.gurkenmond.specs.declared.Read.{Read}
+use Rattle.gurkenmond.specs.declared.Counted.{Counted}
 use Rattle.gurkenmond.specs.declared.SetsOf.{SetsOf}
 use Rattle.gurkenmond.specs.declared.Lakes.{Lakes}
 use Rattle.gurkenmond.specs.declared.Match.{Match}
@@ -40,12 +40,12 @@ use Rattle.gurkenmond.specs.Answers.{verdictOf}
 -- in the words of the table: m the mode, t the grammar text, s the input, cs the work cells, ws the node words, out the output room
 
 -- ── read: refused 1 to 8, or the counts of the grammar as read ──
-abbrev pub readBy : Option Refusal → Prepared → Read
+abbrev pub readBy : Option Refusal → Prepared → Counted
 readBy (some r) p = record { symbols = 0; terminals = 0; expressions = 0; verdict = verdictOf (some r) }
 readBy none p =
     record { symbols = length (p .grammar .names); terminals = length (p .grammar .terminals); expressions = expressionsOf (p .rules); verdict = verdictOf none }
 
-unfoldable pub readOf : Mode → List ℕ → Read
+unfoldable pub readOf : Mode → List ℕ → Counted
 readOf m t = readBy (refuses m t) (prepared m t)
 
 -- ── sets: refused 1 to 8, then "14: no such expression, lake or position" ──

@@ -1,4 +1,5 @@
 pub mod Prepare
 pub mod Answers
 pub mod Calls
+pub mod Loads
 pub mod laws

@@ -1,5 +1,11 @@
 // The answers of the public calls (01, "An answer carries its kind with the numbers of that kind"): counts beside an enum.
 // What each case says in document 01's numbers is in specs/Answers.antt, what each call answers in specs/Calls.antt.
+ghost use mathlib.Core.Path.{_≡_};
+ghost use Rattle.tokens.specs.Bounds.{expressionBound};
+ghost use Rattle.gurkenmond.specs.Loads.{readUpTo6, Loads};
+ghost use Rattle.gurkenmond.specs.declared.Verdict.the-variants.{Refused as VerdictRefused};
+use grammar::Table;
+use tokens::Mode;
 
 // A grammar is accepted, or refused with number and place.
 pub enum Verdict {
@@ -7,7 +13,7 @@ pub enum Verdict {
     Refused { number: usize, place: usize },
 }
 
-pub struct Read {
+pub struct Counted {
     pub symbols: usize,
     pub terminals: usize,
     pub expressions: usize,
@@ -51,4 +57,61 @@ pub enum Way {
 pub enum Written {
     Bytes(usize),
     Refused { number: usize, place: usize },
+}
+
+fn refusal(number: usize, place: usize) -> Counted
+    ensures { λ r. ⌜ r ≡ record { symbols = 0; terminals = 0; expressions = 0; verdict = VerdictRefused number place } ⌝ }
+{
+    Counted {
+        symbols: 0,
+        terminals: 0,
+        expressions: 0,
+        verdict: Verdict::Refused {
+            number: number,
+            place: place,
+        },
+    }
+}
+
+fn expression_bound(mode: Mode) -> usize
+    ensures { λ r. ⌜ r ≡ expressionBound mode ⌝ }
+{
+    match mode {
+        Mode::Lake => 512,
+        Mode::Plain => 1024,
+    }
+}
+
+// Refusals 1 to 6, or the counts of a grammar, which the table then holds.
+fn load(mode: Mode, text: &[u8], t: &mut Table) -> Counted
+    ensures { λ r. ⌜ Loads mode (now (text .entry)) (now (t .entry)) (now (t .exit)) r ⌝ }
+{
+    let f = scanning::refused(mode, text);
+    if f.number != 0 {
+        return refusal(f.number, f.place);
+    }
+    let c = building::build(mode, text, t);
+    if 64 < c.symbols {
+        return refusal(6, 1);
+    }
+    if 64 < c.terminals {
+        return refusal(6, 2);
+    }
+    if expression_bound(mode) < c.expressions {
+        return refusal(6, 3);
+    }
+    Counted {
+        symbols: c.symbols,
+        terminals: c.terminals,
+        expressions: c.expressions,
+        verdict: Verdict::Accepted,
+    }
+}
+
+// A grammar text is accepted with its counts, or refused (01, Refusal numbers, 1 to 6).
+pub fn read(mode: Mode, text: &[u8]) -> Counted
+    ensures { λ r. ⌜ r ≡ readUpTo6 mode (now (text .entry)) ⌝ }
+{
+    let mut t: Table = [0; 22280];
+    load(mode, text, &mut t)
 }

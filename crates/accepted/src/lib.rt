@@ -1,0 +1,1 @@
+// What the grammar of every text that is read has: see specs/.

@@ -1,0 +1,4 @@
+pub mod Entries
+pub mod Lay
+pub mod Promises
+pub mod laws
