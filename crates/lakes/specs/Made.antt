@@ -2,7 +2,7 @@
 use Prim.Native.Nat.{ℕ, zero, suc, _+_, _-_, _*_, _≤_, _<_, min}
 use mathlib.Core.Path.{_≡_}
 use mathlib.Core.Bool.{Bool, true, false, not}
-use mathlib.Core.List.{List, [], _∷_}
+use mathlib.Core.List.{List, [], _∷_, map}
 use mathlib.Core.Option.{Option, none, some}
 use lib.ListN.{length, getD, take}
 use lib.Dec.{eqb}
@@ -26,14 +26,17 @@ nextBy from (suc b) = suc b
 abbrev pub lakeAt : List ℕ → ℕ → Bool
 lakeAt t r = not (eqb (symbolWord t r 0) 0)
 
--- the first r symbols are done: their expressions stand, and the words below the expressions are those of t but for the bodies' numbers
-pub record Made (t : List ℕ) (g : Grammar) (r from m : ℕ) (mid : List ℕ) : Type 0 where
+-- the first r symbols have their new bodies: the expressions stand, and the words below the expressions are those of t but for the bodies' numbers
+pub record MadeOf (t : List ℕ) (g : Grammar) (bodies : List (Exp ℕ)) (r from m : ℕ) (mid : List ℕ) : Type 0 where
   pub long : length mid ≡ tableWords
   pub from-is : from ≡ total (present (take r (g .rights)))
-  pub count : m ≡ total (take r (intermediate g))
-  pub parts : (j : ℕ) → j < m → j < 1024 → partIn mid j ≡ getD (partsAll (terminalIn g) 0 (intermediate g)) j nil
-  pub roots : (s : ℕ) → s < r → total (take (suc s) (intermediate g)) < 4294967296 → symbolWord mid s 1 ≡ total (take (suc s) (intermediate g))
+  pub count : m ≡ total (take r bodies)
+  pub parts : (j : ℕ) → j < m → j < 1024 → partIn mid j ≡ getD (partsAll (terminalIn g) 0 bodies) j nil
+  pub roots : (s : ℕ) → s < r → total (take (suc s) bodies) < 4294967296 → symbolWord mid s 1 ≡ total (take (suc s) bodies)
   pub low : (i : ℕ) → i < expressionsAt → ((s : ℕ) → s < r → i ≡ symbolsAt + symbolWords * s + 1 → ⊥) → getD mid i 0 ≡ getD t i 0
+
+abbrev pub Made : List ℕ → Grammar → ℕ → ℕ → ℕ → List ℕ → Type 0
+Made t g r from m mid = MadeOf t g (intermediate g) r from m mid
 
 abbrev pub MadeNext : List ℕ → ℕ → ℕ → ℕ → ℕ → ℕ → List ℕ → ℕ → ℕ → List ℕ → Type 0
 MadeNext t r wa wb from m mid from′ m′ mid′ =
@@ -56,6 +59,10 @@ leafSize (class m) = 0
 pub record Short (g : Grammar) : Type 0 where
   pub names : (r : ℕ) → r < length (g .names) → nameSize (getD (g .names) r (name [])) ≤ 38
   pub literals : (x : ℕ) → x < length (g .terminals) → leafSize (getD (g .terminals) x any) ≤ 256
+
+-- g with a body for each symbol
+abbrev pub withBodies : Grammar → List (Exp ℕ) → Grammar
+withBodies g bodies = record { names = g .names; rights = map some bodies; terminals = g .terminals }
 
 -- step 1: the number of intermediate expressions, at most 1,025, and up to 1,024 the table of the intermediate grammar
 abbrev pub SteppedOne : List ℕ → List ℕ → ℕ → Type 0

@@ -68,7 +68,7 @@ pub fn copy_run(t: &[u32], mid: &mut [u32], a: usize, k: usize, m: usize)
 }
 
 // b - a, and 0 where there is nothing between.
-fn span(a: usize, b: usize) -> usize
+pub fn span(a: usize, b: usize) -> usize
     ensures { λ u. ⌜ u ≡ b - a ⌝ }
 {
     if a < b {
@@ -78,7 +78,7 @@ fn span(a: usize, b: usize) -> usize
 }
 
 // A number as a word of a table.
-fn cap(m: usize) -> usize
+pub fn cap(m: usize) -> usize
     ensures { λ u. ⌜ (u < 4294967296) × (m < 4294967296 → u ≡ m) ⌝ }
 {
     if m < 4294967296 {
@@ -169,7 +169,7 @@ pub struct Reached {
     pub count: usize,
 }
 
-fn next_from(from: usize, b: usize) -> usize
+pub fn next_from(from: usize, b: usize) -> usize
     ensures { λ u. ⌜ u ≡ nextBy from b ⌝ }
 {
     if b == 0 {

@@ -17,13 +17,26 @@ use Rattle.lakes.specs.Runs.{stored, Grew, nil, Run, CopiedRun, BodyAt, 
 use Rattle.lakes.specs.laws.Stores.{grew-one, grew-two, grew-as}
 
 -- `.`, terminal 0
-dot : (number : Leaf → ℕ) (mid b : List ℕ) (m : ℕ) → length mid ≡ tableWords → number any ≡ 0 → b ≡ stored mid m 0 0 0 → Grew mid m (partsOf number m (ter any)) b (m + 1)
+pub dot : (number : Leaf → ℕ) (mid b : List ℕ) (m : ℕ) → length mid ≡ tableWords → number any ≡ 0 → b ≡ stored mid m 0 0 0 → Grew mid m (partsOf number m (ter any)) b (m + 1)
 unfolding partsOf partBy
 dot number mid b m w z e = subst (λ (x : List ℕ). Grew mid m (terminal (number any) ∷ []) x (m + 1)) (sym e) (grew-one mid m 0 0 0 (terminal (number any)) w (λ h. ap terminal (sym z)))
 
 -- a body's run, copied
-run : (number : Leaf → ℕ) (t mid b : List ℕ) (a k m j : ℕ) (e : Exp ℕ) → length mid ≡ tableWords → j ≡ a + size e → k ≡ j - a → Run number t a e → CopiedRun t a k mid m b → Grew mid m (partsOf number m e) b (m + k)
+pub run : (number : Leaf → ℕ) (t mid b : List ℕ) (a k m j : ℕ) (e : Exp ℕ) → length mid ≡ tableWords → j ≡ a + size e → k ≡ j - a → Run number t a e → CopiedRun t a k mid m b → Grew mid m (partsOf number m e) b (m + k)
 run number t mid b a k m j e w p q h c = c number e (omega arith) w h
+
+-- `o / W` behind o and W
+pub both : (number : Leaf → ℕ) (mid c d f : List ℕ) (m k p x y : ℕ) (o W : Exp ℕ) → Grew mid m (partsOf number m o) c (m + k) → k ≡ size o → Grew c (m + k) (partsOf number (m + k) W) d p → length mid ≡ tableWords
+    → (m + k - 1 < 4294967296 → x ≡ m + k - 1) → (p - 1 < 4294967296 → y ≡ p - 1) → f ≡ stored d p 3 x y → Grew mid m (partsOf number m (alt o W)) f (p + 1)
+unfolding partsOf partBy
+both number mid c d f m k p x y o W one kk two l hx hy s =
+    let pp : p ≡ m + k + size W = two .count ∙ ap (λ (i : ℕ). m + k + i) (parts-long number W (m + k)) in
+    let C = choice (last m o) (last (m + size o) W) in
+    let three : Grew d p (C ∷ []) f (p + 1)
+    = subst (λ (v : List ℕ). Grew d p (C ∷ []) v (p + 1)) (sym s) (grew-one d p 3 x y C (two .long ∙ one .long ∙ l)
+    (λ v. ap₂ choice (hx (omega arith) ∙ (let r : m + k - 1 ≡ m + size o - 1 = omega arith in r)) (hy (omega arith) ∙ (let r : p - 1 ≡ m + size o + size W - 1 = omega arith in r)))) in
+    grew-as (grew-two mid c f m (m + k) (p + 1) (partsOf number m o) (partsOf number (m + k) W ++ (C ∷ [])) one (grew-two c d f (m + k) p (p + 1) (partsOf number (m + k) W) (C ∷ []) two three))
+    (ap (λ (i : ℕ). partsOf number m o ++ (partsOf number i W ++ (C ∷ []))) (let r : m + k ≡ m + size o = omega arith in r)) refl
 
 module _ (t mid : List ℕ) (wa wb m : ℕ) where
   -- `!.`
@@ -56,13 +69,7 @@ module _ (t mid : List ℕ) (a b wa wb m : ℕ) where
       let one : Grew mid m (partsOf number m o) c (m + k) = run number t mid c a k m b o l (q .0) e (q .1) g in
       let kk : k ≡ size o = omega (arith, q .0) in
       let two : Grew c (m + k) (partsOf number (m + k) W) d p = h number w (one .long ∙ l) z u in
-      let pp : p ≡ m + k + size W = two .count ∙ ap (λ (i : ℕ). m + k + i) (parts-long number W (m + k)) in
-      let C = choice (last m o) (last (m + size o) W) in
-      let three : Grew d p (C ∷ []) f (p + 1)
-      = subst (λ (v : List ℕ). Grew d p (C ∷ []) v (p + 1)) (sym s) (grew-one d p 3 x y C (two .long ∙ one .long ∙ l)
-      (λ v. ap₂ choice (hx (omega arith) ∙ (let r : m + k - 1 ≡ m + size o - 1 = omega arith in r)) (hy (omega arith) ∙ (let r : p - 1 ≡ m + size o + size W - 1 = omega arith in r)))) in
-      grew-as (grew-two mid c f m (m + k) (p + 1) (partsOf number m o) (partsOf number (m + k) W ++ (C ∷ [])) one (grew-two c d f (m + k) p (p + 1) (partsOf number (m + k) W) (C ∷ []) two three))
-      (ap (λ (i : ℕ). partsOf number m o ++ (partsOf number i W ++ (C ∷ []))) (let r : m + k ≡ m + size o = omega arith in r)) refl
+      both number mid c d f m k p x y o W one kk two l hx hy s
 
   pub plain-none : (c : List ℕ) → b ≡ 0 → c ≡ stored mid m 0 0 0 → BodyTo t false a b wa wb mid m c (m + 1)
   plain-none c e f number w none l z p q = dot number mid c m l z f

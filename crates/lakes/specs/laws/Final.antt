@@ -21,12 +21,12 @@ use mathlib.Core.Logic.{_⊎_, ⊎-elim}
 use Rattle.sets.specs.laws.Lists.{upTo-at, upTo-long, is-upTo, upTo-same, same?}
 use Rattle.sets.specs.laws.Parts.{total, size-pos, all-long, present-some, from-long as some-long}
 use Rattle.lakes.specs.Runs.{nil}
-use Rattle.lakes.specs.Made.{Made, Short, nameSize, leafSize, WaterAt, BuiltAll, SteppedOne}
+use Rattle.lakes.specs.Made.{Made, MadeOf, withBodies, Short, nameSize, leafSize, WaterAt, BuiltAll, SteppedOne}
 use Rattle.lakes.specs.laws.Next.{middle-long, name-at, names-is}
 
-pub made-start : (t : List ℕ) (g : Grammar) (mid : List ℕ) → length mid ≡ tableWords → ((i : ℕ) → i < expressionsAt → getD mid i 0 ≡ getD t i 0) → Made t g 0 0 0 mid
+pub made-start : (t : List ℕ) (g : Grammar) (bodies : List (Exp ℕ)) (mid : List ℕ) → length mid ≡ tableWords → ((i : ℕ) → i < expressionsAt → getD mid i 0 ≡ getD t i 0) → MadeOf t g bodies 0 0 0 mid
 unfolding total present
-made-start t g mid long low = record {
+made-start t g bodies mid long low = record {
   long = long;
   from-is = refl;
   count = refl;
@@ -74,14 +74,14 @@ total-le [] (suc s) = omega arith
 total-le (e ∷ es) zero = omega arith
 total-le (e ∷ es) (suc s) = omega (arith, total-le es s)
 
-module _ (t : List ℕ) (g : Grammar) (h : Holds t g) (short : Short g) (from m v : ℕ) (mid : List ℕ) (made : Made t g (symbolCount t) from m mid) (ev : m < 4294967296 → v ≡ m) where
+module _ (t : List ℕ) (g : Grammar) (bodies : List (Exp ℕ)) (h : Holds t g) (long : length bodies ≡ symbolCount t) (short : Short g) (from m v : ℕ) (mid : List ℕ) (made : MadeOf t g bodies (symbolCount t) from m mid) (ev : m < 4294967296 → v ≡ m) where
   abbrev out : List ℕ
   out = set mid 2 v
 
-  bodies-all : take (symbolCount t) (intermediate g) ≡ intermediate g
-  bodies-all = take-all (symbolCount t) (intermediate g) (omega (arith, middle-long t g h))
+  bodies-all : take (symbolCount t) bodies ≡ bodies
+  bodies-all = take-all (symbolCount t) bodies (omega (arith, long))
 
-  pub count-is : m ≡ total (intermediate g)
+  pub count-is : m ≡ total bodies
   count-is = made .count ∙ ap total bodies-all
 
   kept : (i : ℕ) → i < expressionsAt → (i ≡ 2 → ⊥) → ((s : ℕ) → s < symbolCount t → i ≡ symbolsAt + symbolWords * s + 1 → ⊥) → getD out i 0 ≡ getD t i 0
@@ -145,11 +145,11 @@ module _ (t : List ℕ) (g : Grammar) (h : Holds t g) (short : Short g) (from m 
       word : (w : ℕ) → w < 3 → getD out (expressionsAt + 3 * j + w) 0 ≡ getD mid (expressionsAt + 3 * j + w) 0
       word w k = getD-set-other mid 2 (expressionsAt + 3 * j + w) v 0 (λ e. let z : ⊥ = omega arith in z)
 
-  module _ (fits : total (intermediate g) ≤ 1024) where
+  module _ (fits : total bodies ≤ 1024) where
     expressions : expressionCount out ≡ m
     expressions = getD-set-same mid 2 v 0 (omega (arith, made .long)) ∙ ev (omega (arith, count-is))
 
-    pub finished : Holds out (middle g)
+    pub finished : Holds out (withBodies g bodies)
     unfolding partsIn rootsIn
     finished = record {
       long = length-set mid 2 v ∙ made .long;
@@ -159,12 +159,12 @@ module _ (t : List ℕ) (g : Grammar) (h : Holds t g) (short : Short g) (from m 
       names = ap (upTo (nameIn out)) symbols ∙ upTo-same (name []) (nameIn out) (nameIn t) (symbolCount t) name-same ∙ h .names;
       terminals = ap (upTo (leafIn out)) terminals ∙ upTo-same any (leafIn out) (leafIn t) (terminalCount t) leaf-same ∙ h .terminals;
       parts = ap (upTo (partIn out)) (expressions ∙ count-is)
-          ∙ sym (ap (partsAll (terminalIn g) 0) (present-some (intermediate g)) ∙ is-upTo nil (partIn out) (partsAll (terminalIn g) 0 (intermediate g)) (total (intermediate g)) (all-long (terminalIn g) (intermediate g) 0)
+          ∙ sym (ap (partsAll (terminalIn g) 0) (present-some bodies) ∙ is-upTo nil (partIn out) (partsAll (terminalIn g) 0 bodies) (total bodies) (all-long (terminalIn g) bodies 0)
           (λ i l. sym (part-same i ∙ made .parts i (omega (arith, count-is)) (omega arith))));
       roots = ap (upTo (λ r. symbolWord out r 1)) symbols
-          ∙ sym (is-upTo 0 (λ r. symbolWord out r 1) (rootsFrom 0 (map some (intermediate g))) (symbolCount t) (some-long (intermediate g) 0 ∙ middle-long t g h)
-          (λ s l. let f : total (take (suc s) (intermediate g)) ≤ total (intermediate g) = total-le (intermediate g) (suc s) in
-          roots-end (intermediate g) 0 s (omega (arith, middle-long t g h)) ∙ (let q : 0 + total (take (suc s) (intermediate g)) ≡ total (take (suc s) (intermediate g)) = omega arith in q)
+          ∙ sym (is-upTo 0 (λ r. symbolWord out r 1) (rootsFrom 0 (map some bodies)) (symbolCount t) (some-long bodies 0 ∙ long)
+          (λ s l. let f : total (take (suc s) bodies) ≤ total bodies = total-le bodies (suc s) in
+          roots-end bodies 0 s (omega (arith, long)) ∙ (let q : 0 + total (take (suc s) bodies) ≡ total (take (suc s) bodies) = omega arith in q)
           ∙ sym (getD-set-other mid 2 (symbolsAt + symbolWords * s + 1) v 0 (λ e. let z : ⊥ = omega arith in z) ∙ made .roots s l (omega arith))));
     }
 
@@ -172,11 +172,11 @@ module _ (t : List ℕ) (g : Grammar) (h : Holds t g) (short : Short g) (from m 
 pub stepped : (t mid low built out : List ℕ) (r a b m v k : ℕ) → r ≡ symbolCount t → length mid ≡ tableWords → length low ≡ length mid → ((i : ℕ) → i < expressionsAt → i < length mid → getD low i 0 ≡ getD t i 0)
     → WaterAt t r a b → BuiltAll t r a b low m built → (m < 4294967296 → v ≡ m) → out ≡ set built 2 v → k ≡ min 1025 m → SteppedOne t out k
 stepped t mid low built out r a b m v k er long same copied wat all ev eo ek g h z short =
-    let start : Made t g 0 0 0 low = made-start t g low (same ∙ long) (λ i l. copied i l (omega arith)) in
+    let start : Made t g 0 0 0 low = made-start t g (intermediate g) low (same ∙ long) (λ i l. copied i l (omega arith)) in
     let res = all g h z er (wat g h er) start in
     let made : Made t g (symbolCount t) (res .0) m built = subst (λ (y : ℕ). Made t g y (res .0) m built) er (res .1) in (
-      ek ∙ ap (min 1025) (count-is t g h short (res .0) m v built made ev),
-      λ fits. subst (λ (x : List ℕ). Holds x (middle g)) (sym eo) (finished t g h short (res .0) m v built made ev fits),
+      ek ∙ ap (min 1025) (count-is t g (intermediate g) h (middle-long t g h) short (res .0) m v built made ev),
+      λ fits. subst (λ (x : List ℕ). Holds x (middle g)) (sym eo) (finished t g (intermediate g) h (middle-long t g h) short (res .0) m v built made ev fits),
     )
 
 pub copied-more : (t mid : List ℕ) (i j n : ℕ) → length mid ≡ n → ((k : ℕ) → k < i → k < n → getD mid k 0 ≡ getD t k 0) → j < i + 1 → j < n → getD (set mid i (getD t i 0)) j 0 ≡ getD t j 0

@@ -22,7 +22,7 @@ use Rattle.sets.specs.Analysis.{terminalIn}
 use Rattle.sets.specs.laws.Lists.{below?, same?, upTo-at, upTo-long}
 use Rattle.sets.specs.laws.Parts.{total, size-pos, parts-long, all-long}
 use Rattle.lakes.specs.Runs.{nil, Run, Grew, BodyAt, BodyTo}
-use Rattle.lakes.specs.Made.{nextBy, lakeAt, Made}
+use Rattle.lakes.specs.Made.{nextBy, lakeAt, Made, MadeOf}
 
 -- ---- lists
 pub total-next : (es : List (Exp ℕ)) (s : ℕ) (d : Exp ℕ) → s < length es → total (take (suc s) es) ≡ total (take s es) + size (getD es s d)
@@ -161,19 +161,12 @@ part-low mid r v j h =
     same : (w : ℕ) → w < 3 → getD (set mid (symbolsAt + symbolWords * r + 1) v) (expressionsAt + 3 * j + w) 0 ≡ getD mid (expressionsAt + 3 * j + w) 0
     same w k = getD-set-other mid (symbolsAt + symbolWords * r + 1) (expressionsAt + 3 * j + w) v 0 (λ e. let z : ⊥ = omega arith in z)
 
-pub made-next : (t : List ℕ) (r wa wb from m b p v : ℕ) (mid one mid′ : List ℕ) → r < 64 → b ≡ symbolWord t r 1 → BodyTo t (lakeAt t r) from b wa wb mid m one p → (p < 4294967296 → v ≡ p) → mid′ ≡ set one (symbolsAt + symbolWords * r + 1) v
-    → (g : Grammar) → Holds t g → terminalIn g any ≡ 0 → r < symbolCount t → BodyAt (terminalIn g) t wa wb (waterIn g) → Made t g r from m mid → Made t g (r + 1) (nextBy from b) p mid′
-unfolding intermediate
-made-next t r wa wb from m b p v mid one mid′ small eb to ev es g h z l wat old =
+-- a new body for symbol r
+pub made-more : (t : List ℕ) (bodies : List (Exp ℕ)) (r from m b p v : ℕ) (mid one mid′ : List ℕ) → r < 64 → b ≡ symbolWord t r 1 → (p < 4294967296 → v ≡ p) → mid′ ≡ set one (symbolsAt + symbolWords * r + 1) v
+    → (g : Grammar) → Holds t g → length bodies ≡ symbolCount t → r < symbolCount t → Grew mid m (partsOf (terminalIn g) m (getD bodies r (ter any))) one p → MadeOf t g bodies r from m mid → MadeOf t g bodies (r + 1) (nextBy from b) p mid′
+made-more t bodies r from m b p v mid one mid′ small eb ev es g h len l gr old =
     let number = terminalIn g in
-    let w = waterIn g in
-    let o = getD (g .rights) r none in
-    let bodies = intermediate g in
-    let len : length bodies ≡ symbolCount t = middle-long t g h in
-    let ba : BodyAt number t from b o = subst (λ (i : ℕ). BodyAt number t i b o) (sym (old .from-is)) (subst (λ (y : ℕ). BodyAt number t (total (present (take r (g .rights)))) y o) (sym eb) (body-at t g h r l)) in
     let E = getD bodies r (ter any) in
-    let isE : bodyBy (lakeAt t r) w o ≡ E = sym (bodies-at w (g .names) (g .rights) r (omega (arith, names-is t g h)) (omega (arith, rights-is t g h)) ∙ ap (λ (x : Bool). bodyBy x w o) (lake-at t g h r l)) in
-    let gr : Grew mid m (partsOf number m E) one p = subst (λ (e : Exp ℕ). Grew mid m (partsOf number m e) one p) isE (to number w o (old .long) z wat ba) in
     let cnt : p ≡ total (take (r + 1) bodies)
     = gr .count ∙ ap₂ _+_ (old .count) (parts-long number E m) ∙ sym (ap (λ (i : ℕ). total (take i bodies)) (add-one r) ∙ total-next bodies r (ter any) (omega arith)) in
     record {
@@ -203,6 +196,20 @@ made-next t r wa wb from m b p v mid one mid′ small eb to ev es g h z l wat ol
           ∙ getD-set-other one (symbolsAt + symbolWords * r + 1) i v 0 (apart r (omega arith))
           ∙ gr .low i il ∙ old .low i il (λ s sl. apart s (omega arith));
     }
+
+pub made-next : (t : List ℕ) (r wa wb from m b p v : ℕ) (mid one mid′ : List ℕ) → r < 64 → b ≡ symbolWord t r 1 → BodyTo t (lakeAt t r) from b wa wb mid m one p → (p < 4294967296 → v ≡ p) → mid′ ≡ set one (symbolsAt + symbolWords * r + 1) v
+    → (g : Grammar) → Holds t g → terminalIn g any ≡ 0 → r < symbolCount t → BodyAt (terminalIn g) t wa wb (waterIn g) → Made t g r from m mid → Made t g (r + 1) (nextBy from b) p mid′
+unfolding intermediate
+made-next t r wa wb from m b p v mid one mid′ small eb to ev es g h z l wat old =
+    let number = terminalIn g in
+    let w = waterIn g in
+    let o = getD (g .rights) r none in
+    let bodies = intermediate g in
+    let ba : BodyAt number t from b o = subst (λ (i : ℕ). BodyAt number t i b o) (sym (old .from-is)) (subst (λ (y : ℕ). BodyAt number t (total (present (take r (g .rights)))) y o) (sym eb) (body-at t g h r l)) in
+    let E = getD bodies r (ter any) in
+    let isE : bodyBy (lakeAt t r) w o ≡ E = sym (bodies-at w (g .names) (g .rights) r (omega (arith, names-is t g h)) (omega (arith, rights-is t g h)) ∙ ap (λ (x : Bool). bodyBy x w o) (lake-at t g h r l)) in
+    let gr : Grew mid m (partsOf number m E) one p = subst (λ (e : Exp ℕ). Grew mid m (partsOf number m e) one p) isE (to number w o (old .long) z wat ba) in
+    made-more t bodies r from m b p v mid one mid′ small eb ev es g h (middle-long t g h) l gr old
 
 pub positive : (from b : ℕ) → (b ≡ 0 → ⊥) → nextBy from b ≡ b
 positive from zero h = absurd (h refl)

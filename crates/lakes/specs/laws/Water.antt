@@ -89,7 +89,7 @@ water-is t s =
     ∙ sym (by-kind (word (at + 0)) (119 ∷ 97 ∷ 116 ∷ 101 ∷ 114 ∷ []) (wordsFrom t i (word (at + 3))) ∙ ap (λ (b : Bool). eqb 0 (word (at + 0)) && b) (bytes-five t i (word (at + 3))))
 
 -- ---- the first of a list
-index-at : {A : Type 0} (same : A → A → Bool) (x d : A) (l : List A) (s : ℕ) → s < length l → ((j : ℕ) → j < s → same x (getD l j d) ≡ false) → same x (getD l s d) ≡ true → indexOf same x l ≡ s
+pub index-at : {A : Type 0} (same : A → A → Bool) (x d : A) (l : List A) (s : ℕ) → s < length l → ((j : ℕ) → j < s → same x (getD l j d) ≡ false) → same x (getD l s d) ≡ true → indexOf same x l ≡ s
 unfolding indexOf
 index-at same x d [] s h f e = let z : ⊥ = omega arith in absurd z
 index-at same x d (y ∷ l) zero h f e = ap (λ (b : Bool). cond b 0 (suc (indexOf same x l))) e

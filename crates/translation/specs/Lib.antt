@@ -1,0 +1,3 @@
+pub mod Skips
+pub mod Stepped
+pub mod laws
