@@ -4,3 +4,4 @@ pub mod Short
 pub mod Full
 pub mod There
 pub mod Rights
+pub mod Terminals

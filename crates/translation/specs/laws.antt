@@ -4,3 +4,4 @@ pub mod Bodies
 pub mod Stepped
 pub mod Once
 pub mod Refused
+pub mod Proper
