@@ -2,3 +2,4 @@
 pub mod First
 pub mod Loops
 pub mod Order
+pub mod Tables
