@@ -1,3 +1,4 @@
 -- Laws of the definitions beside this file.
 pub mod Order
 pub mod Loads
+pub mod Translates

@@ -2,7 +2,7 @@
 // What each case says in document 01's numbers is in specs/Answers.antt, what each call answers in specs/Calls.antt.
 ghost use mathlib.Core.Path.{_≡_};
 ghost use Rattle.tokens.specs.Bounds.{expressionBound};
-ghost use Rattle.gurkenmond.specs.Loads.{readUpTo6, Loads};
+ghost use Rattle.gurkenmond.specs.Loads.{readUpTo6, Loads, Translated};
 ghost use Rattle.gurkenmond.specs.declared.Verdict.the-variants.{Refused as VerdictRefused};
 use grammar::Table;
 use tokens::Mode;
@@ -106,6 +106,31 @@ fn load(mode: Mode, text: &[u8], t: &mut Table) -> Counted
         expressions: c.expressions,
         verdict: Verdict::Accepted,
     }
+}
+
+// The intermediate grammar with its sets and the plain grammar of a table; how many expressions the plain one has, 1,025 for more than 1,024.
+fn translate(
+    t: &Table,
+    mid: &mut Table,
+    out: &mut Table,
+    marks: &mut [bool; 64],
+    sets: &mut [[u64; 2]; 1024],
+    eps: &mut [bool; 1024],
+    succ: &mut [[u64; 2]; 1024],
+    alts: &mut [[u64; 2]; 1024],
+    base: &mut [[u64; 2]; 1024],
+    next: &mut [[u64; 2]; 1024],
+    src: &mut [usize; 2048],
+    dst: &mut [usize; 2048],
+) -> usize
+    ensures { λ k. ⌜ Translated (now (t .entry)) (now (out .exit)) k ⌝ }
+{
+    let n = lakes::step_one(t, mid);
+    if 1024 < n {
+        return n;
+    }
+    let rounds = analysis::analyse_table(mid, marks, sets, eps, succ, alts, base, next, src, dst);
+    translation::step_two(mid, alts, out)
 }
 
 // A grammar text is accepted with its counts, or refused (01, Refusal numbers, 1 to 6).
