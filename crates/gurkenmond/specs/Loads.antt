@@ -1,6 +1,7 @@
 -- A grammar text read into a table, up to refusal 6 (01, Refusal numbers). Assumes nothing: these are definitions.
 use Prim.Native.Nat.{ℕ, _≤_, _<_}
 use mathlib.Core.Path.{_≡_}
+use mathlib.Core.Bool.{Bool, true, false}
 use mathlib.Core.List.{List}
 use mathlib.Core.Option.{none, some}
 use lib.ListN.{length}
@@ -16,12 +17,18 @@ use Rattle.plain.specs.Plain.{tooLarge}
 use Rattle.translation.specs.Stepped.{Once, plainOf}
 use Rattle.translation.specs.laws.Proper.{NoneEmpty}
 use Rattle.gurkenmond.specs.declared.Counted.{Counted}
+use Rattle.gurkenmond.specs.declared.Verdict.{Verdict}
+use Rattle.gurkenmond.specs.declared.Verdict.the-variants.{Accepted, Refused as VerdictRefused}
 use Rattle.gurkenmond.specs.Prepare.{prepared}
 use Rattle.gurkenmond.specs.Calls.{readBy}
 
 -- refused 1 to 6, or the counts of the grammar as read
 unfoldable pub readUpTo6 : Mode → List ℕ → Counted
 readUpTo6 m t = readBy (refusesText m t) (prepared m t)
+
+abbrev pub isRefused : Verdict → Bool
+isRefused Accepted = false
+isRefused (VerdictRefused n p) = true
 
 -- that answer, and a table that holds the grammar of a text that is accepted
 pub record Loads (m : Mode) (s old new : List ℕ) (r : Counted) : Type 0 where

@@ -2,3 +2,4 @@
 pub mod Order
 pub mod Loads
 pub mod Translates
+pub mod Reads
