@@ -42,3 +42,7 @@ pub record AllMarks (t : List ℕ) (n : ℕ) (marks : List Bool) : Type 0 where
 -- of the n symbols of a table that holds a grammar with these bodies
 pub record Looped (t : List ℕ) (n at : ℕ) : Type 0 where
   pub is : (g : Grammar) (bodies : List (Exp ℕ)) → Holds t (withBodies g bodies) → SoundAll (terminalIn g) (length (g .names)) (length (g .terminals)) bodies → n ≡ length bodies → at ≡ placed (length bodies) (loop bodies)
+
+-- of a table that holds a grammar with these bodies
+pub record LoopedAll (t : List ℕ) (at : ℕ) : Type 0 where
+  pub is : (g : Grammar) (bodies : List (Exp ℕ)) → Holds t (withBodies g bodies) → SoundAll (terminalIn g) (length (g .names)) (length (g .terminals)) bodies → at ≡ placed (length bodies) (loop bodies)

@@ -4,7 +4,8 @@ ghost use mathlib.Core.Path.{_≡_};
 ghost use mathlib.Core.Bool.{Bool, true, false};
 ghost use mathlib.Core.List.{List};
 ghost use lib.ListN.{length, getD, replicate};
-ghost use Rattle.loops.specs.Marks.{Round, AllMarks, Looped};
+ghost use Rattle.loops.specs.Marks.{Round, AllMarks, Looped, LoopedAll};
+ghost use Rattle.grammar.specs.Table.{symbolCount};
 
 fn unmark(marks: &mut [bool])
     ensures { λ u. ⌜ now (marks .exit) ≡ replicate (length (now (marks .entry))) false ⌝ }
@@ -63,4 +64,30 @@ pub fn loop_in(t: &[u32], marks: &mut [bool], next: &mut [bool], calls: &mut [u6
     mark_all(t, marks, next);
     calls::calls_of(t, marks, calls);
     calls::loop_at(calls)
+}
+
+// The same at the front of longer runs.
+fn loop_front(
+    t: &[u32],
+    n: usize,
+    marks: &mut [bool],
+    next: &mut [bool],
+    calls: &mut [u64],
+) -> usize
+    requires { ⌜ (n ≤ 64) × (n ≤ length (now marks)) × (n ≤ length (now next)) × (n ≤ length (now calls)) ⌝ }
+    ensures { λ z. ⌜ Looped (now (t .entry)) n z ⌝ }
+{
+    loop_in(t, &mut marks[..n], &mut next[..n], &mut calls[..n])
+}
+
+// Of all symbols of a table.
+pub fn table_loop(t: &[u32]) -> usize
+    requires { ⌜ symbolCount (now t) ≤ 64 ⌝ }
+    ensures { λ z. ⌜ LoopedAll (now (t .entry)) z ⌝ }
+{
+    let mut marks = [false; 64];
+    let mut next = [false; 64];
+    let mut calls: [u64; 64] = [0; 64];
+    let n = words::word(t, 0);
+    loop_front(t, n, &mut marks, &mut next, &mut calls)
 }

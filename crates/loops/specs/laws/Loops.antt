@@ -21,8 +21,8 @@ use Rattle.plain.specs.Calls.{firstCalls, callsOf, loopFrom, loop}
 use Rattle.filling.specs.Trees.{treeOf}
 use Rattle.calls.specs.Firsts.{AllFirsts}
 use Rattle.calls.specs.Place.{placed}
-use Rattle.loops.specs.Marks.{emptyRound, SoundIn, AllMarks, Looped}
-use Rattle.loops.specs.laws.Trees.{trees-are}
+use Rattle.loops.specs.Marks.{emptyRound, SoundIn, AllMarks, Looped, LoopedAll}
+use Rattle.loops.specs.laws.Trees.{bodies-are, trees-are}
 
 sound-at : (number : Leaf → ℕ) (r x : ℕ) (es : List (Exp ℕ)) (d : Exp ℕ) → SoundAll number r x es → (i : ℕ) → i < length es → Sound number r x (getD es i d)
 sound-at number r x [] d h i l = let z : ⊥ = omega arith in absurd z
@@ -74,3 +74,7 @@ module _ (t : List ℕ) (g : Grammar) (bodies : List (Exp ℕ)) (h : Holds t (wi
 pub looped : (t : List ℕ) (n m at : ℕ) (ms : List Bool) (calls : List ℕ) → m ≡ n → AllMarks t m ms → AllFirsts t (marked ms) n calls → at ≡ placed (length calls) (loopFrom calls (length calls) 0) → Looped t n at
 looped t n m at ms calls q a c z =
     record { is = λ g bodies h sound e. z ∙ loop-of t g bodies h sound n e calls (calls-are t g bodies h sound n e ms calls (subst (λ (k : ℕ). AllMarks t k ms) q a) c) }
+
+-- as many symbols as the table has
+pub looped-all : (t : List ℕ) (n at : ℕ) → n ≡ symbolCount t → Looped t n at → LoopedAll t at
+looped-all t n at e l = record { is = λ g bodies h sound. l .is g bodies h sound (e ∙ bodies-are t g bodies h) }
