@@ -103,14 +103,14 @@ module _ (t : Leaf → ℕ) where
     abbrev pub Seg : ℕ → List Part → Type 0
     Seg o xs = (k : ℕ) → k < length xs → at (o + k) ≡ getD xs k d
 
-    seg-left : (o : ℕ) (xs ys : List Part) → Seg o (xs ++ ys) → Seg o xs
+    pub seg-left : (o : ℕ) (xs ys : List Part) → Seg o (xs ++ ys) → Seg o xs
     seg-left o xs ys h k l = h k (rw (length-append xs ys) (omega arith)) ∙ List·getD-append xs ys d k l
 
-    seg-right : (o n : ℕ) (xs ys : List Part) → length xs ≡ n → Seg o (xs ++ ys) → Seg (o + n) ys
+    pub seg-right : (o n : ℕ) (xs ys : List Part) → length xs ≡ n → Seg o (xs ++ ys) → Seg (o + n) ys
     seg-right o n xs ys e h k l =
         ap at (let q : o + n + k ≡ o + (length xs + k) = omega arith in q) ∙ h (length xs + k) (rw (length-append xs ys) (omega arith)) ∙ getD-append-add xs ys k d
 
-    seg-one : (o m : ℕ) (p : Part) → Seg o (p ∷ []) → o ≡ m → at m ≡ p
+    pub seg-one : (o m : ℕ) (p : Part) → Seg o (p ∷ []) → o ≡ m → at m ≡ p
     seg-one o m p h e = ap at (let q : m ≡ o + 0 = omega arith in q) ∙ h 0 (omega arith)
 
     -- ε of the expression with a number, where each is what its rule says of its parts
