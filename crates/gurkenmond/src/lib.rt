@@ -1,8 +1,12 @@
 // The answers of the public calls (01, "An answer carries its kind with the numbers of that kind"): counts beside an enum.
 // What each case says in document 01's numbers is in specs/Answers.antt, what each call answers in specs/Calls.antt.
 ghost use mathlib.Core.Path.{_≡_};
+ghost use Prim.Native.Nat.{_≤_};
+ghost use Rattle.grammar.specs.Table.{symbolCount};
+ghost use Rattle.loops.specs.Marks.{LoopedAll};
 ghost use Rattle.tokens.specs.Bounds.{expressionBound};
-ghost use Rattle.gurkenmond.specs.Loads.{readUpTo6, Loads, Translated};
+ghost use Rattle.gurkenmond.specs.Calls.{readOf};
+ghost use Rattle.gurkenmond.specs.Loads.{Loads, isRefused, Translated};
 ghost use Rattle.gurkenmond.specs.declared.Verdict.the-variants.{Refused as VerdictRefused};
 use grammar::Table;
 use tokens::Mode;
@@ -133,10 +137,68 @@ fn translate(
     translation::step_two(mid, alts, out)
 }
 
-// A grammar text is accepted with its counts, or refused (01, Refusal numbers, 1 to 6).
+// The smallest symbol on a loop of first calls; the number of symbols where there is none.
+fn loop_of(t: &Table) -> usize
+    requires { ⌜ symbolCount (now t) ≤ 64 ⌝ }
+    ensures { λ r. ⌜ LoopedAll (now (t .entry)) r ⌝ }
+{
+    loops::table_loop(t)
+}
+
+fn is_refused(v: Verdict) -> bool
+    ensures { λ r. ⌜ r ≡ isRefused v ⌝ }
+{
+    match v {
+        Verdict::Accepted => false,
+        Verdict::Refused {
+            number: n,
+            place: p,
+        } => true,
+    }
+}
+
+// A grammar text is accepted with its counts, or refused (01, Refusal numbers, 1 to 8).
 pub fn read(mode: Mode, text: &[u8]) -> Counted
-    ensures { λ r. ⌜ r ≡ readUpTo6 mode (now (text .entry)) ⌝ }
+    ensures { λ r. ⌜ r ≡ readOf mode (now (text .entry)) ⌝ }
 {
     let mut t: Table = [0; 22280];
-    load(mode, text, &mut t)
+    let r = load(mode, text, &mut t);
+    let v = r.verdict;
+    if is_refused(v) {
+        return r;
+    }
+    let mut mid: Table = [0; 22280];
+    let mut out: Table = [0; 22280];
+    let mut marks = [false; 64];
+    let mut sets: [[u64; 2]; 1024] = [[0, 0]; 1024];
+    let mut eps = [false; 1024];
+    let mut succ: [[u64; 2]; 1024] = [[0, 0]; 1024];
+    let mut alts: [[u64; 2]; 1024] = [[0, 0]; 1024];
+    let mut base: [[u64; 2]; 1024] = [[0, 0]; 1024];
+    let mut next: [[u64; 2]; 1024] = [[0, 0]; 1024];
+    let mut src: [usize; 2048] = [0; 2048];
+    let mut dst: [usize; 2048] = [0; 2048];
+    let n = translate(
+        &t,
+        &mut mid,
+        &mut out,
+        &mut marks,
+        &mut sets,
+        &mut eps,
+        &mut succ,
+        &mut alts,
+        &mut base,
+        &mut next,
+        &mut src,
+        &mut dst,
+    );
+    if 1024 < n {
+        return refusal(7, 1025);
+    }
+    let k = r.symbols;
+    let l = loop_of(&out);
+    if l < k {
+        return refusal(8, l);
+    }
+    r
 }

@@ -11,6 +11,16 @@ use Rattle.grammar.specs.Exp.{Exp, Rule}
 use Rattle.grammar.specs.Numbers.{Grammar, numbered}
 use Rattle.grammar.specs.Refusal.{Refusal, refusal, refuseAt, _▸_}
 use Rattle.grammar.specs.Trees.{trees}
+use Rattle.grammar.specs.Holds.{Holds}
+use Rattle.grammar.specs.Table.{tableWords, symbolCount, symbolWord, nameIn, rootsIn}
+use Rattle.sets.specs.Analysis.{terminalIn}
+use Rattle.sets.specs.Proper.{SoundAll}
+use Rattle.sets.specs.laws.Lists.{upTo-long}
+use Rattle.sets.specs.laws.Parts.{from-long}
+use Rattle.lakes.specs.Made.{withBodies}
+use Rattle.accepted.specs.laws.Dot.{dot-in}
+use Rattle.loops.specs.Marks.{LoopedAll}
+use Rattle.translation.specs.laws.Proper.{plain-proper}
 use Rattle.reading.specs.Reading.{refusesText, rulesOf, tooMany}
 use Rattle.scanning.specs.Found.{found}
 use Rattle.scanning.specs.Scanned.{scanned}
@@ -27,7 +37,7 @@ use Rattle.gurkenmond.specs.declared.Verdict.the-variants.{Accepted, Ref
 use Rattle.gurkenmond.specs.Prepare.{Prepared, prepared, preparedBy, refuses}
 use Rattle.gurkenmond.specs.Answers.{verdictOf}
 use Rattle.gurkenmond.specs.Calls.{readBy, readOf}
-use Rattle.gurkenmond.specs.Loads.{readUpTo6, isRefused, Good}
+use Rattle.gurkenmond.specs.Loads.{readUpTo6, isRefused, Good, Loads, Translated}
 use Rattle.gurkenmond.specs.laws.Loads.{refused, Clean, clean, grammar-of}
 use Rattle.gurkenmond.specs.laws.Translates.{good}
 
@@ -118,3 +128,55 @@ looped bs l e h = place-some (length bs) l (loop bs) e h
 pub unlooped : (bs : List (Exp ℕ)) (l : ℕ) → l ≡ placed (length bs) (loop bs) → length bs ≤ l → loop bs ≡ none
 unfolding loop callsOf
 unlooped bs l e h = place-none bs l (loop bs) (loop-found (callsOf bs) (length (callsOf bs)) 0) e h (length-map bs (firstCalls (marked (marksOf bs))))
+
+-- a table with a body for each symbol has as many
+same-count : (t : List ℕ) (g : Grammar) (bs : List (Exp ℕ)) → Holds t (withBodies g bs) → length (g .names) ≡ length bs
+unfolding rootsIn
+same-count t g bs h =
+    let a : symbolCount t ≡ length (g .names) = sym (upTo-long (nameIn t) (symbolCount t)) ∙ ap length (h .names) in
+    let b : symbolCount t ≡ length bs = sym (upTo-long (λ r. symbolWord t r 1) (symbolCount t)) ∙ ap length (h .roots) ∙ from-long bs 0 in
+    sym a ∙ b
+
+-- ── the whole answer, from what the parts answer ──
+module _ (m : Mode) (s old t out : List ℕ) (r : Counted) (long : length old ≡ tableWords) (a : Loads m s old t r) where
+  pub first-six : isRefused (r .verdict) ≡ true → r ≡ readOf m s
+  first-six h = stays m s r (a .answer long) h
+
+  module _ (h : isRefused (r .verdict) ≡ false) (n : ℕ) (tr : Translated t out n) where
+    ok : refusesText m s ≡ none
+    ok = passed m s r (a .answer long) h
+
+    abbrev g : Grammar
+    g = numbered (rulesOf m s)
+
+    pub by-seven : 1024 < n → refused 7 1025 ≡ readOf m s
+    by-seven l = seven m s ok (tr .over g (a .table long ok) (is-good m s ok) l)
+
+    module _ (l : n ≤ 1024) where
+      few : tooLarge (plainOf g) ≡ none
+      few = tr .within g (a .table long ok) (is-good m s ok) l .0
+
+      held : Holds out (withBodies g (plainOf g))
+      held = tr .within g (a .table long ok) (is-good m s ok) l .1
+
+      symbols-is : r .symbols ≡ length (g .names)
+      unfolding readUpTo6 prepared preparedBy
+      symbols-is = ap (λ (c : Counted). c .symbols) (a .answer long ∙ ap (λ (o : Option Refusal). readBy o (prepared m s)) ok)
+
+      count : r .symbols ≡ length (plainOf g)
+      count = symbols-is ∙ same-count out g (plainOf g) held
+
+      sound : SoundAll (terminalIn g) (length (g .names)) (length (g .terminals)) (plainOf g)
+      sound = plain-proper g (is-good m s ok .proper) (is-good m s ok .once) (is-good m s ok .none-empty) (omega (arith, dot-in (rulesOf m s)))
+
+      pub few-out : symbolCount out ≤ 64
+      few-out = held .few-symbols
+
+      at-is : (at : ℕ) → LoopedAll out at → at ≡ placed (length (plainOf g)) (loop (plainOf g))
+      at-is at k = k .is g (plainOf g) held sound
+
+      pub by-eight : (at : ℕ) → LoopedAll out at → at < r .symbols → refused 8 at ≡ readOf m s
+      by-eight at k p = eight m s ok few at (looped (plainOf g) at (at-is at k) (omega (arith, p, count)))
+
+      pub by-none : (at : ℕ) → LoopedAll out at → r .symbols ≤ at → r ≡ readOf m s
+      by-none at k p = fine m s ok few r (a .answer long) (unlooped (plainOf g) at (at-is at k) (omega (arith, p, count)))
