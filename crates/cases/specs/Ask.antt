@@ -12,7 +12,7 @@ use Rattle.grammar.specs.Refusal.{Refusal}
 use Rattle.sets.specs.declared.Sets.{Sets}
 use Rattle.plain.specs.Plain.{plainRules}
 use Rattle.writing.specs.Writing.{text}
-use Rattle.gurkenmond.specs.Prepare.{Prepared, prepared, refuses}
+use Rattle.preparing.specs.Prepare.{Prepared, prepared, refuses}
 use Rattle.gurkenmond.specs.Answers.{Says, refused, nomatch, value, outcomeSays, waySays}
 use Rattle.gurkenmond.specs.Calls.{Matching, matchOf, lakeOf, setsOf, cannotSkipOf}
 

@@ -28,9 +28,10 @@ use Rattle.matching.specs.Cells.{bodyAt, rowOf, fillOf, cells}
 use Rattle.matching.specs.Eval.{stands, leafAt, cellAt, joinOf, seqOf, altOf, stepOf, rep, plusOf, optOf, aheadOf, neverOf, ev}
 use Rattle.matching.specs.Nodes.{seqN, altN, optN, stepN, repN, walkOf, nodeIf, nodesOf, levels, listOf, listingOf, putNode, written, wordsOf, roomOf, nodeAt, nodesAt, soundAt, nodeText}
 use Rattle.writing.specs.Writing.{byteText, litChar, classChar, litChars, runs as writing-runs, runText, runsText, leafText, symbolText, exprText, ruleText, text}
-use Rattle.gurkenmond.specs.Answers.{verdictSays, outcomeSays, waySays, writtenSays, verdictOf}
-use Rattle.gurkenmond.specs.Calls.{readOf, setsOf, cannotSkipOf, matchOf, noneMatches, wayBy, lakeOf, writeOwnOf, writePlainOf}
-use Rattle.gurkenmond.specs.Prepare.{preparedBy, prepared, refuses}
+use Rattle.gurkenmond.specs.Answers.{verdictSays, outcomeSays, waySays, writtenSays}
+use Rattle.preparing.specs.Reads.{verdictOf, readOf}
+use Rattle.gurkenmond.specs.Calls.{setsOf, cannotSkipOf, matchOf, noneMatches, wayBy, lakeOf, writeOwnOf, writePlainOf}
+use Rattle.preparing.specs.Prepare.{preparedBy, prepared, refuses}
 use Rattle.cases.specs.Ask.{Said, Case, bytes as text-bytes, answered}
 use Rattle.cases.specs.Table.{cases}
 

@@ -1,9 +1,7 @@
 -- What each case of an answer says: document 01's number and values. Assumes nothing: these are definitions.
 use Prim.Native.Nat.{ℕ}
-use mathlib.Core.Option.{Option, none, some}
-use Rattle.grammar.specs.Refusal.{Refusal, refusal}
-use Rattle.gurkenmond.specs.declared.Verdict.{Verdict}
-use Rattle.gurkenmond.specs.declared.Verdict.the-variants.{Accepted, Refused as VerdictRefused}
+use Rattle.preparing.specs.declared.Verdict.{Verdict}
+use Rattle.preparing.specs.declared.Verdict.the-variants.{Accepted, Refused as VerdictRefused}
 use Rattle.gurkenmond.specs.declared.Outcome.{Outcome}
 use Rattle.gurkenmond.specs.declared.Outcome.the-variants.{Matched, NoMatch, Refused as OutcomeRefused}
 use Rattle.gurkenmond.specs.declared.Way.{Way}
@@ -40,8 +38,3 @@ waySays (WayRefused n p) = refused n p
 unfoldable pub writtenSays : Written → Says
 writtenSays (Bytes n) = value n
 writtenSays (WrittenRefused n p) = refused n p
-
--- a verdict by the first check that refuses
-unfoldable pub verdictOf : Option Refusal → Verdict
-verdictOf none = Accepted
-verdictOf (some r) = VerdictRefused (r .number) (r .place)

@@ -11,7 +11,7 @@ use Rattle.tokens.specs.Token.{Symbol, name}
 use Rattle.tokens.specs.Bounds.{inputBound}
 use Rattle.grammar.specs.Exp.{Exp}
 use Rattle.grammar.specs.Lakes.{waterOf}
-use Rattle.grammar.specs.Numbers.{Grammar, isLake, expressionsOf}
+use Rattle.grammar.specs.Numbers.{Grammar, isLake}
 use Rattle.grammar.specs.Refusal.{Refusal, refusal, refuseIf, _▸_}
 use Rattle.words.specs.Set.{empty}
 use Rattle.sets.specs.declared.Sets.{Sets}
@@ -23,8 +23,6 @@ use Rattle.matching.specs.Eval.{ev}
 use Rattle.matching.specs.Cells.{cells}
 use Rattle.matching.specs.Nodes.{Listing, all, deep, full, listOf, listingOf, wordsOf, roomOf}
 use Rattle.writing.specs.Writing.{text}
-use Rattle.gurkenmond.specs.declared.Verdict.{Verdict}
-use Rattle.gurkenmond.specs.declared.Counted.{Counted}
 use Rattle.gurkenmond.specs.declared.SetsOf.{SetsOf}
 use Rattle.gurkenmond.specs.declared.Lakes.{Lakes}
 use Rattle.gurkenmond.specs.declared.Match.{Match}
@@ -34,19 +32,12 @@ use Rattle.gurkenmond.specs.declared.Way.{Way}
 use Rattle.gurkenmond.specs.declared.Way.the-variants.{Not, ByRule, ByWater, BySkip, Refused as WayRefused}
 use Rattle.gurkenmond.specs.declared.Written.{Written}
 use Rattle.gurkenmond.specs.declared.Written.the-variants.{Bytes, Refused as WrittenRefused}
-use Rattle.gurkenmond.specs.Prepare.{Prepared, prepared, refuses}
-use Rattle.gurkenmond.specs.Answers.{verdictOf}
+use Rattle.preparing.specs.Prepare.{Prepared, prepared, refuses}
+use Rattle.preparing.specs.Reads.{verdictOf}
 
 -- in the words of the table: m the mode, t the grammar text, s the input, cs the work cells, ws the node words, out the output room
 
--- ── read: refused 1 to 8, or the counts of the grammar as read ──
-abbrev pub readBy : Option Refusal → Prepared → Counted
-readBy (some r) p = record { symbols = 0; terminals = 0; expressions = 0; verdict = verdictOf (some r) }
-readBy none p =
-    record { symbols = length (p .grammar .names); terminals = length (p .grammar .terminals); expressions = expressionsOf (p .rules); verdict = verdictOf none }
-
-unfoldable pub readOf : Mode → List ℕ → Counted
-readOf m t = readBy (refuses m t) (prepared m t)
+-- ── read: `readOf` in crate preparing ──
 
 -- ── sets: refused 1 to 8, then "14: no such expression, lake or position" ──
 abbrev pub noSets : Sets

@@ -1,5 +1,3 @@
 -- Laws of the definitions beside this file.
 pub mod Order
-pub mod Loads
-pub mod Translates
-pub mod Reads
+pub mod Sets

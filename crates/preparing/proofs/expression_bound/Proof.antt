@@ -1,11 +1,11 @@
--- `gurkenmond::expression_bound` meets its contract. Assumes nothing.
+-- `preparing::expression_bound` meets its contract. Assumes nothing.
 use mathlib.Core.Path.{_≡_, sym, ap}
 use Rattle.tokens.specs.Bounds.{expressionBound}
 use borrow.Author.Needs.{needs}
-use Rattle.gurkenmond.proofs.expression_bound.Statement.{statement}
-use Rattle.gurkenmond.proofs.expression_bound.Tie as tie
-use Rattle.gurkenmond.proofs.expression_bound.Reads as reads
-use Rattle.gurkenmond.proofs.expression_bound.Lts as lts
+use Rattle.preparing.proofs.expression_bound.Statement.{statement}
+use Rattle.preparing.proofs.expression_bound.Tie as tie
+use Rattle.preparing.proofs.expression_bound.Reads as reads
+use Rattle.preparing.proofs.expression_bound.Lts as lts
 
 enum-told : tie.Need-enum-told
 enum-told c = search needs

@@ -1,16 +1,16 @@
--- `gurkenmond::load` meets its contract. Assumes nothing.
+-- `preparing::load` meets its contract. Assumes nothing.
 use Prim.Native.Nat.{ℕ, _+_, _-_, _*_, _≤_, _<_}
 use mathlib.Core.Path.{_≡_, refl, sym, ap, _∙_, subst}
 use native.Mathlib.Omega.{arith}
-use Rattle.gurkenmond.specs.laws.Loads.{early, clean-by, not-long, six-one, six-two, six-three, loads-refused, loads-accepted}
+use Rattle.preparing.specs.laws.Loads.{early, clean-by, not-long, six-one, six-two, six-three, loads-refused, loads-accepted}
 use borrow.Author.Needs.{needs}
-use Rattle.gurkenmond.proofs.load.Statement.{statement}
-use Rattle.gurkenmond.proofs.load.Tie as tie
-use Rattle.gurkenmond.proofs.load.Reads as reads
-use Rattle.gurkenmond.proofs.load.Lts as lts
+use Rattle.preparing.proofs.load.Statement.{statement}
+use Rattle.preparing.proofs.load.Tie as tie
+use Rattle.preparing.proofs.load.Reads as reads
+use Rattle.preparing.proofs.load.Lts as lts
 use Rattle.building.proofs.build.Reads as build-reads
-use Rattle.gurkenmond.proofs.expression_bound.Reads as expression-bound-reads
-use Rattle.gurkenmond.proofs.refusal.Reads as refusal-reads
+use Rattle.preparing.proofs.expression_bound.Reads as expression-bound-reads
+use Rattle.preparing.proofs.refusal.Reads as refusal-reads
 use Rattle.scanning.proofs.refused.Reads as refused-reads
 
 refused-requires : tie.Need-refused-requires

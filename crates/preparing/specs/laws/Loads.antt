@@ -33,12 +33,12 @@ use Rattle.scanning.specs.laws.Chain.{text-by-scan}
 use Rattle.records.specs.Rows.{cap}
 use Rattle.building.specs.Promises.{Sound, Built}
 use Rattle.building.specs.declared.Counts.{Counts}
-use Rattle.gurkenmond.specs.declared.Counted.{Counted}
-use Rattle.gurkenmond.specs.declared.Verdict.the-variants.{Accepted, Refused as VerdictRefused}
-use Rattle.gurkenmond.specs.Prepare.{Prepared, prepared, preparedBy}
-use Rattle.gurkenmond.specs.Answers.{verdictOf}
-use Rattle.gurkenmond.specs.Calls.{readBy}
-use Rattle.gurkenmond.specs.Loads.{readUpTo6, Loads}
+use Rattle.preparing.specs.declared.Counted.{Counted}
+use Rattle.preparing.specs.declared.Verdict.the-variants.{Accepted, Refused as VerdictRefused}
+use Rattle.preparing.specs.Prepare.{Prepared, prepared, preparedBy}
+use Rattle.preparing.specs.Reads.{verdictOf}
+use Rattle.preparing.specs.Reads.{readBy}
+use Rattle.preparing.specs.Loads.{readUpTo6, Loads}
 
 -- ── number 0 is none ──
 if-step : (b : Bool) (k p : ℕ) (r : Option Refusal) → (k ≡ 0 → ⊥) → found (refuseIf b k p ▸ r) .number ≡ 0 → (b ≡ false) × (found r .number ≡ 0)
@@ -171,7 +171,7 @@ abbrev told : Option Refusal → ℕ
 told none = 0
 told (some x) = 1
 
-some-none : (x : Refusal) → some x ≡ none → ⊥
+pub some-none : (x : Refusal) → some x ≡ none → ⊥
 some-none x e = let z : told (some x) ≡ told none = ap told e in omega (arith, z)
 
 -- one refusal: the answer, and that the text is not accepted

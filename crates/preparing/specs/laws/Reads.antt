@@ -31,15 +31,28 @@ use Rattle.sets.specs.Beginning.{marked, marksOf}
 use Rattle.calls.specs.Place.{placed}
 use Rattle.plain.specs.laws.Loops.{Found, found as loop-found}
 use Rattle.translation.specs.Stepped.{plainOf}
-use Rattle.gurkenmond.specs.declared.Counted.{Counted}
-use Rattle.gurkenmond.specs.declared.Verdict.{Verdict}
-use Rattle.gurkenmond.specs.declared.Verdict.the-variants.{Accepted, Refused as VerdictRefused}
-use Rattle.gurkenmond.specs.Prepare.{Prepared, prepared, preparedBy, refuses}
-use Rattle.gurkenmond.specs.Answers.{verdictOf}
-use Rattle.gurkenmond.specs.Calls.{readBy, readOf}
-use Rattle.gurkenmond.specs.Loads.{readUpTo6, isRefused, Good, Loads, Translated}
-use Rattle.gurkenmond.specs.laws.Loads.{refused, Clean, clean, grammar-of}
-use Rattle.gurkenmond.specs.laws.Translates.{good}
+use Rattle.preparing.specs.declared.Counted.{Counted}
+use Rattle.preparing.specs.declared.Prepared.{Prepared as Worth}
+use Rattle.preparing.specs.declared.Verdict.{Verdict}
+use Rattle.preparing.specs.declared.Verdict.the-variants.{Accepted, Refused as VerdictRefused}
+use Rattle.preparing.specs.Prepare.{Prepared, prepared, preparedBy, refuses}
+use Rattle.preparing.specs.Reads.{verdictOf, isRefused}
+use Rattle.preparing.specs.Reads.{readBy, readOf}
+use Rattle.preparing.specs.Loads.{readUpTo6, Good, Loads, Worked, Translated, Stands, Ready}
+use Rattle.preparing.specs.laws.Loads.{refused, Clean, clean, grammar-of, some-none}
+use Rattle.preparing.specs.laws.Translates.{good}
+
+left-none : (a b : Option Refusal) → (a ▸ b) ≡ none → a ≡ none
+left-none none b e = refl
+left-none (some x) b e = e
+
+right-none : (a b : Option Refusal) → (a ▸ b) ≡ none → b ≡ none
+right-none none b e = e
+right-none (some x) b e = absurd (some-none x e)
+
+at-none : (o : Option ℕ) → refuseAt 8 o ≡ none → o ≡ none
+at-none none e = refl
+at-none (some x) e = absurd (some-none (refusal 8 x) e)
 
 module _ (m : Mode) (s : List ℕ) where
   abbrev bodies : List (Exp ℕ)
@@ -86,10 +99,6 @@ module _ (m : Mode) (s : List ℕ) where
 
   -- ── accepted by 1 to 6 ──
   module _ (ok : refusesText m s ≡ none) where
-    left-none : (a b : Option Refusal) → (a ▸ b) ≡ none → a ≡ none
-    left-none none b e = refl
-    left-none (some x) b e = e
-
     pub is-good : Good (numbered (rulesOf m s))
     is-good =
         let z : scanned m s ≡ none = left-none (scanned m s) (tooMany m (rulesOf m s)) (sym (text-by-scan m s) ∙ ok) in
@@ -109,9 +118,25 @@ module _ (m : Mode) (s : List ℕ) where
       unfolding verdictOf
       eight l e = answered (some (refusal 8 l)) (by-loop ∙ ap (refuseAt 8) e)
 
-      pub fine : (r : Counted) → r ≡ readUpTo6 m s → loop bodies ≡ none → r ≡ readOf m s
+      pub fine : (r : Counted) → r ≡ readUpTo6 m s → loop bodies ≡ none → (refuses m s ≡ none) × (r ≡ readOf m s)
       unfolding readUpTo6
-      fine r q e = q ∙ ap (λ (o : Option Refusal). readBy o (prepared m s)) ok ∙ answered none (by-loop ∙ ap (refuseAt 8) e)
+      fine r q e =
+          let c : refuses m s ≡ none = by-loop ∙ ap (refuseAt 8) e in
+          (c, q ∙ ap (λ (o : Option Refusal). readBy o (prepared m s)) ok ∙ answered none c)
+
+  -- ── accepted by 1 to 8 ──
+  pub clear-text : refuses m s ≡ none → refusesText m s ≡ none
+  unfolding rest
+  clear-text e = left-none (refusesText m s) (tooLarge bodies ▸ looping bodies) (sym as-rest ∙ e)
+
+  pub clear-good : refuses m s ≡ none → Good (numbered (rulesOf m s))
+  clear-good e = is-good (clear-text e)
+
+  pub clear-loop : refuses m s ≡ none → loop bodies ≡ none
+  unfolding rest
+  clear-loop e =
+      let a : (tooLarge bodies ▸ looping bodies) ≡ none = right-none (refusesText m s) (tooLarge bodies ▸ looping bodies) (sym as-rest ∙ e) in
+      at-none (loop bodies) (right-none (tooLarge bodies) (looping bodies) a)
 
 -- ── a loop's place among n symbols ──
 place-some : (n l : ℕ) (o : Option ℕ) → l ≡ placed n o → l < n → o ≡ some l
@@ -138,45 +163,51 @@ same-count t g bs h =
     sym a ∙ b
 
 -- ── the whole answer, from what the parts answer ──
-module _ (m : Mode) (s old t out : List ℕ) (r : Counted) (long : length old ≡ tableWords) (a : Loads m s old t r) where
+-- a refusal stands for nothing
+pub refusing : {m : Mode} {s t mid : List ℕ} {ms : List Bool} {sets : List (List ℕ)} {eps : List Bool} {succ alts : List (List ℕ)} {out : List ℕ} {r : Counted} (p : Worth)
+    → p ≡ record { counted = r; rounds = 0 } → isRefused (r .verdict) ≡ true → r ≡ readOf m s → Ready m s t mid ms sets eps succ alts out (p .counted) (p .rounds)
+refusing {m} {s} {t} {mid} {ms} {sets} {eps} {succ} {alts} {out} {r} p q h e =
+    subst (λ (x : Worth). Ready m s t mid ms sets eps succ alts out (x .counted) (x .rounds)) (sym q) (record { answer = e; stands = λ z. absurd (true≢false (sym h ∙ z)) })
+
+module _ (m : Mode) (s old t : List ℕ) (r : Counted) (long : length old ≡ tableWords) (a : Loads m s old t r) where
   pub first-six : isRefused (r .verdict) ≡ true → r ≡ readOf m s
   first-six h = stays m s r (a .answer long) h
 
-  module _ (h : isRefused (r .verdict) ≡ false) (n : ℕ) (tr : Translated t out n) where
+  module _ (h : isRefused (r .verdict) ≡ false) where
     ok : refusesText m s ≡ none
     ok = passed m s r (a .answer long) h
 
     abbrev g : Grammar
     g = numbered (rulesOf m s)
 
-    pub by-seven : 1024 < n → refused 7 1025 ≡ readOf m s
-    by-seven l = seven m s ok (tr .over g (a .table long ok) (is-good m s ok) l)
+    module _ (mid : List ℕ) (ms : List Bool) (sets : List (List ℕ)) (eps : List Bool) (succ alts : List (List ℕ)) (out : List ℕ) (n rounds : ℕ) (tr : Translated t mid ms sets eps succ alts out n rounds) where
+      pub by-seven : 1024 < n → refused 7 1025 ≡ readOf m s
+      by-seven l = seven m s ok (tr .over g (a .table long ok) (is-good m s ok) l)
 
-    module _ (l : n ≤ 1024) where
-      few : tooLarge (plainOf g) ≡ none
-      few = tr .within g (a .table long ok) (is-good m s ok) l .0
+      module _ (l : n ≤ 1024) where
+        done : Worked g mid ms sets eps succ alts out rounds
+        done = tr .within g (a .table long ok) (is-good m s ok) l
 
-      held : Holds out (withBodies g (plainOf g))
-      held = tr .within g (a .table long ok) (is-good m s ok) l .1
+        symbols-is : r .symbols ≡ length (g .names)
+        unfolding readUpTo6 prepared preparedBy
+        symbols-is = ap (λ (c : Counted). c .symbols) (a .answer long ∙ ap (λ (o : Option Refusal). readBy o (prepared m s)) ok)
 
-      symbols-is : r .symbols ≡ length (g .names)
-      unfolding readUpTo6 prepared preparedBy
-      symbols-is = ap (λ (c : Counted). c .symbols) (a .answer long ∙ ap (λ (o : Option Refusal). readBy o (prepared m s)) ok)
+        count : r .symbols ≡ length (plainOf g)
+        count = symbols-is ∙ same-count out g (plainOf g) (done .plain)
 
-      count : r .symbols ≡ length (plainOf g)
-      count = symbols-is ∙ same-count out g (plainOf g) held
+        sound : SoundAll (terminalIn g) (length (g .names)) (length (g .terminals)) (plainOf g)
+        sound = plain-proper g (is-good m s ok .proper) (is-good m s ok .once) (is-good m s ok .none-empty) (omega (arith, dot-in (rulesOf m s)))
 
-      sound : SoundAll (terminalIn g) (length (g .names)) (length (g .terminals)) (plainOf g)
-      sound = plain-proper g (is-good m s ok .proper) (is-good m s ok .once) (is-good m s ok .none-empty) (omega (arith, dot-in (rulesOf m s)))
+        pub few-out : symbolCount out ≤ 64
+        few-out = done .plain .few-symbols
 
-      pub few-out : symbolCount out ≤ 64
-      few-out = held .few-symbols
+        at-is : (at : ℕ) → LoopedAll out at → at ≡ placed (length (plainOf g)) (loop (plainOf g))
+        at-is at k = k .is g (plainOf g) (done .plain) sound
 
-      at-is : (at : ℕ) → LoopedAll out at → at ≡ placed (length (plainOf g)) (loop (plainOf g))
-      at-is at k = k .is g (plainOf g) held sound
+        pub by-eight : (at : ℕ) → LoopedAll out at → at < r .symbols → refused 8 at ≡ readOf m s
+        by-eight at k p = eight m s ok (done .few) at (looped (plainOf g) at (at-is at k) (omega (arith, p, count)))
 
-      pub by-eight : (at : ℕ) → LoopedAll out at → at < r .symbols → refused 8 at ≡ readOf m s
-      by-eight at k p = eight m s ok few at (looped (plainOf g) at (at-is at k) (omega (arith, p, count)))
-
-      pub by-none : (at : ℕ) → LoopedAll out at → r .symbols ≤ at → r ≡ readOf m s
-      by-none at k p = fine m s ok few r (a .answer long) (unlooped (plainOf g) at (at-is at k) (omega (arith, p, count)))
+        pub by-none : (at : ℕ) → LoopedAll out at → r .symbols ≤ at → Ready m s t mid ms sets eps succ alts out r rounds
+        by-none at k p =
+            let w = fine m s ok (done .few) r (a .answer long) (unlooped (plainOf g) at (at-is at k) (omega (arith, p, count))) in
+            record { answer = w .1; stands = λ z. record { clear = w .0; table = a .table long ok; worked = done } }

@@ -1,0 +1,114 @@
+-- The answers of `sets` and `cannot_skip`, from what a prepared grammar holds. Assumes nothing.
+use Prim.Native.Nat.{ℕ, suc, _≤_, _<_}
+use mathlib.Core.Path.{_≡_, refl, sym, ap, _∙_, subst}
+use mathlib.Core.Bool.{Bool, true, false, not, _&&_, true≢false}
+use mathlib.Core.List.{List}
+use mathlib.Core.Option.{Option, none, some}
+use native.Mathlib.Omega.{arith}
+use lib.ListN.{length, take}
+use lib.Dec.{leb}
+use borrow.Author.Tests.{le-leb, lt-leb}
+use Rattle.tokens.specs.declared.Mode.{Mode}
+use Rattle.grammar.specs.Numbers.{Grammar, numbered}
+use Rattle.grammar.specs.Parts.{Part, partsAll}
+use Rattle.grammar.specs.Table.{partIn, partsIn, symbolCount, expressionCount}
+use Rattle.grammar.specs.Holds.{Holds}
+use Rattle.grammar.specs.Refusal.{Refusal, refusal, refuseIf, _▸_}
+use Rattle.reading.specs.Reading.{rulesOf}
+use Rattle.sets.specs.declared.Sets.{Sets}
+use Rattle.sets.specs.Intermediate.{intermediate}
+use Rattle.sets.specs.Beginning.{marked, marksOf, beginnings}
+use Rattle.sets.specs.Analysis.{Analysis, analysis, analysed, terminalIn, setsAt, isExpression, cannotSkip}
+use Rattle.sets.specs.Proper.{middle}
+use Rattle.sets.specs.laws.Begins.{begins-long}
+use Rattle.sets.specs.laws.Parts.{present-some}
+use Rattle.analysis.specs.Lent.{SetsOf as SetsPromise, CannotSkip}
+use Rattle.preparing.specs.declared.Counted.{Counted}
+use Rattle.preparing.specs.declared.Verdict.{Verdict}
+use Rattle.preparing.specs.declared.Verdict.the-variants.{Accepted, Refused as VerdictRefused}
+use Rattle.preparing.specs.Prepare.{Prepared, prepared, preparedBy, refuses}
+use Rattle.preparing.specs.Reads.{verdictOf, isRefused, readBy, readOf}
+use Rattle.preparing.specs.Loads.{Stands}
+use Rattle.preparing.specs.laws.Reads.{clear-good}
+use Rattle.gurkenmond.specs.declared.SetsOf.{SetsOf}
+use Rattle.gurkenmond.specs.declared.Lakes.{Lakes}
+use Rattle.gurkenmond.specs.Calls.{noSets, setsBy, setsOf, lakesBy, cannotSkipOf}
+
+-- ── a refusal of `read` is handed on ──
+-- what is told of the verdict of a refused text
+pub handed : (m : Mode) (s : List ℕ) (c : Counted) → c ≡ readOf m s → isRefused (c .verdict) ≡ true → (x : Refusal) × (refuses m s ≡ some x) × (c .verdict ≡ verdictOf (some x))
+unfolding readOf verdictOf
+handed m s c e h = go (refuses m s) refl
+  where
+    go : (o : Option Refusal) → refuses m s ≡ o → (x : Refusal) × (refuses m s ≡ some x) × (c .verdict ≡ verdictOf (some x))
+    go none q = absurd (true≢false (sym h ∙ ap (λ (y : Counted). isRefused (y .verdict)) (e ∙ ap (λ (o : Option Refusal). readBy o (prepared m s)) q)))
+    go (some x) q = (x, q, ap (λ (y : Counted). y .verdict) (e ∙ ap (λ (o : Option Refusal). readBy o (prepared m s)) q))
+
+abbrev pub refusedSets : Verdict → SetsOf
+refusedSets v = record { sets = noSets; rounds = 0; verdict = v }
+
+module _ (m : Mode) (s : List ℕ) where
+  abbrev a : Analysis
+  a = prepared m s .analysis
+
+  pub sets-refused : (c : Counted) (e : ℕ) → c ≡ readOf m s → isRefused (c .verdict) ≡ true → refusedSets (c .verdict) ≡ setsOf m s e
+  unfolding setsOf
+  sets-refused c e q h =
+      let w = handed m s c q h in
+      ap refusedSets (w .2) ∙ sym (ap (λ (o : Option Refusal). setsBy (o ▸ refuseIf (not (isExpression a e)) 14 0) a e) (w .1))
+
+  pub skip-refused : (c : Counted) → c ≡ readOf m s → isRefused (c .verdict) ≡ true → record { word = 0; verdict = c .verdict } ≡ cannotSkipOf m s
+  unfolding cannotSkipOf
+  skip-refused c q h =
+      let w = handed m s c q h in
+      ap (λ (v : Verdict). record { word = 0; verdict = v }) (w .2) ∙ sym (ap (λ (o : Option Refusal). lakesBy o (prepared m s)) (w .1))
+
+  module _ (clear : refuses m s ≡ none) (e : ℕ) where
+    by-expression : (b : Bool) → isExpression a e ≡ b → setsBy (refuseIf (not b) 14 0) a e ≡ setsOf m s e
+    unfolding setsOf
+    by-expression b h =
+        sym (ap (λ (o : Option Refusal). setsBy (o ▸ refuseIf (not (isExpression a e)) 14 0) a e) clear ∙ ap (λ (c : Bool). setsBy (refuseIf (not c) 14 0) a e) h)
+
+    no-expression : isExpression a e ≡ false → refusedSets (VerdictRefused 14 0) ≡ setsOf m s e
+    unfolding verdictOf
+    no-expression h = by-expression false h
+
+    one-expression : isExpression a e ≡ true → record { sets = setsAt a e; rounds = a .rounds; verdict = Accepted } ≡ setsOf m s e
+    unfolding verdictOf
+    one-expression h = by-expression true h
+
+-- ── as many expressions as the intermediate table holds ──
+long-begins : (g : Grammar) (mid : List ℕ) → Holds mid (middle g) → length (analysis g .begins) ≡ expressionCount mid
+unfolding analysis analysed partsIn
+long-begins g mid h =
+    let e : partsAll (terminalIn g) 0 (intermediate g) ≡ partsIn mid = sym (h .parts ∙ ap (partsAll (terminalIn g) 0) (present-some (intermediate g))) in
+    ap (λ (ps : List Part). length (beginnings (marked (marksOf (intermediate g))) ps)) e ∙ begins-long (marked (marksOf (intermediate g))) (partIn mid) (expressionCount mid)
+
+module _ (m : Mode) (s t mid : List ℕ) (ms : List Bool) (sets : List (List ℕ)) (eps : List Bool) (succ alts : List (List ℕ)) (out : List ℕ) (rounds : ℕ)
+    (st : Stands m s t mid ms sets eps succ alts out rounds) where
+  count : length (a m s .begins) ≡ expressionCount mid
+  unfolding prepared preparedBy
+  count = long-begins (numbered (rulesOf m s)) mid (st .worked .between)
+
+  pub sets-zero : (e : ℕ) → e ≡ 0 → refusedSets (VerdictRefused 14 0) ≡ setsOf m s e
+  sets-zero e h = no-expression m s (st .clear) e (ap (λ (b : Bool). b && leb e (length (a m s .begins))) (lt-leb 1 e (omega (arith, h))))
+
+  pub sets-past : (e n : ℕ) → n ≡ expressionCount mid → n < e → refusedSets (VerdictRefused 14 0) ≡ setsOf m s e
+  sets-past e n q h =
+      no-expression m s (st .clear) e
+      (ap (λ (b : Bool). b && leb e (length (a m s .begins))) (le-leb 1 e (omega (arith, h))) ∙ lt-leb e (length (a m s .begins)) (omega (arith, h, q, count)))
+
+  pub sets-are : (e n : ℕ) (r : Sets) → n ≡ expressionCount mid → (e ≡ 0 → ⊥) → e ≤ n → SetsPromise sets eps succ alts e r
+      → record { sets = r; rounds = rounds; verdict = Accepted } ≡ setsOf m s e
+  unfolding prepared preparedBy
+  sets-are e n r q z h p =
+      let x : isExpression (a m s) e ≡ true = ap (λ (b : Bool). b && leb e (length (a m s .begins))) (le-leb 1 e (omega (arith, z))) ∙ le-leb e (length (a m s .begins)) (omega (arith, h, q, count)) in
+      ap (λ (y : Sets). record { sets = y; rounds = rounds; verdict = Accepted }) (p (a m s) (expressionCount mid) (symbolCount mid) rounds ms (omega (arith, h, q)) (st .worked .analysed))
+      ∙ ap (λ (k : ℕ). record { sets = setsAt (a m s) e; rounds = k; verdict = Accepted }) (st .worked .analysed .rounds-is)
+      ∙ one-expression m s (st .clear) e x
+
+  pub skip-is : (w : ℕ) → CannotSkip mid ms alts w → record { word = w; verdict = Accepted } ≡ cannotSkipOf m s
+  unfolding cannotSkipOf prepared preparedBy verdictOf
+  skip-is w p =
+      ap (λ (k : ℕ). record { word = k; verdict = Accepted }) (p (numbered (rulesOf m s)) _ _ _ rounds (st .worked .between) (clear-good m s (st .clear) .proper) (st .worked .analysed))
+      ∙ sym (ap (λ (o : Option Refusal). lakesBy o (prepared m s)) (st .clear))

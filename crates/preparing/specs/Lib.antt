@@ -1,0 +1,4 @@
+pub mod Prepare
+pub mod Reads
+pub mod Loads
+pub mod laws

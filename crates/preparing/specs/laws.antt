@@ -1,0 +1,4 @@
+-- Laws of the definitions beside this file.
+pub mod Loads
+pub mod Translates
+pub mod Reads
