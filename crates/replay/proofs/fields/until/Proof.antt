@@ -1,19 +1,20 @@
--- `replay::until` meets its contract. Assumes nothing.
+-- `replay::fields::until` meets its contract. Assumes nothing.
 use Prim.Native.Nat.{ℕ, _+_, _-_, _*_, _≤_, _<_}
 use mathlib.Core.Path.{_≡_, refl, sym, ap, _∙_}
 use native.Mathlib.Omega.{arith}
 use lib.ListN.{length, length-set}
+use lib.Seq.{length-take-le}
 use borrow.Author.Needs.{needs}
-use Rattle.replay.proofs.until.Statement.{statement}
-use Rattle.replay.proofs.until.Tie as tie
-use Rattle.replay.proofs.until.Reads as reads
-use Rattle.replay.proofs.until.Lts as lts
+use Rattle.replay.proofs.fields.until.Statement.{statement}
+use Rattle.replay.proofs.fields.until.Tie as tie
+use Rattle.replay.proofs.fields.until.Reads as reads
+use Rattle.replay.proofs.fields.until.Lts as lts
 
 abbrev Inv-loop : tie.InvT-loop
-Inv-loop s at stop i₀ i = (at ≤ i) × (i ≤ length s)
+Inv-loop s at i₀ i = at ≤ i
 
 abbrev μ-loop : tie.MeasureT-loop
-μ-loop s at stop i₀ i = length s - i
+μ-loop s at i₀ i = length s - i
 
 loop-holds : tie.Need-loop-holds Inv-loop μ-loop
 loop-holds c = search needs
