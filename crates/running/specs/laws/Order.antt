@@ -59,7 +59,7 @@ called-at (e ∷ es) f zero l = refl
 called-at (e ∷ es) f (suc r) l = called-at es f r (omega arith)
 
 -- ── ranks ──
-pow-below : (x n : ℕ) → x < n → 2 ^ x < 2 ^ n
+pub pow-below : (x n : ℕ) → x < n → 2 ^ x < 2 ^ n
 pow-below x n h = let e : 2 ^ suc x ≡ 2 ^ x * 2 = pow-suc 2 x in let l : 2 ^ suc x ≤ 2 ^ n = pow-mono h in omega (arith, pow-pos x)
 
 module _ (calls : List ℕ) (small : (r : ℕ) → getD calls r 0 < 2 ^ length calls) (clear : loopFrom calls (length calls) 0 ≡ none) where
@@ -74,7 +74,7 @@ module _ (calls : List ℕ) (small : (r : ℕ) → getD calls r 0 < 2 ^ length c
       go (some x) e f = let z : _≡_ {A = ℕ} 0 1 = cc e in omega arith
 
   -- a symbol does not reach itself, so its rank is below the number of symbols
-  rank-small : (x : ℕ) → x < length calls → rank x < length calls
+  pub rank-small : (x : ℕ) → x < length calls → rank x < length calls
   rank-small x l =
       let p : 2 ^ x < 2 ^ length calls = pow-below x (length calls) l in
       ⊎-elim (λ h. omega (arith, ones-le (length calls) (bitOr (reach calls x) (2 ^ x)), h))
