@@ -1,2 +1,4 @@
 -- Laws of the definitions beside this file.
 pub mod Pages
+pub mod Rights
+pub mod Called
