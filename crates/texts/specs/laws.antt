@@ -2,3 +2,5 @@
 pub mod Pages
 pub mod Rights
 pub mod Called
+pub mod Fit
+pub mod Own
