@@ -4,3 +4,5 @@ pub mod Rights
 pub mod Called
 pub mod Fit
 pub mod Own
+pub mod Plain
+pub mod Lengths

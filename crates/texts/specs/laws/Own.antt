@@ -62,7 +62,7 @@ module _ (names : List Symbol) (number : Leaf → ℕ) (x : ℕ) (f : ℕ → Sy
       (ap f (let z : r ≡ r + 0 = omega arith in z) ∙ q 0 (omega arith)) (back (y .right) (s .0))
       ∙ ap (λ (l : List Rule). y ∷ l) (rules-back rs (suc r) k (s .1) (λ i l. ap f (let z : suc r + i ≡ r + suc i = omega arith in z) ∙ q (suc i) (omega arith)))
 
-lefts-long : (rs : List Rule) → length (leftSides rs) ≡ length rs
+pub lefts-long : (rs : List Rule) → length (leftSides rs) ≡ length rs
 unfolding leftSides
 lefts-long [] = refl
 lefts-long (r ∷ rs) = ap suc (lefts-long rs)

@@ -14,7 +14,7 @@ use Rattle.grammar.specs.Holds.{Holds, present, rootsFrom}
 use Rattle.sets.specs.Analysis.{terminalIn}
 use Rattle.sets.specs.Proper.{SoundAll}
 use Rattle.sets.specs.laws.Lists.{upTo-long, upTo-at}
-use Rattle.sets.specs.laws.Parts.{parts-long, Seg, seg-left, seg-right}
+use Rattle.sets.specs.laws.Parts.{parts-long, all-long, total, Seg, seg-left, seg-right}
 use Rattle.loops.specs.laws.Trees.{leaf-at, tree-of}
 use Rattle.texts.specs.Texts.{rightsIn}
 
@@ -60,6 +60,9 @@ module _ (t : List ℕ) (g : Grammar) (h : Holds t g) where
   long-is : expressionCount t ≡ length (partsAll (terminalIn g) 0 (present (g .rights)))
   unfolding partsIn
   long-is = sym (upTo-long (partIn t) (expressionCount t)) ∙ ap length (h .parts)
+
+  pub expressions-are : expressionCount t ≡ total (present (g .rights))
+  expressions-are = long-is ∙ all-long (terminalIn g) (present (g .rights)) 0
 
   seg-all : (k : ℕ) → k < length (partsAll (terminalIn g) 0 (present (g .rights))) → partIn t (0 + k) ≡ getD (partsAll (terminalIn g) 0 (present (g .rights))) k (terminal 0)
   unfolding partsIn
