@@ -6,3 +6,4 @@ pub mod Fit
 pub mod Own
 pub mod Plain
 pub mod Lengths
+pub mod Answers

@@ -32,12 +32,10 @@ use Rattle.writing.specs.Writing.{text}
 use Rattle.writing.specs.laws.Terminals.{FineLeaf}
 use Rattle.writing.specs.laws.Lengths.{Short, Brief, Bounded, BoundedAll, not-too-long}
 use Rattle.writing.specs.laws.Within.{bounded}
-use Rattle.printing.specs.Pen.{most}
-use Rattle.texts.specs.Texts.{textOf, Paged}
 use Rattle.texts.specs.laws.Rights.{names-are, expressions-are}
 use Rattle.texts.specs.laws.Fit.{FitName, FitLeaf, fit-name, fit-leaf, fine-rules, narrow-rules}
-use Rattle.texts.specs.laws.Own.{lefts-long, own-text}
-use Rattle.texts.specs.laws.Plain.{plainNames, plain-sound, bodies-long, plain-text}
+use Rattle.texts.specs.laws.Own.{lefts-long}
+use Rattle.texts.specs.laws.Plain.{plainNames, plain-sound, bodies-long}
 
 -- ── names and terminals of the plain grammar ──
 name-brief : (m : Mode) (h : Symbol) → FitName m h → Brief (plainName h)
@@ -141,7 +139,3 @@ module _ (m : Mode) (s : List ℕ) (g : Rules) (b : Bytes s) (sound : Sound m s 
     unfolding expressionBound symbolBound textBound plainRules
     plain-short =
         not-too-long (plainRules n (analysis n)) plain-bounded (omega (arith, by-total (plainNames n) (plainOf n) 0, plain-total)) (omega (arith, by-long (plainNames n) (plainOf n) 0, plain-few))
-
--- ── so a count is the length ──
-pub exact : {w old new : List ℕ} {bytes : ℕ} {fits : Bool} → Paged w old new bytes fits → length w ≤ 1048576 → bytes ≡ length w
-exact p h = omega (arith, p .counted, h)
