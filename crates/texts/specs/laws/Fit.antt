@@ -31,7 +31,7 @@ use Rattle.printing.specs.Printed.{lowLeaf}
 use Rattle.texts.specs.laws.Called.{BytesOf, BytesIn, low-leaf}
 
 module _ {A : Type 0} (P : A → Type 0) where
-  join : (l m : List A) → All P l → All P m → All P (l ++ m)
+  pub join : (l m : List A) → All P l → All P m → All P (l ++ m)
   join [] m h k = k
   join (x ∷ l) m h k = (h .0, join l m (h .1) k)
 
@@ -53,6 +53,13 @@ module _ (P : Symbol → Type 0) where
   unfolding onlyLakes
   lakes-all [] h = tt
   lakes-all (x ∷ l) h = kept-by (isLake x) x (onlyLakes l) (h .0) (lakes-all l (h .1))
+
+  -- what left sides and uses have, all symbols have
+  pub names-all : (rs : List Rule) → All P (leftSides rs) → All P (usesOf rs) → All P (symbolsOf rs)
+  unfolding symbolsOf looseLakes
+  names-all rs f u =
+      join P (leftSides rs) (newIn sameSymbol (leftSides rs) (onlyLakes (usesOf rs))) f
+      (new-all P sameSymbol (leftSides rs) (onlyLakes (usesOf rs)) (lakes-all (usesOf rs) u))
 
 -- can be written in a mode, and within its bound
 abbrev pub FitName : Mode → Symbol → Type 0
@@ -104,10 +111,7 @@ module _ (m : Mode) where
   in-all-leaves (r ∷ rs) f n = let u = narrow-split m (yield (r .right)) (yields rs) (n .1 .1) in join (FitLeaf m) (leavesIn (r .right)) (leavesOf rs) (in-leaves (r .right) (f .1) (u .0)) (in-all-leaves rs (f .2) (u .1))
 
   in-names : (rs : List Rule) → FineRules m rs → Narrow m (yields rs) → All (FitName m) (symbolsOf rs)
-  unfolding symbolsOf looseLakes
-  in-names rs f n =
-      join (FitName m) (leftSides rs) (newIn sameSymbol (leftSides rs) (onlyLakes (usesOf rs))) (in-lefts rs f n)
-      (new-all (FitName m) sameSymbol (leftSides rs) (onlyLakes (usesOf rs)) (lakes-all (FitName m) (usesOf rs) (in-uses rs f n)))
+  in-names rs f n = names-all (FitName m) rs (in-lefts rs f n) (in-uses rs f n)
 
   in-terminals : (rs : List Rule) → FineRules m rs → Narrow m (yields rs) → All (FitLeaf m) (terminalsOf rs)
   unfolding terminalsOf over
@@ -140,9 +144,12 @@ module _ (m : Mode) (s : List ℕ) (g : Rules) (b : Bytes s) (sound : Sound m s 
   unfolding toks
   narrow-rules = subst (λ (l : List Tok). Narrow m l) (ap bones (sym (sound .reads)) ∙ bones-r g) (narrow-bones m (toks m s) (within-iff m (lexemes m s) .0 none-over .1))
 
-  pub fit-name : (r : ℕ) → r < length (numbered (trees g) .names) → FitName m (getD (numbered (trees g) .names) r (name []))
+  pub fit-names : All (FitName m) (numbered (trees g) .names)
   unfolding numbered
-  fit-name r l = all-at (FitName m) (name []) (symbolsOf (trees g)) r (in-names m (trees g) fine-rules narrow-rules) l
+  fit-names = in-names m (trees g) fine-rules narrow-rules
+
+  pub fit-name : (r : ℕ) → r < length (numbered (trees g) .names) → FitName m (getD (numbered (trees g) .names) r (name []))
+  fit-name r l = all-at (FitName m) (name []) (numbered (trees g) .names) r fit-names l
 
   pub fit-leaf : (x : ℕ) → x < length (numbered (trees g) .terminals) → FitLeaf m (getD (numbered (trees g) .terminals) x any)
   unfolding numbered

@@ -38,7 +38,7 @@ use Rattle.texts.specs.laws.Own.{lefts-long}
 use Rattle.texts.specs.laws.Plain.{plainNames, plain-sound, bodies-long}
 
 -- ── names and terminals of the plain grammar ──
-name-brief : (m : Mode) (h : Symbol) → FitName m h → Brief (plainName h)
+pub name-brief : (m : Mode) (h : Symbol) → FitName m h → Brief (plainName h)
 unfolding over nameBound plainName
 name-brief Lake (name w) f = omega (arith, ltb-false 32 (length w) (f .1))
 name-brief Plain (name w) f = omega (arith, ltb-false 38 (length w) (f .1))
@@ -120,22 +120,20 @@ module _ (m : Mode) (s : List ℕ) (g : Rules) (b : Bytes s) (sound : Sound m s 
     own-short = not-too-long (trees g) (bounded m (trees g) (fine-rules m s g b sound) (narrow-rules m s g b sound)) own-expressions own-few
 
   -- ── the plain text ──
-  module _ (t : List ℕ) (h : Holds t (withBodies n (plainOf n))) where
-    plain-total : total (plainOf n) ≤ 1024
-    plain-total = omega (arith, expressions-are t (withBodies n (plainOf n)) h, h .few-expressions, ap total (present-some (plainOf n)))
+  pub plain-bounded : BoundedAll (plainRules n (analysis n))
+  unfolding plainRules
+  plain-bounded =
+      bounded-all (terminalIn n) (length (n .names)) (length (n .terminals)) (plainNames n)
+      (λ r l. name-brief m (getD (n .names) r (name [])) (fit-name m s g b sound r l))
+      (λ y l. (fit-leaves y l .0, leaf-short m y (fit-leaves y l)))
+      (plainOf n) 0 (plain-sound m s g sound) (omega (arith, bodies-long (trees g)))
 
-    plain-few : length (plainOf n) ≤ 64
-    plain-few = omega (arith, bodies-long m s g b sound t h, names-are t (withBodies n (plainOf n)) h, h .few-symbols)
+  pub plain-length : length (n .names) ≤ 64 → total (plainOf n) ≤ 1024 → length (text (plainRules n (analysis n))) ≤ 1048576
+  unfolding expressionBound symbolBound textBound plainRules
+  plain-length few small =
+      not-too-long (plainRules n (analysis n)) plain-bounded (omega (arith, by-total (plainNames n) (plainOf n) 0, small)) (omega (arith, by-long (plainNames n) (plainOf n) 0, bodies-long (trees g), few))
 
-    pub plain-bounded : BoundedAll (plainRules n (analysis n))
-    unfolding plainRules
-    plain-bounded =
-        bounded-all (terminalIn n) (length (n .names)) (length (n .terminals)) (plainNames n)
-        (λ r l. name-brief m (getD (n .names) r (name [])) (fit-name m s g b sound r l))
-        (λ y l. (fit-leaves y l .0, leaf-short m y (fit-leaves y l)))
-        (plainOf n) 0 (plain-sound m s g sound) (omega (arith, bodies-long m s g b sound t h))
-
-    pub plain-short : length (text (plainRules n (analysis n))) ≤ 1048576
-    unfolding expressionBound symbolBound textBound plainRules
-    plain-short =
-        not-too-long (plainRules n (analysis n)) plain-bounded (omega (arith, by-total (plainNames n) (plainOf n) 0, plain-total)) (omega (arith, by-long (plainNames n) (plainOf n) 0, plain-few))
+  pub plain-short : (t : List ℕ) → Holds t (withBodies n (plainOf n)) → length (text (plainRules n (analysis n))) ≤ 1048576
+  plain-short t h =
+      plain-length (omega (arith, names-are t (withBodies n (plainOf n)) h, h .few-symbols))
+      (omega (arith, expressions-are t (withBodies n (plainOf n)) h, h .few-expressions, ap total (present-some (plainOf n))))

@@ -2,10 +2,10 @@
 use Prim.Native.Nat.{ℕ, zero, suc, _+_, _≤_, _<_}
 use mathlib.Core.Path.{_≡_, refl, sym, ap, ap₂, _∙_, subst}
 use mathlib.Core.Bool.{Bool, true, false}
-use mathlib.Core.List.{List, [], _∷_, map}
+use mathlib.Core.List.{List, [], _∷_, _++_, map}
 use mathlib.Core.Option.{Option, none, some}
 use native.Mathlib.Omega.{arith}
-use lib.ListN.{length, getD, length-map}
+use lib.ListN.{length, getD, replicate, length-map, length-append, length-replicate}
 use Rattle.tokens.specs.declared.Mode.{Mode}
 use Rattle.tokens.specs.Token.{Symbol, Leaf, name, any}
 use Rattle.tokens.specs.laws.Bytes.{Bytes}
@@ -13,14 +13,17 @@ use Rattle.grammar.specs.Exp.{Exp, Rule, rename}
 use Rattle.grammar.specs.Lakes.{plainName}
 use Rattle.grammar.specs.Syntax.{Rules}
 use Rattle.grammar.specs.Trees.{trees}
-use Rattle.grammar.specs.Numbers.{Grammar, numbered}
+use Rattle.grammar.specs.Numbers.{Grammar, leftSides, looseLakes, symbolsOf, rightBy, numbered}
 use Rattle.grammar.specs.Holds.{Holds, present}
 use Rattle.sets.specs.Analysis.{Analysis, analysis, terminalIn}
 use Rattle.sets.specs.Proper.{Sound as SoundExp, SoundAll}
+use Rattle.sets.specs.Intermediate.{waterIn, bodiesBy, intermediate}
 use Rattle.sets.specs.laws.Parts.{present-some}
 use Rattle.lakes.specs.Made.{withBodies}
-use Rattle.plain.specs.Plain.{rulesBy, plainRules}
+use Rattle.lakes.specs.laws.Next.{bodies-long as middle-bodies}
+use Rattle.plain.specs.Plain.{plainBodies, rulesBy, plainRules}
 use Rattle.translation.specs.Stepped.{plainOf}
+use Rattle.translation.specs.laws.Bodies.{plain-long}
 use Rattle.translation.specs.laws.Once.{once-numbered}
 use Rattle.translation.specs.laws.Proper.{plain-proper}
 use Rattle.building.specs.Promises.{Sound}
@@ -30,8 +33,9 @@ use Rattle.accepted.specs.laws.Terminals.{none-empty}
 use Rattle.writing.specs.Writing.{text}
 use Rattle.printing.specs.Printed.{lowLeaf, called, toned}
 use Rattle.texts.specs.Texts.{rulesIn, ruled, textOf}
-use Rattle.texts.specs.laws.Rights.{names-are, rights-long, rights-are}
+use Rattle.texts.specs.laws.Rights.{rights-are}
 use Rattle.texts.specs.laws.Called.{called-is, toned-is}
+use Rattle.texts.specs.laws.Own.{lefts-long}
 use Rattle.texts.specs.laws.Fit.{fit-name, name-bytes, low-leaves}
 
 -- rules with a body for each symbol
@@ -51,6 +55,20 @@ module _ (m : Mode) (s : List ℕ) (g : Rules) (sound : Sound m s g) where
   pub plain-sound : SoundAll (terminalIn (numbered (trees g))) (length (numbered (trees g) .names)) (length (numbered (trees g) .terminals)) (plainOf (numbered (trees g)))
   plain-sound = plain-proper (numbered (trees g)) (proper m s g sound) (once-numbered (trees g)) (none-empty m s g sound) (omega (arith, dot-in (trees g)))
 
+-- a body for each symbol
+rights-many : (rs : List Rule) → length (numbered rs .names) ≡ length (numbered rs .rights)
+unfolding numbered symbolsOf
+rights-many rs =
+    let k : length {A = Option (Exp ℕ)} (replicate (length (looseLakes rs)) none) ≡ length (looseLakes rs) = length-replicate (length (looseLakes rs)) none in
+    omega (arith, length-append (leftSides rs) (looseLakes rs), lefts-long rs, length-append (map (rightBy (leftSides rs ++ looseLakes rs)) rs) (replicate (length (looseLakes rs)) none), length-map rs (rightBy (leftSides rs ++ looseLakes rs)), k)
+
+pub bodies-long : (rs : List Rule) → length (plainOf (numbered rs)) ≡ length (numbered rs .names)
+unfolding plainBodies intermediate
+bodies-long rs =
+    let n : Grammar = numbered rs in
+    let k : length (bodiesBy (waterIn n) (n .names) (n .rights)) ≡ length (n .names) = middle-bodies (waterIn n) (n .names) (n .rights) (rights-many rs) in
+    plain-long n (analysis n) (n .names) (bodiesBy (waterIn n) (n .names) (n .rights)) 0 (sym k) ∙ k
+
 module _ (m : Mode) (s : List ℕ) (g : Rules) (b : Bytes s) (sound : Sound m s g) (t : List ℕ) (h : Holds t (withBodies (numbered (trees g)) (plainOf (numbered (trees g))))) where
   abbrev n : Grammar
   n = numbered (trees g)
@@ -64,15 +82,12 @@ module _ (m : Mode) (s : List ℕ) (g : Rules) (b : Bytes s) (sound : Sound m s 
   names-is : (r : ℕ) → r < length (n .names) → called true t r ≡ plainNames n r
   names-is r l = called-is true t w h r l (name-bytes m (getD (n .names) r (name [])) (fit-name m s g b sound r l))
 
-  pub bodies-long : length (plainOf n) ≡ length (n .names)
-  bodies-long = sym (length-map (plainOf n) some) ∙ sym (rights-long t w h) ∙ names-are t w h
-
   -- THE LAW: a table that holds the translation is written as the plain rules
   pub plain-rules : ruled true t ≡ plainRules n (analysis n)
   unfolding ruled plainRules
   plain-rules =
       ap (rulesIn (called true t) 0) (rights-are t w h rights-sound)
-      ∙ every (terminalIn n) (length (n .names)) (length (n .terminals)) (called true t) (plainNames n) names-is (low-leaves m s g b sound) (plainOf n) 0 (plain-sound m s g sound) (omega (arith, bodies-long))
+      ∙ every (terminalIn n) (length (n .names)) (length (n .terminals)) (called true t) (plainNames n) names-is (low-leaves m s g b sound) (plainOf n) 0 (plain-sound m s g sound) (omega (arith, bodies-long (trees g)))
 
   pub plain-text : textOf true t ≡ text (plainRules n (analysis n))
   unfolding textOf
