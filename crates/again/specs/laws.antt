@@ -1,3 +1,6 @@
 -- Laws of the definitions beside this file.
 pub mod Chain
 pub mod Reads
+pub mod Own
+pub mod Names
+pub mod Deep
