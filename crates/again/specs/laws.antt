@@ -4,3 +4,6 @@ pub mod Reads
 pub mod Own
 pub mod Names
 pub mod Deep
+pub mod Counts
+pub mod Bodies
+pub mod Plain

@@ -75,14 +75,14 @@ twice k j (never a) = ap never (twice k j a)
 
 -- ── the bodies, each symbol called by its number ──
 module _ (k : ℕ → Symbol) where
-  abbrev deep : Exp ℕ → ℕ
+  abbrev pub deep : Exp ℕ → ℕ
   deep e = deepC (conc (rename k e) .c)
 
-  abbrev Upto : ℕ → Option (Exp ℕ) → Type 0
+  abbrev pub Upto : ℕ → Option (Exp ℕ) → Type 0
   Upto n none = Unit {0}
   Upto n (some e) = deep e ≤ n
 
-  rights-upto : (n : ℕ) (names : List Symbol) (rs : List Rule) (j : ℕ) → All (ShallowBy n) rs → All (Upto n) (map (rightBy names) rs ++ replicate j none)
+  pub rights-upto : (n : ℕ) (names : List Symbol) (rs : List Rule) (j : ℕ) → All (ShallowBy n) rs → All (Upto n) (map (rightBy names) rs ++ replicate j none)
   rights-upto n names [] zero a = tt
   rights-upto n names [] (suc j) a = (tt, rights-upto n names [] j a)
   rights-upto n names (r ∷ rs) j a = (
@@ -90,7 +90,7 @@ module _ (k : ℕ → Symbol) where
     rights-upto n names rs j (a .1),
   )
 
-  right-upto : (n : ℕ) (os : List (Option (Exp ℕ))) (i : ℕ) → All (Upto n) os → Upto n (getD os i none)
+  pub right-upto : (n : ℕ) (os : List (Option (Exp ℕ))) (i : ℕ) → All (Upto n) os → Upto n (getD os i none)
   right-upto n [] i a = tt
   right-upto n (o ∷ os) zero a = a .0
   right-upto n (o ∷ os) (suc i) a = right-upto n os i (a .1)
@@ -162,10 +162,10 @@ module _ (k : ℕ → Symbol) where
   body-upto Lake (lake v) w o ss p u t f = two-upto 33 (stepOne w o) ss (one-upto 32 w o u t) (omega arith) f
   body-upto Plain (lake v) w o ss p u t f = absurd (p .0)
 
-  abbrev Within : Exp ℕ → Type 0
+  abbrev pub Within : Exp ℕ → Type 0
   Within e = deep e ≤ 33
 
-  bodies-upto : (m : Mode) (g : Grammar) (a : Analysis) (w : Option (Exp ℕ)) (r : ℕ) (hs : List Symbol) (os : List (Option (Exp ℕ))) → Upto (openBound m) w → All (FitName m) hs → All (Upto (openBound m)) os
+  pub bodies-upto : (m : Mode) (g : Grammar) (a : Analysis) (w : Option (Exp ℕ)) (r : ℕ) (hs : List Symbol) (os : List (Option (Exp ℕ))) → Upto (openBound m) w → All (FitName m) hs → All (Upto (openBound m)) os
       → All Within (plainFrom g a r hs (bodiesBy w hs os))
   unfolding plainFrom bodiesBy
   bodies-upto m g a w r [] os u p q = tt
@@ -173,7 +173,7 @@ module _ (k : ℕ → Symbol) where
   bodies-upto m g a w r (h ∷ hs) (o ∷ os) u p q =
       (body-upto m h w o (alternatives g (altOf a r)) (p .0) u (q .0) (flat-all g (altOf a r)), bodies-upto m g a w (suc r) hs os u (p .1) (q .1))
 
-  rules-upto : (es : List (Exp ℕ)) (r : ℕ) → All Within es → All (ShallowBy 33) (rulesBy k r es)
+  pub rules-upto : (es : List (Exp ℕ)) (r : ℕ) → All Within es → All (ShallowBy 33) (rulesBy k r es)
   unfolding rulesBy
   rules-upto [] r a = tt
   rules-upto (e ∷ es) r a = (a .0, rules-upto es (suc r) (a .1))
