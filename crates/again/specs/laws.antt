@@ -7,3 +7,4 @@ pub mod Deep
 pub mod Counts
 pub mod Bodies
 pub mod Plain
+pub mod Same

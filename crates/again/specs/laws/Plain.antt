@@ -62,7 +62,7 @@ leaf-plain m any f = f
 leaf-plain m (literal l) f = f
 leaf-plain m (class l) f = f
 
-dry : (h : Symbol) → Dry (plainName h)
+pub dry : (h : Symbol) → Dry (plainName h)
 unfolding plainName
 dry (name w) = refl
 dry (lake w) = refl
@@ -104,14 +104,14 @@ module _ (m : Mode) (s : List ℕ) (g : Rules) (b : Bytes s) (sound : Sound m s 
   leaves-fit : (y : Leaf) → terminalIn n y < length (n .terminals) → FitLeaf Plain y
   leaves-fit y l = leaf-plain m y (fit-leaves m s g b sound y l)
 
-  lefts-are : leftSides ps ≡ map plainName (n .names)
+  pub lefts-are : leftSides ps ≡ map plainName (n .names)
   lefts-are = lefts-by k (n .names) es 0 (bodies-long (trees g)) (λ i l. ap k (let z : 0 + i ≡ i = omega arith in z))
 
-  named : All (Named m) (n .names)
+  pub named : All (Named m) (n .names)
   unfolding numbered
   named = both (FitName m) (Unreserved m) (symbolsOf (trees g)) (fit-names m s g b sound) (names-all (Unreserved m) (trees g) (lefts-free m s g b sound) (uses-free m s g b sound))
 
-  names-once : Distinct [] (n .names)
+  pub names-once : Distinct [] (n .names)
   unfolding numbered
   names-once = names-distinct (trees g) (left-once m s g b sound)
 
@@ -121,7 +121,7 @@ module _ (m : Mode) (s : List ℕ) (g : Rules) (b : Bytes s) (sound : Sound m s 
       ap (λ (h : Symbol). isIn sameSymbol h (map plainName (n .names))) (sym (List·getD-map plainName (n .names) r (name [])))
       ∙ in-at (map plainName (n .names)) r (omega (arith, l, length-map (n .names) plainName))
 
-  loose : looseLakes ps ≡ []
+  pub loose : looseLakes ps ≡ []
   loose = none-loose ps (uses-all (terminalIn n) (length (n .names)) (length (n .terminals)) k Dry (λ r l. dry (getD (n .names) r (name []))) es 0 (plain-sound m s g sound))
 
   rights-shallow : All (Upto k (openBound m)) (n .rights)
