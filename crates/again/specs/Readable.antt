@@ -1,5 +1,5 @@
 -- What rules have whose text is accepted and read as the same rules (01, Notation; 01, Refusal numbers 1 to 6). Assumes nothing: these are definitions.
-use Prim.Native.Nat.{ℕ, _≤_}
+use Prim.Native.Nat.{_≤_}
 use mathlib.Core.Path.{_≡_}
 use mathlib.Core.Bool.{true, false}
 use mathlib.Core.List.{List, [], _∷_}

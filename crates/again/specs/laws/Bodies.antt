@@ -1,12 +1,12 @@
 -- Rules made of sound bodies, each symbol called by its number: what their names and terminals have, the rules have. Assumes nothing.
-use Prim.Native.Nat.{ℕ, zero, suc, _+_, _≤_, _<_}
+use Prim.Native.Nat.{ℕ, suc, _+_, _≤_, _<_}
 use mathlib.Core.Path.{_≡_, refl, ap, ap₂, _∙_}
 use mathlib.Core.Bool.{Bool, true, false}
 use mathlib.Core.List.{List, [], _∷_, _++_, map}
 use native.Mathlib.Omega.{arith}
 use lib.ListN.{length, getD}
 use Rattle.tokens.specs.declared.Mode.{Mode}
-use Rattle.tokens.specs.Token.{Symbol, name, Leaf, query, asterisk, cross, Tok, symbol, leaf, suf, slash}
+use Rattle.tokens.specs.Token.{Symbol, name, Leaf, query, asterisk, cross, Tok, suf, slash}
 use Rattle.grammar.specs.Exp.{Exp, Rule, sym as uses, ter, seq, alt, opt, star, plus, ahead, never, rename, symbolsIn, leavesIn}
 use Rattle.grammar.specs.Lakes.{plainName}
 use Rattle.grammar.specs.Same.{sameSymbol, newIn}
@@ -15,7 +15,6 @@ use Rattle.reading.specs.Machine.{over}
 use Rattle.sets.specs.Proper.{Sound, SoundAll}
 use Rattle.plain.specs.Plain.{rulesBy}
 use Rattle.records.specs.laws.Rows.{All}
-use Rattle.writing.specs.laws.Terminals.{FineLeaf, FineSymbol}
 use Rattle.writing.specs.laws.Trip.{FineExpr, FineRules}
 use Rattle.writing.specs.laws.Kept.{yield, yields}
 use Rattle.writing.specs.laws.Within.{Narrow}

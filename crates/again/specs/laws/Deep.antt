@@ -1,27 +1,26 @@
 -- How deep parentheses nest in a plain text: at most one more than in the lake grammar, for a copy of water; 33 at most (01, Notation: the bounds). Assumes nothing.
-use Prim.Native.Nat.{ℕ, zero, suc, _+_, _≤_, _<_, max}
-use mathlib.Core.Path.{_≡_, refl, sym as inverse, ap, ap₂, _∙_, subst}
+use Prim.Native.Nat.{ℕ, zero, suc, _+_, _≤_, max}
+use mathlib.Core.Path.{_≡_, refl, ap, ap₂, _∙_}
 use mathlib.Core.Bool.{Bool, true, false, not, _&&_}
-use mathlib.Core.List.{List, [], _∷_, _++_, map, append-assoc}
+use mathlib.Core.List.{List, [], _∷_, _++_, map}
 use mathlib.Core.Option.{Option, none, some}
 use native.Mathlib.Omega.{arith}
-use lib.ListN.{length, getD, replicate}
+use lib.ListN.{getD, replicate}
 use Rattle.tokens.specs.declared.Mode.{Mode}
 use Rattle.tokens.specs.declared.Mode.the-variants.{Lake, Plain}
-use Rattle.tokens.specs.Token.{Symbol, name, lake, Leaf, any, Tok, symbol, arrow}
+use Rattle.tokens.specs.Token.{Symbol, name, lake, Leaf}
 use Rattle.tokens.specs.Bounds.{openBound}
 use Rattle.grammar.specs.Exp.{Exp, Rule, sym, ter, seq, alt, opt, star, plus, ahead, never, rename}
 use Rattle.grammar.specs.Lakes.{waterOf, stepOne, choiceOf, skipOf, stepTwo}
 use Rattle.grammar.specs.Same.{sameSymbol, indexOf}
-use Rattle.grammar.specs.Syntax.{choiceToks}
 use Rattle.grammar.specs.Numbers.{Grammar, isLake, rightBy}
 use Rattle.words.specs.Set.{memberOf}
 use Rattle.sets.specs.Intermediate.{rightOr, bodyBy, bodiesBy}
 use Rattle.sets.specs.Analysis.{Analysis, altOf}
 use Rattle.plain.specs.Plain.{nonterminalsIn, terminalsIn, alternatives, plainBy, plainFrom, rulesBy}
 use Rattle.records.specs.laws.Rows.{All}
-use Rattle.writing.specs.laws.Pairs.{Levels, conc, ruleToks, written}
-use Rattle.writing.specs.laws.Depth.{peak, deepC, deepS, deepP, deepF, deepQ, peak-c, Shallow, shallow}
+use Rattle.writing.specs.laws.Pairs.{Levels, conc, written}
+use Rattle.writing.specs.laws.Depth.{peak, deepC, deepS, deepP, deepF, deepQ, peak-c, shallow}
 use Rattle.texts.specs.laws.Fit.{FitName, join}
 
 -- ── rules and their right sides ──

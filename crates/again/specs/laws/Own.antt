@@ -1,9 +1,9 @@
 -- The own text of an accepted grammar, within the bound, is accepted and read as the same rules, in both modes. Assumes nothing.
 use Prim.Native.Nat.{ℕ, _≤_, _<_}
-use mathlib.Core.Path.{_≡_, refl, sym, ap, _∙_, subst}
-use mathlib.Core.Bool.{Bool, true, false}
+use mathlib.Core.Path.{_≡_, sym, ap, _∙_, subst}
+use mathlib.Core.Bool.{Bool, false}
 use mathlib.Core.List.{List, [], _∷_}
-use mathlib.Core.Option.{Option, none, some}
+use mathlib.Core.Option.{none, some}
 use native.Mathlib.Omega.{arith}
 use lib.ListN.{length, length-append}
 use borrow.Author.Tests.{lt-ltb}
@@ -16,7 +16,7 @@ use Rattle.grammar.specs.Exp.{Rule}
 use Rattle.grammar.specs.Syntax.{Rules, rule, more, tokens}
 use Rattle.grammar.specs.Trees.{treeC, ruled, trees}
 use Rattle.grammar.specs.Numbers.{leftSides, usesOf, symbolsOf, terminalsOf, expressionsOf}
-use Rattle.grammar.specs.Refusal.{Refusal, refusal, refuseIf, refuseAt, _▸_}
+use Rattle.grammar.specs.Refusal.{refusal, refuseIf, refuseAt, _▸_}
 use Rattle.reading.specs.Machine.{start, judge}
 use Rattle.reading.specs.Reading.{offence, second, unruled, leftsIn, tooMany, rulesIn, rulesOf, refusesText}
 use Rattle.records.specs.laws.Rows.{All}

@@ -1,29 +1,29 @@
 -- THE LAW: the plain text of an accepted grammar is accepted in plain mode and read as the plain rules. Assumes nothing.
-use Prim.Native.Nat.{ℕ, zero, suc, _+_, _≤_, _<_}
-use mathlib.Core.Path.{_≡_, refl, sym, ap, ap₂, _∙_, subst}
-use mathlib.Core.Bool.{Bool, true, false}
-use mathlib.Core.List.{List, [], _∷_, _++_, map}
-use mathlib.Core.Option.{Option, none, some}
+use Prim.Native.Nat.{ℕ, _+_, _≤_, _<_}
+use mathlib.Core.Path.{_≡_, refl, sym, ap, _∙_, subst}
+use mathlib.Core.Bool.{true, false}
+use mathlib.Core.List.{List, [], _∷_, map}
+use mathlib.Core.Option.{none}
 use native.Mathlib.Omega.{arith}
 use lib.ListN.{length, getD, length-map, length-append, List·getD-map}
 use borrow.Author.Tests.{le-ltb}
 use Rattle.tokens.specs.declared.Mode.{Mode}
 use Rattle.tokens.specs.declared.Mode.the-variants.{Lake, Plain}
-use Rattle.tokens.specs.Token.{Symbol, name, lake, Leaf, any, literal, class, symbol, leaf}
+use Rattle.tokens.specs.Token.{Symbol, name, lake, Leaf, any, literal, class, symbol}
 use Rattle.tokens.specs.Bounds.{textBound, nameBound, openBound, symbolBound, terminalBound, expressionBound}
 use Rattle.tokens.specs.laws.Bytes.{Bytes}
 use Rattle.grammar.specs.Exp.{Exp, Rule}
 use Rattle.grammar.specs.Lakes.{plainName}
-use Rattle.grammar.specs.Same.{sameSymbol, sameLeaf, isIn, indexOf}
+use Rattle.grammar.specs.Same.{sameSymbol, isIn, indexOf}
 use Rattle.grammar.specs.Syntax.{Rules}
 use Rattle.grammar.specs.Trees.{trees}
-use Rattle.grammar.specs.Numbers.{Grammar, leftSides, usesOf, looseLakes, symbolsOf, terminalsOf, expressionsOf, leavesOf, numbered}
+use Rattle.grammar.specs.Numbers.{Grammar, leftSides, usesOf, looseLakes, symbolsOf, numbered}
 use Rattle.reading.specs.Machine.{over}
 use Rattle.reading.specs.Reading.{reserved, refusesText, rulesOf}
-use Rattle.sets.specs.Intermediate.{waterIn, bodiesBy, intermediate}
-use Rattle.sets.specs.Analysis.{Analysis, analysis, terminalIn}
+use Rattle.sets.specs.Intermediate.{waterIn, intermediate}
+use Rattle.sets.specs.Analysis.{analysis, terminalIn}
 use Rattle.sets.specs.laws.Parts.{total}
-use Rattle.plain.specs.Plain.{plainFrom, plainBodies, rulesBy, plainRules}
+use Rattle.plain.specs.Plain.{plainBodies, rulesBy, plainRules}
 use Rattle.translation.specs.Stepped.{plainOf}
 use Rattle.records.specs.laws.Rows.{All}
 use Rattle.building.specs.Promises.{Sound}
@@ -31,8 +31,6 @@ use Rattle.accepted.specs.laws.Dot.{dot-in}
 use Rattle.writing.specs.Writing.{text}
 use Rattle.writing.specs.laws.Terminals.{FineSymbol}
 use Rattle.writing.specs.laws.Renamed.{name-plain}
-use Rattle.writing.specs.laws.Pairs.{written}
-use Rattle.writing.specs.laws.Depth.{peak}
 use Rattle.texts.specs.laws.Fit.{FitName, FitLeaf, names-all, fit-names, fit-name}
 use Rattle.texts.specs.laws.Own.{lefts-long}
 use Rattle.texts.specs.laws.Plain.{plainNames, plain-sound, bodies-long}
@@ -40,7 +38,7 @@ use Rattle.texts.specs.laws.Lengths.{name-brief, by-long, by-total, fit-leaves,
 use Rattle.again.specs.Readable.{Distinct, Unreserved, Ruled, Readable}
 use Rattle.again.specs.laws.Own.{some-rules, again, left-once, lefts-free, uses-free, no-deep}
 use Rattle.again.specs.laws.Names.{Named, names-distinct, plain-distinct, in-at}
-use Rattle.again.specs.laws.Deep.{ShallowBy, peak-of, of-peak, Upto, Within, rights-upto, right-upto, bodies-upto, rules-upto}
+use Rattle.again.specs.laws.Deep.{peak-of, of-peak, Upto, Within, rights-upto, right-upto, bodies-upto, rules-upto}
 use Rattle.again.specs.laws.Counts.{In, few-terminals, in-by}
 use Rattle.again.specs.laws.Bodies.{uses-all, leaves-all, fine-all, narrow-all, lefts-by, Dry, none-loose}
 

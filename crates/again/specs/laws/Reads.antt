@@ -1,9 +1,9 @@
 -- Rules that are readable, written as text, are accepted and read as the same rules. Assumes nothing.
-use Prim.Native.Nat.{ℕ, _+_, _*_, _≤_}
-use mathlib.Core.Path.{_≡_, refl, sym, ap, _∙_, subst}
-use mathlib.Core.Bool.{Bool, true, false}
+use Prim.Native.Nat.{ℕ, _*_, _≤_}
+use mathlib.Core.Path.{_≡_, sym, ap, _∙_, subst}
+use mathlib.Core.Bool.{Bool, false}
 use mathlib.Core.List.{List, [], _∷_}
-use mathlib.Core.Option.{Option, none, some}
+use mathlib.Core.Option.{Option, none}
 use native.Mathlib.Omega.{arith}
 use lib.ListN.{length}
 use lib.Dec.{ltb}
@@ -11,15 +11,14 @@ use borrow.Author.Tests.{le-ltb}
 use Rattle.tokens.specs.declared.Mode.{Mode}
 use Rattle.tokens.specs.Token.{Symbol, Tok, Lexeme}
 use Rattle.tokens.specs.Tokens.{lexemes, toksOf, toks}
-use Rattle.tokens.specs.Bounds.{textBound, openBound, symbolBound, terminalBound, expressionBound}
+use Rattle.tokens.specs.Bounds.{textBound, symbolBound, terminalBound, expressionBound}
 use Rattle.grammar.specs.Exp.{Rule}
 use Rattle.grammar.specs.Syntax.{Rules, tokens}
 use Rattle.grammar.specs.Trees.{trees}
 use Rattle.grammar.specs.Numbers.{leftSides, usesOf, symbolsOf, terminalsOf, expressionsOf}
-use Rattle.grammar.specs.Refusal.{Refusal, refuseIf, refuseAt, _▸_}
-use Rattle.reading.specs.Grammar.{GrammarOf}
+use Rattle.grammar.specs.Refusal.{refuseIf, refuseAt, _▸_}
 use Rattle.reading.specs.Machine.{start, Judged, fine as free, judge}
-use Rattle.reading.specs.Reader.{Res, ok, rulesP}
+use Rattle.reading.specs.Reader.{ok, rulesP}
 use Rattle.reading.specs.Reading.{offence, second, unruled, leftsIn, tooMany, rulesBy, rulesIn, rulesOf, refusesText}
 use Rattle.reading.specs.laws.Bounds.{overAt, judged, one-answer}
 use Rattle.reading.specs.laws.Reads.{reads-back, cost-enough}
@@ -28,7 +27,7 @@ use Rattle.building.specs.Promises.{Sound}
 use Rattle.building.specs.Lay.{gathered}
 use Rattle.building.specs.laws.Symbols.{uses, lefts-gathered, tells-lefts, tells-uses}
 use Rattle.writing.specs.Writing.{text}
-use Rattle.writing.specs.laws.Pairs.{written, rules, tokens-rules, trees-rules}
+use Rattle.writing.specs.laws.Pairs.{rules, tokens-rules, trees-rules}
 use Rattle.writing.specs.laws.Trip.{text-tokens}
 use Rattle.writing.specs.laws.Kept.{bones, yields, bones-r}
 use Rattle.writing.specs.laws.Depth.{peak}

@@ -1,20 +1,20 @@
 -- The plain grammar, numbered anew, has the plain names and the plain bodies; it is its own translation. Assumes nothing.
-use Prim.Native.Nat.{ℕ, zero, suc, _+_, _≤_, _<_}
-use mathlib.Core.Path.{_≡_, refl, sym, ap, ap₂, _∙_, subst}
+use Prim.Native.Nat.{ℕ, zero, suc, _<_}
+use mathlib.Core.Path.{_≡_, refl, sym, ap, ap₂, _∙_}
 use mathlib.Core.Bool.{Bool, true, false, cond, _||_, true≢false}
 use mathlib.Core.List.{List, [], _∷_, _++_, map, append-nil}
 use mathlib.Core.Option.{Option, none, some}
 use native.Mathlib.Omega.{arith}
 use lib.ListN.{length, getD, replicate, length-map, List·getD-map}
 use Rattle.tokens.specs.declared.Mode.{Mode}
-use Rattle.tokens.specs.Token.{Symbol, name, lake, Leaf, any}
+use Rattle.tokens.specs.Token.{Symbol, name, lake, Leaf}
 use Rattle.tokens.specs.laws.Bytes.{Bytes}
 use Rattle.grammar.specs.Exp.{Exp, Rule, sym as uses, ter, seq, alt, opt, star, plus, ahead, never, rename}
 use Rattle.grammar.specs.Lakes.{plainName}
 use Rattle.grammar.specs.Same.{sameSymbol, isIn, indexOf}
 use Rattle.grammar.specs.Syntax.{Rules}
 use Rattle.grammar.specs.Trees.{trees}
-use Rattle.grammar.specs.Numbers.{Grammar, isLake, leftSides, looseLakes, symbolsOf, rightBy, numbered}
+use Rattle.grammar.specs.Numbers.{Grammar, isLake, leftSides, symbolsOf, rightBy, numbered}
 use Rattle.sets.specs.Intermediate.{waterIn, bodyBy, bodiesBy, intermediate}
 use Rattle.sets.specs.Analysis.{Analysis, analysis, altOf, terminalIn}
 use Rattle.sets.specs.Proper.{Sound as SoundExp, SoundAll}

@@ -2,40 +2,41 @@
 -- the match of the grammar, with answer, cells and nodes, for every input; writing it again gives the same bytes. Stated over the public definitions. Assumes nothing.
 use Prim.Native.Nat.{ℕ, _+_, _*_, _≤_, _<_}
 use mathlib.Core.Path.{_≡_, refl, sym, ap, ap₂, _∙_, subst}
-use mathlib.Core.Bool.{Bool, true, false, true≢false}
-use mathlib.Core.List.{List, [], _∷_}
+use mathlib.Core.Bool.{Bool, true, false}
+use mathlib.Core.List.{List}
 use mathlib.Core.Option.{Option, none, some}
 use native.Mathlib.Omega.{arith}
 use lib.ListN.{length, getD}
 use lib.Dec.{ltb}
 use borrow.Author.Tests.{ltb-false}
 use Rattle.tokens.specs.declared.Mode.{Mode}
-use Rattle.tokens.specs.declared.Mode.the-variants.{Lake, Plain}
-use Rattle.tokens.specs.Bounds.{inputBound, symbolBound, terminalBound, expressionBound, plainBound}
+use Rattle.tokens.specs.declared.Mode.the-variants.{Plain}
+use Rattle.tokens.specs.Bounds.{inputBound, textBound, symbolBound, terminalBound, expressionBound, plainBound}
 use Rattle.tokens.specs.laws.Bytes.{Bytes}
 use Rattle.grammar.specs.Exp.{Exp, Rule}
 use Rattle.grammar.specs.Syntax.{Rules}
 use Rattle.grammar.specs.Trees.{trees}
 use Rattle.grammar.specs.Numbers.{Grammar, symbolsOf, terminalsOf, expressionsOf, numbered}
-use Rattle.grammar.specs.Refusal.{Refusal, refuseIf, refuseAt, _▸_}
+use Rattle.grammar.specs.Refusal.{Refusal, refusal, refuseIf, _▸_}
 use Rattle.reading.specs.Reading.{tooMany, refusesText, rulesOf}
 use Rattle.scanning.specs.Found.{found}
 use Rattle.scanning.specs.Scanned.{scanned}
 use Rattle.scanning.specs.laws.Chain.{text-by-scan}
 use Rattle.sets.specs.Analysis.{analysis}
 use Rattle.sets.specs.laws.Parts.{total}
-use Rattle.plain.specs.Plain.{plainBodies, plainRules, sizes, tooLarge}
+use Rattle.plain.specs.Plain.{plainRules, sizes, tooLarge}
 use Rattle.plain.specs.Calls.{order, looping}
 use Rattle.translation.specs.Stepped.{plainOf}
 use Rattle.translation.specs.laws.Bodies.{sizes-total}
 use Rattle.building.specs.Promises.{Sound}
 use Rattle.matching.specs.Cells.{cells}
 use Rattle.writing.specs.Writing.{text}
+use Rattle.again.specs.laws.Own.{own-again, too-long-again}
 use Rattle.again.specs.laws.Plain.{plain-again}
 use Rattle.again.specs.laws.Same.{again-bodies, again-plain}
 use Rattle.gurkenmond.specs.Prepare.{Prepared, prepared, preparedBy, refuses}
-use Rattle.gurkenmond.specs.Calls.{Matching, Writing, cellsNeeded, refusesInput, matchBy, matchAfter, matchOf, writeBy, writeOwnOf, writePlainOf}
-use Rattle.gurkenmond.specs.laws.Loads.{Clean, clean, grammar-of}
+use Rattle.gurkenmond.specs.Calls.{refusesInput, matchBy, matchAfter, matchOf, writeBy, writeOwnOf, writePlainOf}
+use Rattle.gurkenmond.specs.laws.Loads.{clean, grammar-of}
 
 -- ── no check refuses: none of them does ──
 abbrev told : Option Refusal → ℕ
@@ -92,9 +93,19 @@ module _ (m : Mode) (t : List ℕ) (b : Bytes t) (g : Rules) (sound : Sound m t 
   pub accepted-again : (refusesText Plain (text (plainRules own (analysis own))) ≡ none) × (rulesOf Plain (text (plainRules own (analysis own))) ≡ plainRules own (analysis own))
   accepted-again = plain-again m t g b sound few-symbols few-terminals small
 
+  in-expressions : expressionsOf (trees g) ≤ expressionBound m
+  in-expressions = ltb-false (expressionBound m) (expressionsOf (trees g)) (if-none (ltb (expressionBound m) (expressionsOf (trees g))) 6 3 (split six-two six-three (six .1) .1))
+
+  pub own-accepted-again : length (text (trees g)) ≤ textBound m → (refusesText m (text (trees g)) ≡ none) × (rulesOf m (text (trees g)) ≡ trees g)
+  unfolding numbered symbolBound terminalBound
+  own-accepted-again short = own-again m t g b sound few-symbols few-terminals in-expressions short
+
 -- ── on the public definitions ──
 abbrev pub plainText : Mode → List ℕ → List ℕ
 plainText m t = text (plainRules (prepared m t .grammar) (prepared m t .analysis))
+
+abbrev pub ownText : Mode → List ℕ → List ℕ
+ownText m t = text (prepared m t .rules)
 
 module _ (m : Mode) (t : List ℕ) (b : Bytes t) (ok : refuses m t ≡ none) where
   abbrev n : Grammar
@@ -167,3 +178,33 @@ module _ (m : Mode) (t : List ℕ) (b : Bytes t) (ok : refuses m t ≡ none) whe
   pub own-back : (out : List ℕ) → writeOwnOf Plain (plainText m t) out ≡ writePlainOf m t out
   unfolding writeOwnOf writePlainOf prepared preparedBy
   own-back out = ap₂ (λ (o : Option Refusal) (rs : List Rule). writeBy o (text rs) out) (accepted-back ∙ sym ok) (read-again .1)
+
+  -- ── the grammar's own text, within the bound of its mode: read again it is the same grammar, in both modes; so every call answers the same ──
+  own-is : ownText m t ≡ text (rulesOf m t)
+  unfolding prepared preparedBy
+  own-is = refl
+
+  own-read : length (text (rulesOf m t)) ≤ textBound m → (refusesText m (text (rulesOf m t)) ≡ none) × (rulesOf m (text (rulesOf m t)) ≡ rulesOf m t)
+  own-read = go (grammar .0) (grammar .1) (rulesOf m t) (grammar .2) (chain .1) large
+    where
+      go : (g : Rules) → Sound m t g → (rs : List Rule) → trees g ≡ rs → tooMany m rs ≡ none → tooLarge (plainOf (numbered rs)) ≡ none → length (text rs) ≤ textBound m → (refusesText m (text rs) ≡ none) × (rulesOf m (text rs) ≡ rs)
+      go g sound rs e =
+          subst (λ (rs : List Rule). tooMany m rs ≡ none → tooLarge (plainOf (numbered rs)) ≡ none → length (text rs) ≤ textBound m → (refusesText m (text rs) ≡ none) × (rulesOf m (text rs) ≡ rs)) e
+          (λ few large short. own-accepted-again m t b g sound few large short)
+
+  pub prepared-back : length (ownText m t) ≤ textBound m → prepared m (ownText m t) ≡ prepared m t
+  unfolding prepared
+  prepared-back short = ap preparedBy (ap (rulesOf m) own-is ∙ own-read (subst (λ (w : List ℕ). length w ≤ textBound m) own-is short) .1)
+
+  pub own-accepted-back : length (ownText m t) ≤ textBound m → refuses m (ownText m t) ≡ none
+  unfolding refuses
+  own-accepted-back short =
+      let k = subst (λ (w : List ℕ). length w ≤ textBound m) own-is short in
+      ap₂ (λ (o : Option Refusal) (p : Prepared). o ▸ (tooLarge (p .bodies) ▸ looping (p .bodies))) (ap (refusesText m) own-is ∙ own-read k .0) (prepared-back short)
+      ∙ ap (λ (o : Option Refusal). o ▸ (tooLarge (prepared m t .bodies) ▸ looping (prepared m t .bodies))) (sym (parts .0))
+      ∙ ok
+
+  -- "A lake grammar's own text may pass 16,384 bytes; reading it then refuses 1"
+  pub own-too-long : textBound m < length (ownText m t) → refuses m (ownText m t) ≡ some (refusal 1 (textBound m))
+  unfolding refuses
+  own-too-long l = ap (λ (o : Option Refusal). o ▸ (tooLarge (prepared m (ownText m t) .bodies) ▸ looping (prepared m (ownText m t) .bodies))) (too-long-again m (ownText m t) l)

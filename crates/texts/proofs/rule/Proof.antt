@@ -1,8 +1,5 @@
 -- `texts::rule` meets its contract. Assumes nothing.
-use Prim.Native.Nat.{ℕ, _+_, _≤_, _<_}
-use mathlib.Core.Path.{_≡_, refl, sym, ap, _∙_}
 use native.Mathlib.Omega.{arith}
-use Rattle.printing.specs.Pen.{most, Penned}
 use Rattle.printing.specs.laws.Pen.{on, penned-is, penned-most}
 use Rattle.texts.specs.laws.Pages.{rule-text}
 use borrow.Author.Needs.{needs}

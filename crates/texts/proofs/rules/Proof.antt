@@ -1,10 +1,6 @@
 -- `texts::rules` meets its contract. Assumes nothing.
-use Prim.Native.Nat.{ℕ, _+_, _-_, _≤_, _<_}
-use mathlib.Core.Path.{_≡_, refl, sym, ap, _∙_}
-use mathlib.Core.List.{List, []}
+use Prim.Native.Nat.{_-_, _≤_}
 use native.Mathlib.Omega.{arith}
-use lib.ListN.{length}
-use Rattle.printing.specs.Pen.{most, Penned}
 use Rattle.printing.specs.Printed.{called}
 use Rattle.printing.specs.laws.Pen.{Along, along-start, along-on, along-end, along-is}
 use Rattle.texts.specs.Texts.{textOf}

@@ -1,11 +1,6 @@
 -- `texts::write` meets its contract. Assumes nothing.
-use Prim.Native.Nat.{ℕ, _+_, _≤_, _<_}
-use mathlib.Core.Path.{_≡_, refl, sym, ap, _∙_}
 use native.Mathlib.Omega.{arith}
-use lib.ListN.{length}
-use Rattle.printing.specs.Pen.{most, Penned}
-use Rattle.printing.specs.laws.Pen.{penned-long}
-use Rattle.texts.specs.laws.Pages.{same-room, too-long, written}
+use Rattle.texts.specs.laws.Pages.{too-long, written}
 use borrow.Author.Needs.{needs}
 use Rattle.texts.proofs.write.Statement.{statement}
 use Rattle.texts.proofs.write.Tie as tie

@@ -14,7 +14,7 @@ use Rattle.grammar.specs.Same.{sameSymbol, sameLeaf, isIn, newIn}
 use Rattle.grammar.specs.Syntax.{Rules}
 use Rattle.grammar.specs.Trees.{trees}
 use Rattle.grammar.specs.Numbers.{isLake, leftSides, usesOf, onlyLakes, looseLakes, symbolsOf, leavesOf, terminalsOf, numbered}
-use Rattle.reading.specs.Machine.{over, start, fine as free}
+use Rattle.reading.specs.Machine.{over}
 use Rattle.reading.specs.Grammar.{GrammarOf}
 use Rattle.reading.specs.laws.Bounds.{overAt, Says, judged}
 use Rattle.records.specs.laws.Rows.{All, all-at}

@@ -1,9 +1,8 @@
 -- No text of a table that holds an accepted grammar, or its translation, is longer than plain mode reads; so no count stops early. Assumes nothing.
-use Prim.Native.Nat.{ℕ, zero, suc, _+_, _*_, _≤_, _<_, min}
-use mathlib.Core.Path.{_≡_, refl, sym, ap, ap₂, _∙_, subst}
-use mathlib.Core.Bool.{Bool, true, false}
+use Prim.Native.Nat.{ℕ, zero, suc, _+_, _≤_, _<_}
+use mathlib.Core.Path.{_≡_, refl, ap, ap₂, subst}
 use mathlib.Core.List.{List, [], _∷_, _++_, map}
-use mathlib.Core.Option.{Option, none, some}
+use mathlib.Core.Option.{none}
 use native.Mathlib.Omega.{arith}
 use lib.ListN.{length, getD, replicate, length-append}
 use borrow.Author.Tests.{ltb-false}
@@ -17,7 +16,6 @@ use Rattle.grammar.specs.Lakes.{plainName}
 use Rattle.grammar.specs.Syntax.{Rules}
 use Rattle.grammar.specs.Trees.{trees}
 use Rattle.grammar.specs.Numbers.{Grammar, leftSides, looseLakes, symbolsOf, expressionsOf, rightBy, numbered}
-use Rattle.grammar.specs.Table.{symbolCount, expressionCount}
 use Rattle.grammar.specs.Holds.{Holds, present}
 use Rattle.reading.specs.Machine.{over}
 use Rattle.sets.specs.Analysis.{analysis, terminalIn}

@@ -1,20 +1,19 @@
 -- A grammar's own text: the text of the table that holds it is the text of its rules (01, Writing). Assumes nothing.
-use Prim.Native.Nat.{ℕ, zero, suc, _+_, _≤_, _<_}
-use mathlib.Core.Path.{_≡_, refl, sym, ap, ap₂, _∙_, subst}
+use Prim.Native.Nat.{ℕ, zero, suc, _+_, _<_}
+use mathlib.Core.Path.{_≡_, refl, sym, ap, ap₂, _∙_}
 use mathlib.Core.Bool.{Bool, true, false, cond}
 use mathlib.Core.List.{List, [], _∷_, _++_, map}
-use mathlib.Core.Option.{Option, none, some}
+use mathlib.Core.Option.{none}
 use native.Mathlib.Omega.{arith}
 use lib.ListN.{length, getD, replicate, length-append, List·getD-append}
 use Rattle.tokens.specs.declared.Mode.{Mode}
-use Rattle.tokens.specs.Token.{Symbol, Leaf, name, any}
+use Rattle.tokens.specs.Token.{Symbol, Leaf, name}
 use Rattle.tokens.specs.laws.Bytes.{Bytes}
 use Rattle.grammar.specs.Exp.{Exp, Rule, sym as uses, ter, seq, alt, opt, star, plus, ahead, never, rename}
-use Rattle.grammar.specs.Same.{sameSymbol, sameLeaf, indexOf}
+use Rattle.grammar.specs.Same.{sameSymbol, indexOf}
 use Rattle.grammar.specs.Syntax.{Rules}
 use Rattle.grammar.specs.Trees.{trees}
-use Rattle.grammar.specs.Numbers.{Grammar, leftSides, looseLakes, symbolsOf, terminalsOf, rightBy, numbered}
-use Rattle.grammar.specs.Table.{symbolCount}
+use Rattle.grammar.specs.Numbers.{Grammar, leftSides, looseLakes, symbolsOf, rightBy, numbered}
 use Rattle.grammar.specs.Holds.{Holds, present}
 use Rattle.sets.specs.Analysis.{terminalIn}
 use Rattle.sets.specs.Proper.{Sound as SoundExp, SoundAll}
@@ -23,7 +22,7 @@ use Rattle.building.specs.laws.Entries.{symbol-sound}
 use Rattle.accepted.specs.laws.Rights.{sound-rights}
 use Rattle.writing.specs.Writing.{text}
 use Rattle.printing.specs.Printed.{lowLeaf, called, toned}
-use Rattle.texts.specs.Texts.{rulesIn, rightsIn, ruled, textOf}
+use Rattle.texts.specs.Texts.{rulesIn, ruled, textOf}
 use Rattle.texts.specs.laws.Rights.{rights-are}
 use Rattle.texts.specs.laws.Called.{called-is}
 use Rattle.texts.specs.laws.Fit.{fit-name, name-bytes, low-leaves}

@@ -1,21 +1,20 @@
 -- The rules of a table one after the other, and the room with the whole text. Assumes nothing.
-use Prim.Native.Nat.{ℕ, zero, suc, _+_, _-_, _*_, _≤_, _<_, min}
+use Prim.Native.Nat.{ℕ, zero, suc, _+_, _-_, _*_, _≤_, _<_}
 use mathlib.Core.Path.{_≡_, refl, sym, ap, _∙_}
 use mathlib.Core.Bool.{Bool, true, false}
 use mathlib.Core.List.{List, [], _∷_, _++_, append-nil, append-assoc}
 use mathlib.Core.Option.{Option, none, some}
 use native.Mathlib.Omega.{arith}
-use lib.ListN.{length, getD, set, take, drop, length-set, length-append}
+use lib.ListN.{length, getD, set, take, drop, length-set}
 use lib.Dec.{leb}
 use borrow.Author.Tests.{le-leb, lt-leb}
 use Rattle.tokens.specs.Token.{Symbol}
-use Rattle.grammar.specs.Exp.{Exp, Rule}
-use Rattle.grammar.specs.Table.{symbolCount, symbolWord, bodyBy, bodyIn}
+use Rattle.grammar.specs.Exp.{Exp}
+use Rattle.grammar.specs.Table.{symbolCount, bodyBy, bodyIn}
 use Rattle.filling.specs.Trees.{treeOf}
 use Rattle.writing.specs.Writing.{symbolText, exprText, ruleText, text}
 use Rattle.printing.specs.Pen.{most, inked, Penned}
 use Rattle.printing.specs.Printed.{called, toned}
-use Rattle.printing.specs.laws.Pen.{inked-past}
 use Rattle.texts.specs.Texts.{ruleBy, rulesIn, rightsIn, ruled, textOf, roomBy, Paged}
 
 -- ── a rule ──

@@ -1,13 +1,13 @@
 -- The plain text: the text of the table that holds a grammar's translation is the text of its plain rules (01, Writing: "in plain, every symbol's"). Assumes nothing.
-use Prim.Native.Nat.{ℕ, zero, suc, _+_, _≤_, _<_}
+use Prim.Native.Nat.{ℕ, suc, _+_, _≤_, _<_}
 use mathlib.Core.Path.{_≡_, refl, sym, ap, ap₂, _∙_, subst}
-use mathlib.Core.Bool.{Bool, true, false}
+use mathlib.Core.Bool.{true}
 use mathlib.Core.List.{List, [], _∷_, _++_, map}
 use mathlib.Core.Option.{Option, none, some}
 use native.Mathlib.Omega.{arith}
 use lib.ListN.{length, getD, replicate, length-map, length-append, length-replicate}
 use Rattle.tokens.specs.declared.Mode.{Mode}
-use Rattle.tokens.specs.Token.{Symbol, Leaf, name, any}
+use Rattle.tokens.specs.Token.{Symbol, Leaf, name}
 use Rattle.tokens.specs.laws.Bytes.{Bytes}
 use Rattle.grammar.specs.Exp.{Exp, Rule, rename}
 use Rattle.grammar.specs.Lakes.{plainName}
@@ -15,8 +15,8 @@ use Rattle.grammar.specs.Syntax.{Rules}
 use Rattle.grammar.specs.Trees.{trees}
 use Rattle.grammar.specs.Numbers.{Grammar, leftSides, looseLakes, symbolsOf, rightBy, numbered}
 use Rattle.grammar.specs.Holds.{Holds, present}
-use Rattle.sets.specs.Analysis.{Analysis, analysis, terminalIn}
-use Rattle.sets.specs.Proper.{Sound as SoundExp, SoundAll}
+use Rattle.sets.specs.Analysis.{analysis, terminalIn}
+use Rattle.sets.specs.Proper.{SoundAll}
 use Rattle.sets.specs.Intermediate.{waterIn, bodiesBy, intermediate}
 use Rattle.sets.specs.laws.Parts.{present-some}
 use Rattle.lakes.specs.Made.{withBodies}
@@ -31,7 +31,7 @@ use Rattle.accepted.specs.laws.Dot.{dot-in}
 use Rattle.accepted.specs.laws.Rights.{proper}
 use Rattle.accepted.specs.laws.Terminals.{none-empty}
 use Rattle.writing.specs.Writing.{text}
-use Rattle.printing.specs.Printed.{lowLeaf, called, toned}
+use Rattle.printing.specs.Printed.{lowLeaf, called}
 use Rattle.texts.specs.Texts.{rulesIn, ruled, textOf}
 use Rattle.texts.specs.laws.Rights.{rights-are}
 use Rattle.texts.specs.laws.Called.{called-is, toned-is}

@@ -1,5 +1,5 @@
 -- The right sides in a table that holds a grammar are the grammar's, also where a symbol has none. Assumes nothing.
-use Prim.Native.Nat.{ℕ, zero, suc, _+_, _≤_, _<_}
+use Prim.Native.Nat.{ℕ, zero, suc, _+_, _<_}
 use mathlib.Core.Path.{_≡_, refl, sym, ap, ap₂, _∙_}
 use mathlib.Core.List.{List, [], _∷_}
 use mathlib.Core.Option.{Option, none, some}
@@ -9,7 +9,7 @@ use Rattle.tokens.specs.Token.{Leaf, Symbol, name, any}
 use Rattle.grammar.specs.Exp.{Exp, size}
 use Rattle.grammar.specs.Numbers.{Grammar}
 use Rattle.grammar.specs.Parts.{Part, terminal, partsOf, partsAll}
-use Rattle.grammar.specs.Table.{upTo, bodyBy, bodyIn, nameIn, leafIn, partIn, partsIn, rootsIn, symbolWord, symbolCount, terminalCount, expressionCount}
+use Rattle.grammar.specs.Table.{bodyBy, bodyIn, nameIn, leafIn, partIn, partsIn, rootsIn, symbolWord, symbolCount, terminalCount, expressionCount}
 use Rattle.grammar.specs.Holds.{Holds, present, rootsFrom}
 use Rattle.sets.specs.Analysis.{terminalIn}
 use Rattle.sets.specs.Proper.{SoundAll}
