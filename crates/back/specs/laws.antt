@@ -1,2 +1,3 @@
--- What holds of a plain text that is read again.
+-- What holds of a plain text that is read again, and of what is written.
 pub mod Back
+pub mod Writes

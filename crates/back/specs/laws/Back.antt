@@ -121,7 +121,7 @@ module _ (m : Mode) (t : List ℕ) (b : Bytes t) (ok : refuses m t ≡ none) whe
   chain : (scanned m t ≡ none) × (tooMany m (rulesOf m t) ≡ none)
   chain = split (scanned m t) (tooMany m (rulesOf m t)) (sym (text-by-scan m t) ∙ parts .0)
 
-  grammar : (g : Rules) × Sound m t g × (trees g ≡ rulesOf m t)
+  pub grammar : (g : Rules) × Sound m t g × (trees g ≡ rulesOf m t)
   grammar = grammar-of m t (clean m t (ap (λ (o : Option Refusal). found o .number) (chain .0)))
 
   large : tooLarge (plainOf n) ≡ none
