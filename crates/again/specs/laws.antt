@@ -8,3 +8,4 @@ pub mod Counts
 pub mod Bodies
 pub mod Plain
 pub mod Same
+pub mod Pairs
