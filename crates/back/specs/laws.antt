@@ -1,3 +1,3 @@
--- What holds of a plain text that is read again, and of what is written.
-pub mod Back
+-- What is written, and what holds of a plain text that is read again.
 pub mod Writes
+pub mod Back

@@ -19,7 +19,6 @@ use Rattle.grammar.specs.Trees.{trees}
 use Rattle.grammar.specs.Numbers.{Grammar, symbolsOf, terminalsOf, expressionsOf, numbered}
 use Rattle.grammar.specs.Refusal.{Refusal, refusal, refuseIf, _▸_}
 use Rattle.reading.specs.Reading.{tooMany, refusesText, rulesOf}
-use Rattle.scanning.specs.Found.{found}
 use Rattle.scanning.specs.Scanned.{scanned}
 use Rattle.scanning.specs.laws.Chain.{text-by-scan}
 use Rattle.sets.specs.Analysis.{analysis}
@@ -36,22 +35,11 @@ use Rattle.again.specs.laws.Plain.{plain-again}
 use Rattle.again.specs.laws.Same.{again-bodies, again-plain}
 use Rattle.gurkenmond.specs.Prepare.{Prepared, prepared, preparedBy, refuses}
 use Rattle.gurkenmond.specs.Calls.{refusesInput, matchBy, matchAfter, matchOf, writeBy, writeOwnOf, writePlainOf}
-use Rattle.gurkenmond.specs.laws.Loads.{clean, grammar-of}
+use Rattle.back.specs.laws.Writes.{some-none, split, grammar-read}
 
 -- ── no check refuses: none of them does ──
-abbrev told : Option Refusal → ℕ
-told none = 0
-told (some r) = 1
-
-some-none : (r : Refusal) → some r ≡ none → ⊥
-some-none r e = let z : told (some r) ≡ told none = ap told e in omega (arith, z)
-
-split : (a b : Option Refusal) → (a ▸ b) ≡ none → (a ≡ none) × (b ≡ none)
-split none b e = (refl, e)
-split (some r) b e = absurd (some-none r e)
-
 if-none : (b : Bool) (k p : ℕ) → refuseIf b k p ≡ none → b ≡ false
-if-none true k p e = absurd (some-none _ e)
+if-none true k p e = absurd (some-none (refusal k p) e)
 if-none false k p e = refl
 
 -- ── a match asks for bodies only ──
@@ -118,11 +106,11 @@ module _ (m : Mode) (t : List ℕ) (b : Bytes t) (ok : refuses m t ≡ none) whe
   unfolding refuses prepared preparedBy
   parts = split (refusesText m t) (tooLarge (plainOf n) ▸ looping (plainOf n)) ok
 
-  chain : (scanned m t ≡ none) × (tooMany m (rulesOf m t) ≡ none)
-  chain = split (scanned m t) (tooMany m (rulesOf m t)) (sym (text-by-scan m t) ∙ parts .0)
+  few : tooMany m (rulesOf m t) ≡ none
+  few = split (scanned m t) (tooMany m (rulesOf m t)) (sym (text-by-scan m t) ∙ parts .0) .1
 
-  pub grammar : (g : Rules) × Sound m t g × (trees g ≡ rulesOf m t)
-  grammar = grammar-of m t (clean m t (ap (λ (o : Option Refusal). found o .number) (chain .0)))
+  grammar : (g : Rules) × Sound m t g × (trees g ≡ rulesOf m t)
+  grammar = grammar-read m t (parts .0)
 
   large : tooLarge (plainOf n) ≡ none
   large = split (tooLarge (plainOf n)) (looping (plainOf n)) (parts .1) .0
@@ -132,7 +120,7 @@ module _ (m : Mode) (t : List ℕ) (b : Bytes t) (ok : refuses m t ≡ none) whe
   text-is = refl
 
   read-again : (refusesText Plain (text ps) ≡ none) × (rulesOf Plain (text ps) ≡ ps)
-  read-again = go (grammar .0) (grammar .1) (rulesOf m t) (grammar .2) (chain .1) large
+  read-again = go (grammar .0) (grammar .1) (rulesOf m t) (grammar .2) few large
     where
       go : (g : Rules) → Sound m t g → (rs : List Rule) → trees g ≡ rs → tooMany m rs ≡ none → tooLarge (plainOf (numbered rs)) ≡ none
           → (refusesText Plain (text (plainRules (numbered rs) (analysis (numbered rs)))) ≡ none) × (rulesOf Plain (text (plainRules (numbered rs) (analysis (numbered rs)))) ≡ plainRules (numbered rs) (analysis (numbered rs)))
@@ -185,7 +173,7 @@ module _ (m : Mode) (t : List ℕ) (b : Bytes t) (ok : refuses m t ≡ none) whe
   own-is = refl
 
   own-read : length (text (rulesOf m t)) ≤ textBound m → (refusesText m (text (rulesOf m t)) ≡ none) × (rulesOf m (text (rulesOf m t)) ≡ rulesOf m t)
-  own-read = go (grammar .0) (grammar .1) (rulesOf m t) (grammar .2) (chain .1) large
+  own-read = go (grammar .0) (grammar .1) (rulesOf m t) (grammar .2) few large
     where
       go : (g : Rules) → Sound m t g → (rs : List Rule) → trees g ≡ rs → tooMany m rs ≡ none → tooLarge (plainOf (numbered rs)) ≡ none → length (text rs) ≤ textBound m → (refusesText m (text rs) ≡ none) × (rulesOf m (text rs) ≡ rs)
       go g sound rs e =
