@@ -1,2 +1,4 @@
 -- Laws of the definitions beside this file.
+pub mod Verdicts
 pub mod Sets
+pub mod Writes

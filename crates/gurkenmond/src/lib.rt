@@ -2,7 +2,8 @@
 // are counts beside an enum. What each case says in document 01's numbers is in specs/Answers.antt, what each call answers in specs/Calls.antt.
 ghost use mathlib.Core.Path.{_≡_};
 ghost use Rattle.preparing.specs.Reads.{readOf};
-ghost use Rattle.gurkenmond.specs.Calls.{noSets, setsOf, cannotSkipOf};
+ghost use Rattle.gurkenmond.specs.Calls.{noSets, setsOf, cannotSkipOf, writeOwnOf, writePlainOf};
+ghost use Rattle.gurkenmond.specs.Puts.{notWritten, PutText};
 use grammar::Table;
 pub use preparing::Counted;
 pub use preparing::Verdict;
@@ -158,4 +159,62 @@ pub fn cannot_skip(mode: Mode, text: &[u8]) -> Lakes
         word: w,
         verdict: Verdict::Accepted,
     }
+}
+
+// The text of a table at the front of the room; where it does not fit the room stays as it was, and the answer says how many bytes are needed.
+fn put_text(t: &Table, out: &mut [u8], plain: bool) -> Written
+    ensures { λ r. ⌜ PutText plain (now (t .entry)) (now (out .entry)) (now (out .exit)) r ⌝ }
+{
+    let p = texts::write(t, out, plain);
+    if p.fits {
+        return Written::Bytes(p.bytes);
+    }
+    Written::Refused {
+        number: 13,
+        place: p.bytes,
+    }
+}
+
+// A refusal of `read`, handed on.
+fn not_written(v: Verdict) -> Written
+    ensures { λ r. ⌜ r ≡ notWritten v ⌝ }
+{
+    match v {
+        Verdict::Accepted => Written::Bytes(0),
+        Verdict::Refused {
+            number: n,
+            place: p,
+        } => Written::Refused {
+            number: n,
+            place: p,
+        },
+    }
+}
+
+// A grammar's own text: "Rules that the grammar has" (01, Writing).
+pub fn write_own(mode: Mode, text: &[u8], out: &mut [u8]) -> Written
+    ensures { λ r. ⌜ (r ≡ writeOwnOf mode (now (text .entry)) (now (out .entry)) .answer) × (now (out .exit) ≡ writeOwnOf mode (now (text .entry)) (now (out .entry)) .out) ⌝ }
+{
+    let mut t: Table = [0; 22280];
+    let mut plain: Table = [0; 22280];
+    let c = preparing::plainly(mode, text, &mut t, &mut plain);
+    let v = c.verdict;
+    if preparing::is_refused(v) {
+        return not_written(v);
+    }
+    put_text(&t, out, false)
+}
+
+// The plain text of a grammar: "in plain, every symbol's"; of a plain grammar it is its own.
+pub fn write_plain(mode: Mode, text: &[u8], out: &mut [u8]) -> Written
+    ensures { λ r. ⌜ (r ≡ writePlainOf mode (now (text .entry)) (now (out .entry)) .answer) × (now (out .exit) ≡ writePlainOf mode (now (text .entry)) (now (out .entry)) .out) ⌝ }
+{
+    let mut t: Table = [0; 22280];
+    let mut plain: Table = [0; 22280];
+    let c = preparing::plainly(mode, text, &mut t, &mut plain);
+    let v = c.verdict;
+    if preparing::is_refused(v) {
+        return not_written(v);
+    }
+    put_text(&plain, out, true)
 }

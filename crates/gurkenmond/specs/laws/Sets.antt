@@ -32,17 +32,8 @@ use Rattle.preparing.specs.Loads.{Stands}
 use Rattle.preparing.specs.laws.Reads.{clear-good}
 use Rattle.gurkenmond.specs.declared.SetsOf.{SetsOf}
 use Rattle.gurkenmond.specs.declared.Lakes.{Lakes}
+use Rattle.gurkenmond.specs.laws.Verdicts.{handed}
 use Rattle.gurkenmond.specs.Calls.{noSets, setsBy, setsOf, lakesBy, cannotSkipOf}
-
--- ── a refusal of `read` is handed on ──
--- what is told of the verdict of a refused text
-pub handed : (m : Mode) (s : List ℕ) (c : Counted) → c ≡ readOf m s → isRefused (c .verdict) ≡ true → (x : Refusal) × (refuses m s ≡ some x) × (c .verdict ≡ verdictOf (some x))
-unfolding readOf verdictOf
-handed m s c e h = go (refuses m s) refl
-  where
-    go : (o : Option Refusal) → refuses m s ≡ o → (x : Refusal) × (refuses m s ≡ some x) × (c .verdict ≡ verdictOf (some x))
-    go none q = absurd (true≢false (sym h ∙ ap (λ (y : Counted). isRefused (y .verdict)) (e ∙ ap (λ (o : Option Refusal). readBy o (prepared m s)) q)))
-    go (some x) q = (x, q, ap (λ (y : Counted). y .verdict) (e ∙ ap (λ (o : Option Refusal). readBy o (prepared m s)) q))
 
 abbrev pub refusedSets : Verdict → SetsOf
 refusedSets v = record { sets = noSets; rounds = 0; verdict = v }

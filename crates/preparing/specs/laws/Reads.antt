@@ -10,7 +10,9 @@ use Rattle.tokens.specs.declared.Mode.{Mode}
 use Rattle.grammar.specs.Exp.{Exp, Rule}
 use Rattle.grammar.specs.Numbers.{Grammar, numbered}
 use Rattle.grammar.specs.Refusal.{Refusal, refusal, refuseAt, _▸_}
+use Rattle.grammar.specs.Syntax.{Rules}
 use Rattle.grammar.specs.Trees.{trees}
+use Rattle.building.specs.Promises.{Sound}
 use Rattle.grammar.specs.Holds.{Holds}
 use Rattle.grammar.specs.Table.{tableWords, symbolCount, symbolWord, nameIn, rootsIn}
 use Rattle.sets.specs.Analysis.{terminalIn}
@@ -42,13 +44,14 @@ use Rattle.preparing.specs.Loads.{readUpTo6, Good, Loads, Worked, Transl
 use Rattle.preparing.specs.laws.Loads.{refused, Clean, clean, grammar-of, some-none}
 use Rattle.preparing.specs.laws.Translates.{good}
 
-left-none : (a b : Option Refusal) → (a ▸ b) ≡ none → a ≡ none
-left-none none b e = refl
-left-none (some x) b e = e
+pub split : (a b : Option Refusal) → (a ▸ b) ≡ none → (a ≡ none) × (b ≡ none)
+split none b e = (refl, e)
+split (some r) b e = absurd (some-none r e)
 
-right-none : (a b : Option Refusal) → (a ▸ b) ≡ none → b ≡ none
-right-none none b e = e
-right-none (some x) b e = absurd (some-none x e)
+-- a text that 1 to 6 let through, with its concrete syntax
+pub grammar-read : (m : Mode) (s : List ℕ) → refusesText m s ≡ none → (g : Rules) × Sound m s g × (trees g ≡ rulesOf m s)
+grammar-read m s ok =
+    grammar-of m s (clean m s (ap (λ (o : Option Refusal). found o .number) (split (scanned m s) (tooMany m (rulesOf m s)) (sym (text-by-scan m s) ∙ ok) .0)))
 
 at-none : (o : Option ℕ) → refuseAt 8 o ≡ none → o ≡ none
 at-none none e = refl
@@ -100,10 +103,7 @@ module _ (m : Mode) (s : List ℕ) where
   -- ── accepted by 1 to 6 ──
   module _ (ok : refusesText m s ≡ none) where
     pub is-good : Good (numbered (rulesOf m s))
-    is-good =
-        let z : scanned m s ≡ none = left-none (scanned m s) (tooMany m (rulesOf m s)) (sym (text-by-scan m s) ∙ ok) in
-        let w = grammar-of m s (clean m s (ap (λ (o : Option Refusal). found o .number) z)) in
-        subst (λ (rs : List Rule). Good (numbered rs)) (w .2) (good m s (w .0) (w .1))
+    is-good = let w = grammar-read m s ok in subst (λ (rs : List Rule). Good (numbered rs)) (w .2) (good m s (w .0) (w .1))
 
     pub seven : tooLarge bodies ≡ some (refusal 7 1025) → refused 7 1025 ≡ readOf m s
     unfolding rest verdictOf
@@ -127,7 +127,7 @@ module _ (m : Mode) (s : List ℕ) where
   -- ── accepted by 1 to 8 ──
   pub clear-text : refuses m s ≡ none → refusesText m s ≡ none
   unfolding rest
-  clear-text e = left-none (refusesText m s) (tooLarge bodies ▸ looping bodies) (sym as-rest ∙ e)
+  clear-text e = split (refusesText m s) (tooLarge bodies ▸ looping bodies) (sym as-rest ∙ e) .0
 
   pub clear-good : refuses m s ≡ none → Good (numbered (rulesOf m s))
   clear-good e = is-good (clear-text e)
@@ -135,8 +135,8 @@ module _ (m : Mode) (s : List ℕ) where
   pub clear-loop : refuses m s ≡ none → loop bodies ≡ none
   unfolding rest
   clear-loop e =
-      let a : (tooLarge bodies ▸ looping bodies) ≡ none = right-none (refusesText m s) (tooLarge bodies ▸ looping bodies) (sym as-rest ∙ e) in
-      at-none (loop bodies) (right-none (tooLarge bodies) (looping bodies) a)
+      let a : (tooLarge bodies ▸ looping bodies) ≡ none = split (refusesText m s) (tooLarge bodies ▸ looping bodies) (sym as-rest ∙ e) .1 in
+      at-none (loop bodies) (split (tooLarge bodies) (looping bodies) a .1)
 
 -- ── a loop's place among n symbols ──
 place-some : (n l : ℕ) (o : Option ℕ) → l ≡ placed n o → l < n → o ≡ some l

@@ -60,7 +60,7 @@ abbrev mutual
 mutual
   unfolding choiceToks
 
-  peak-c : (c : Choice) (d : ℕ) (l : List Tok) → peak d (choiceToks c ++ l) ≡ max (d + deepC c) (peak d l)
+  pub peak-c : (c : Choice) (d : ℕ) (l : List Tok) → peak d (choiceToks c ++ l) ≡ max (d + deepC c) (peak d l)
   peak-c (one s) d l = peak-s s d l
   peak-c (or c s) d l = rw (append-assoc (choiceToks c) (slash ∷ seqToks s) l) (omega (arith, peak-c c d (slash ∷ (seqToks s ++ l)), peak-s s d l))
 
@@ -81,14 +81,14 @@ mutual
   peak-q (term x) d l = omega (arith, peak-from d l)
   peak-q (group c) d l = rw (append-assoc (choiceToks c) (closes ∷ []) l) (omega (arith, peak-c c (suc d) (closes ∷ l), peak-from d l))
 
-record Shallow (v : Levels) : Type 0 where
-  cs : deepC (v .c) ≤ deepS (v .s)
-  sp : deepS (v .s) ≤ deepP (v .p)
-  pf : deepP (v .p) ≤ deepF (v .f)
-  fq : deepF (v .f) ≤ deepQ (v .q)
-  qc : deepQ (v .q) ≤ suc (deepC (v .c))
+pub record Shallow (v : Levels) : Type 0 where
+  pub cs : deepC (v .c) ≤ deepS (v .s)
+  pub sp : deepS (v .s) ≤ deepP (v .p)
+  pub pf : deepP (v .p) ≤ deepF (v .f)
+  pub fq : deepF (v .f) ≤ deepQ (v .q)
+  pub qc : deepQ (v .q) ≤ suc (deepC (v .c))
 
-shallow : (e : Exp Symbol) → Shallow (conc e)
+pub shallow : (e : Exp Symbol) → Shallow (conc e)
 unfolding conc
 shallow (sym h) = omega arith
 shallow (ter x) = omega arith

@@ -100,7 +100,7 @@ leaf-bytes (literal []) f = absurd f
 leaf-bytes (literal (c ∷ l)) f = (omega arith, bytes-append (litChars (c ∷ l)) (39 ∷ []) (lits-bytes (c ∷ l) f) (omega arith, tt))
 leaf-bytes (class l) f = (omega arith, bytes-append (runsText (runs none 0 l)) (93 ∷ []) (runs-bytes (runs none 0 l) (runs-fine none 0 l tt (omega (arith, f .0)))) (omega arith, tt))
 
-fine-bytes : (w : List ℕ) → FineName w → Bytes w
+pub fine-bytes : (w : List ℕ) → FineName w → Bytes w
 fine-bytes [] f = absurd f
 fine-bytes (b ∷ w) f = (kind-small b 1 (f .0), names-small w (f .1))
 

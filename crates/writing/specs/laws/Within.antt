@@ -133,7 +133,7 @@ module _ (m : Mode) where
   bones-narrow (bad ∷ l) n = (n .0, bones-narrow l (n .1))
 
   -- ── of the trees: what `not-too-long` asks ──
-  narrow-split : (l r : List Tok) → Narrow m (l ++ r) → Narrow m l × Narrow m r
+  pub narrow-split : (l r : List Tok) → Narrow m (l ++ r) → Narrow m l × Narrow m r
   narrow-split [] r n = (tt, n)
   narrow-split (t ∷ l) r n = let u = narrow-split l r (n .1) in ((n .0, u .0), u .1)
 

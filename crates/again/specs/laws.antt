@@ -1,0 +1,11 @@
+-- Laws of the definitions beside this file.
+pub mod Chain
+pub mod Reads
+pub mod Own
+pub mod Names
+pub mod Deep
+pub mod Counts
+pub mod Bodies
+pub mod Plain
+pub mod Same
+pub mod Pairs

@@ -1,0 +1,1 @@
+// A grammar that is written and read again: see specs/.

@@ -1,0 +1,1 @@
+// Demand 3 on the public definitions: see specs/.

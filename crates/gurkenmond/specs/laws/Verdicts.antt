@@ -1,0 +1,20 @@
+-- What a refusal of `read` says of the checks: it is handed on. Assumes nothing.
+use Prim.Native.Nat.{ℕ}
+use mathlib.Core.Path.{_≡_, refl, sym, ap, _∙_}
+use mathlib.Core.Bool.{true, false, true≢false}
+use mathlib.Core.List.{List}
+use mathlib.Core.Option.{Option, none, some}
+use Rattle.tokens.specs.declared.Mode.{Mode}
+use Rattle.grammar.specs.Refusal.{Refusal}
+use Rattle.preparing.specs.declared.Counted.{Counted}
+use Rattle.preparing.specs.Prepare.{prepared, refuses}
+use Rattle.preparing.specs.Reads.{verdictOf, isRefused, readBy, readOf}
+
+-- what is told of the verdict of a refused text
+pub handed : (m : Mode) (s : List ℕ) (c : Counted) → c ≡ readOf m s → isRefused (c .verdict) ≡ true → (x : Refusal) × (refuses m s ≡ some x) × (c .verdict ≡ verdictOf (some x))
+unfolding readOf verdictOf
+handed m s c e h = go (refuses m s) refl
+  where
+    go : (o : Option Refusal) → refuses m s ≡ o → (x : Refusal) × (refuses m s ≡ some x) × (c .verdict ≡ verdictOf (some x))
+    go none q = absurd (true≢false (sym h ∙ ap (λ (y : Counted). isRefused (y .verdict)) (e ∙ ap (λ (o : Option Refusal). readBy o (prepared m s)) q)))
+    go (some x) q = (x, q, ap (λ (y : Counted). y .verdict) (e ∙ ap (λ (o : Option Refusal). readBy o (prepared m s)) q))
