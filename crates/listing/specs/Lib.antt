@@ -1,0 +1,4 @@
+pub mod Tasks
+pub mod Parts
+pub mod Turns
+pub mod laws
