@@ -5,3 +5,4 @@ pub mod Stack
 pub mod Walks
 pub mod Picks
 pub mod Turns
+pub mod Reading

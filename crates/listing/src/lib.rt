@@ -1,4 +1,6 @@
 // The node list of a match (01, Meaning of a match): a walk over the cells in two passes, by a stack of tasks.
+pub mod nodes;
+
 ghost use Prim.Native.Nat.{ℕ, _+_, _*_, _/_, _%_, _≤_, _<_};
 ghost use mathlib.Core.Path.{_≡_};
 ghost use lib.ListN.{length};
