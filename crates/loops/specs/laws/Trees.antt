@@ -71,7 +71,7 @@ leaf-same (class m) (literal w) e = absurd (false≢true e)
 leaf-same (class m) (class n) e = ap class (marks-same m n e)
 
 -- what stands at the number of a terminal
-leaf-at : (x : Leaf) (l : List Leaf) → indexOf sameLeaf x l < length l → getD l (indexOf sameLeaf x l) any ≡ x
+pub leaf-at : (x : Leaf) (l : List Leaf) → indexOf sameLeaf x l < length l → getD l (indexOf sameLeaf x l) any ≡ x
 unfolding indexOf
 leaf-at x [] h = let z : ⊥ = omega arith in absurd z
 leaf-at x (y ∷ l) h = go (sameLeaf x y) refl (λ k. leaf-at x l k) h
@@ -139,7 +139,7 @@ module _ (t : List ℕ) (number : Leaf → ℕ) (r x : ℕ) (leaves : (l : Leaf)
       (under (last (o + size a) b) i b (omega (arith, size-pos b)) (k (seg-left number (partIn t) d (o + size a) B (p ∷ []) gb)))
 
   -- the tree at the last of an expression's parts is the expression
-  tree-of : (e : Exp ℕ) (o : ℕ) → Sound number r x e → Seg number (partIn t) d o (partsOf number o e) → treeAt t (last o e) ≡ e
+  pub tree-of : (e : Exp ℕ) (o : ℕ) → Sound number r x e → Seg number (partIn t) d o (partsOf number o e) → treeAt t (last o e) ≡ e
   unfolding partsOf size
   tree-of (uses s) o h g = by-part (o + 1 - 1) (occurs s) (seg-one number (partIn t) d o (o + 1 - 1) (occurs s) g (omega arith))
   tree-of (ter y) o h g = by-part (o + 1 - 1) (terminal (number y)) (seg-one number (partIn t) d o (o + 1 - 1) (terminal (number y)) g (omega arith)) ∙ ap ter (leaves y (h .0))
