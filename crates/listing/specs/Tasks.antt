@@ -5,7 +5,6 @@ use Prim.Native.Nat.{ℕ, zero, suc, _+_, _-_, _*_, _/_, _%_, _≤_}
 use mathlib.Core.Path.{_≡_}
 use mathlib.Core.List.{List, [], _∷_, _++_}
 use lib.ListN.{length, getD}
-use Rattle.grammar.specs.Exp.{Exp}
 use Rattle.meaning.specs.Meaning.{Node}
 use Rattle.matching.specs.Eval.{cellAt, rep, ev}
 use Rattle.matching.specs.Nodes.{repN, walkOf, nodesOf, levels}

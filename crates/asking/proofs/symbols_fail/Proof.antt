@@ -1,7 +1,7 @@
 -- `asking::symbols_fail` meets its contract. Assumes nothing.
 use native.Mathlib.Omega.{arith}
-use Prim.Native.Nat.{ℕ, _-_, _≤_}
-use mathlib.Core.Path.{_≡_, refl, sym, ap, _∙_}
+use Prim.Native.Nat.{_-_, _≤_}
+use mathlib.Core.Path.{_≡_, refl, _∙_}
 use borrow.Author.Tests.{not-true, not-false}
 use Rattle.asking.specs.laws.Asks.{symbolsFrom, symbols-found, symbols-on, symbols-end}
 use borrow.Author.Needs.{needs}

@@ -1,7 +1,7 @@
 -- `asking::water_at` meets its contract. Assumes nothing.
 use native.Mathlib.Omega.{arith}
 use Prim.Native.Nat.{ℕ, _-_, _≤_, _<_}
-use mathlib.Core.Path.{_≡_, refl, sym, ap, _∙_}
+use mathlib.Core.Path.{_≡_, sym, _∙_}
 use mathlib.Core.Bool.{false}
 use Rattle.grammar.specs.Same.{sameSymbol}
 use Rattle.grammar.specs.Table.{nameIn}

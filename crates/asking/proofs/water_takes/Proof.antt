@@ -2,7 +2,7 @@
 use native.Mathlib.Omega.{arith}
 use Prim.Native.Nat.{ℕ}
 use mathlib.Core.Option.{Option, some}
-use mathlib.Core.Path.{_≡_, refl, sym, ap, _∙_}
+use mathlib.Core.Path.{ap, _∙_}
 use Rattle.grammar.specs.Exp.{Exp}
 use Rattle.grammar.specs.Lakes.{waterOf}
 use Rattle.asking.specs.Asking.{ownTakes}

@@ -1,7 +1,7 @@
 -- `asking::way` meets its contract. Assumes nothing.
 use native.Mathlib.Omega.{arith}
 use Prim.Native.Nat.{ℕ}
-use mathlib.Core.Path.{_≡_, refl, sym, ap, _∙_}
+use mathlib.Core.Path.{ap, _∙_}
 use lib.ListN.{drop}
 use Rattle.grammar.specs.Table.{upTo, leafIn}
 use Rattle.plain.specs.Plain.{terminalsIn}

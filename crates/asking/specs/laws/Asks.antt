@@ -12,7 +12,7 @@ use lib.ListN.{length, getD, drop, List·getD-eq-default, drop-of-length-le}
 use lib.Seq.{drop-cons}
 use borrow.Author.Tests.{eq-eqb, ne-eqb, lt-ltb, le-ltb, ltb-true, ltb-false}
 use Rattle.tokens.specs.Token.{Symbol, Leaf, name, lake, any}
-use Rattle.grammar.specs.Exp.{Exp, sym, ter, never}
+use Rattle.grammar.specs.Exp.{Exp, sym, ter}
 use Rattle.grammar.specs.Lakes.{waterOf}
 use Rattle.grammar.specs.Same.{sameSymbol, indexOf}
 use Rattle.grammar.specs.Numbers.{Grammar, isLake}

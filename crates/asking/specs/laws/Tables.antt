@@ -1,8 +1,8 @@
 -- A table that holds a grammar: the grammar that is read from it is this one. Assumes nothing.
-use Prim.Native.Nat.{ℕ, zero, suc, _+_, _-_, _≤_, _<_}
+use Prim.Native.Nat.{ℕ, zero, suc, _+_, _-_, _<_}
 use mathlib.Core.Path.{_≡_, refl, sym, ap, _∙_}
 use mathlib.Core.Bool.{Bool, true, false}
-use mathlib.Core.List.{List, [], _∷_, _++_}
+use mathlib.Core.List.{List, [], _∷_}
 use mathlib.Core.Option.{Option, none, some}
 use native.Mathlib.Omega.{arith}
 use lib.ListN.{length, getD}
@@ -10,7 +10,7 @@ use Rattle.tokens.specs.Token.{Symbol, Leaf, any}
 use Rattle.grammar.specs.Exp.{Exp, size}
 use Rattle.grammar.specs.Numbers.{Grammar, isLake}
 use Rattle.grammar.specs.Lakes.{stepOne}
-use Rattle.grammar.specs.Parts.{Part, terminal, last, partsOf, partsAll}
+use Rattle.grammar.specs.Parts.{Part, terminal, partsOf, partsAll}
 use Rattle.grammar.specs.Table.{upTo, nameIn, leafIn, bodyBy, bodyIn, partIn, partsIn, rootsIn, symbolWord, symbolCount, terminalCount, expressionCount, grammarIn}
 use Rattle.grammar.specs.Holds.{Holds, present, rootsFrom}
 use Rattle.grammar.specs.laws.Lists.{up-length, up-at, is-up}

@@ -1,5 +1,4 @@
 -- `listing::act` meets its contract. Assumes nothing.
-use native.Mathlib.Omega.{arith}
 use Rattle.matching.specs.Passes.{out}
 use Rattle.listing.specs.laws.Turns.{ask-walk, ask-again, ask-enter, act-walk, act-again, act-enter, moved-step}
 use borrow.Author.Needs.{needs}

@@ -3,7 +3,7 @@ use Rattle.matching.specs.Passes.{out, run}
 use lib.ListN.{length}
 use Prim.Native.Nat.{ℕ, _/_, _<_}
 use native.Mathlib.Omega.{arith}
-use mathlib.Core.Path.{_≡_, sym, ap, _∙_}
+use mathlib.Core.Path.{ap, _∙_}
 use Rattle.tokens.specs.Bounds.{nodeWords}
 use Rattle.matching.specs.Nodes.{listOf, roomOf}
 use Rattle.matching.specs.laws.Passes.{pass-refused, pass-written}

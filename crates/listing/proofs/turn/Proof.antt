@@ -1,5 +1,4 @@
 -- `listing::turn` meets its contract. Assumes nothing.
-use native.Mathlib.Omega.{arith}
 use Prim.Native.Nat.{_-_}
 use Rattle.matching.specs.Passes.{out}
 use Rattle.listing.specs.Tasks.{taskOf, stackOf}

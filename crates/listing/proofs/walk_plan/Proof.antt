@@ -1,6 +1,5 @@
 -- `listing::walk_plan` meets its contract. Assumes nothing.
 use native.Mathlib.Omega.{arith}
-use mathlib.Core.Path.{sym}
 use Rattle.listing.specs.laws.Walks.{step-any, step-leaf, step-symbol, step-seq, step-choice, step-skips, step-takes, step-star, step-plus, step-ahead, step-never}
 use borrow.Author.Needs.{needs}
 use Rattle.listing.proofs.walk_plan.Statement.{statement}

@@ -1,11 +1,11 @@
 -- An expression by its words, and the alternative of a choice that is taken. Assumes nothing.
-use Prim.Native.Nat.{ℕ, zero, suc, _+_, _-_, _*_, _≤_, _<_}
+use Prim.Native.Nat.{ℕ, zero, suc, _+_, _-_, _*_, _<_}
 use mathlib.Core.Path.{_≡_, refl, ap, _∙_}
 use mathlib.Core.Path.{sym as flip}
 use mathlib.Core.Logic.{inl, inr}
 use mathlib.Core.List.{List}
 use native.Mathlib.Omega.{arith}
-use lib.ListN.{length, getD}
+use lib.ListN.{getD}
 use Rattle.tokens.specs.Token.{Leaf}
 use Rattle.grammar.specs.Exp.{Exp, alt}
 use Rattle.grammar.specs.Table.{leafIn, nodeBy}

@@ -2,12 +2,12 @@
 use Prim.Native.Nat.{ℕ, zero, suc, _+_, _-_, _*_, _/_, _%_, _≤_, _<_}
 use mathlib.Core.Path.{_≡_, refl, ap, _∙_}
 use mathlib.Core.Path.{sym as flip}
-use mathlib.Core.List.{List, [], _∷_, _++_}
+use mathlib.Core.List.{List, _∷_}
 use native.Mathlib.Omega.{arith}
 use native.Mathlib.Numerals.{add-one}
 use lib.ListN.{length, getD, set}
 use lib.Seq.{getD-set-same, getD-set-other}
-use Rattle.listing.specs.Tasks.{Task, walk, again, enter, taskBy, taskOf, pushed, stackOf}
+use Rattle.listing.specs.Tasks.{walk, again, enter, taskBy, taskOf, pushed, stackOf}
 
 -- ── words ──
 module _ (x d k : ℕ) (h : x < 2048) (g : k < 4) where

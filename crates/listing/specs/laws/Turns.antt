@@ -5,9 +5,8 @@ use mathlib.Core.Path.{sym as flip}
 use mathlib.Core.Bool.{Bool, true, false}
 use mathlib.Core.List.{List, [], _∷_, _++_, append-nil}
 use native.Mathlib.Omega.{arith}
-use native.Mathlib.Numerals.{add-one}
 use lib.Dec.{ltb}
-use lib.ListN.{length, getD}
+use lib.ListN.{length}
 use borrow.Author.Tests.{ltb-true, ltb-false}
 use Rattle.tokens.specs.Bounds.{depthBound}
 use Rattle.grammar.specs.Exp.{Exp, sym}
@@ -17,8 +16,8 @@ use Rattle.meaning.specs.laws.One.{one}
 use Rattle.matching.specs.Eval.{bodyOf, cellAt, ev}
 use Rattle.matching.specs.Nodes.{walkOf, nodesOf, levels, listOf}
 use Rattle.matching.specs.Passes.{big, Out, out, note, run}
-use Rattle.matching.specs.laws.Sound.{plainly, Means, sym-is}
-use Rattle.matching.specs.laws.Agrees.{Right, ev-sound}
+use Rattle.matching.specs.laws.Sound.{plainly, sym-is}
+use Rattle.matching.specs.laws.Agrees.{ev-sound}
 use Rattle.matching.specs.laws.EvalSteps.{cell-past}
 use Rattle.matching.specs.laws.NodeSteps.{nodes-more, nodes-fails}
 use Rattle.matching.specs.laws.Passes.{run-none, note-deep}
@@ -27,7 +26,7 @@ use Rattle.filling.specs.laws.Rows.{bodies-length, body-at}
 use Rattle.listing.specs.Tasks.{Task, walk, again, enter, taskOf, pushed, stackOf, under, takes, walked, nodes, after, Able, listed, AllAble, depthOf, Top, Fits, rank, cost, costOf, toDo, Step}
 use Rattle.listing.specs.Turns.{Ready, Goes, Moved, State, Turned}
 use Rattle.listing.specs.laws.Stack.{is-walk, is-again, is-enter}
-use Rattle.listing.specs.laws.Steps.{Word, cost-less, push-listed, push-to-do, push-able, push-fits}
+use Rattle.listing.specs.laws.Steps.{cost-less, push-listed, push-to-do, push-able, push-fits}
 use Rattle.listing.specs.laws.Walks.{walks, enters}
 
 -- ── a step that notes no node ──

@@ -1,25 +1,23 @@
 -- The step of each kind of expression, in the words that code has. Assumes nothing.
 use Prim.Native.Nat.{ℕ, zero, suc, _+_, _-_, _*_, _≤_, _<_}
-use mathlib.Core.Path.{_≡_, refl, ap, _∙_, subst}
+use mathlib.Core.Path.{_≡_, refl, ap, _∙_}
 use mathlib.Core.Path.{sym as flip}
 use mathlib.Core.Bool.{Bool, true, false, cond}
 use mathlib.Core.Logic.{_⊎_, inl, inr}
-use mathlib.Core.List.{List, [], _∷_, _++_}
+use mathlib.Core.List.{List, []}
 use native.Mathlib.Omega.{arith}
 use lib.Dec.{ltb}
 use lib.ListN.{length}
 use borrow.Author.Tests.{ltb-true, ltb-false}
-use Rattle.tokens.specs.Token.{Leaf, any}
 use Rattle.grammar.specs.Exp.{Exp, sym, ter, seq, alt, opt, star, plus, ahead, never}
 use Rattle.grammar.specs.Table.{leafIn}
-use Rattle.meaning.specs.Meaning.{Node}
-use Rattle.matching.specs.Eval.{leafAt, cellAt, seqOf, rep, plusOf, optOf, aheadOf, neverOf, ev}
+use Rattle.matching.specs.Eval.{leafAt, cellAt, seqOf, rep, plusOf, aheadOf, neverOf, ev}
 use Rattle.matching.specs.Nodes.{repN, walkOf}
-use Rattle.matching.specs.laws.Within.{ev-within, rep-within}
-use Rattle.matching.specs.laws.EvalSteps.{any-takes, any-fails, seq-left, seq-right, seq-both, plus-fails, plus-takes, opt-fails, opt-takes, ahead-fails, ahead-takes, never-takes, never-fails, rep-ends, cell-past}
+use Rattle.matching.specs.laws.Within.{ev-within}
+use Rattle.matching.specs.laws.EvalSteps.{seq-left, seq-right, seq-both, plus-fails, plus-takes, opt-fails, opt-takes, rep-ends, cell-past}
 use Rattle.matching.specs.laws.NodeSteps.{seq-both as list-both, opt-none as list-none, opt-some as list-some, rep-ends as list-ends}
 use Rattle.filling.specs.Trees.{treeOf}
-use Rattle.listing.specs.Tasks.{Task, walk, again, enter, under, walked, takes, nodes, after, rank, cost, costOf, Step}
+use Rattle.listing.specs.Tasks.{walk, again, enter, under, walked, takes, nodes, after, rank, cost, costOf, Step}
 use Rattle.listing.specs.Parts.{shape, Made, Chosen}
 use Rattle.listing.specs.laws.Stack.{walk-word, again-word, enter-word}
 use Rattle.listing.specs.laws.Rounds.{rounds-step, nodes-step}
