@@ -1,5 +1,5 @@
 -- A table that holds a grammar: the grammar that is read from it is this one. Assumes nothing.
-use Prim.Native.Nat.{ℕ, zero, suc, _+_, _-_, _<_}
+use Prim.Native.Nat.{ℕ, zero, suc, _+_, _-_, _≤_, _<_}
 use mathlib.Core.Path.{_≡_, refl, sym, ap, _∙_}
 use mathlib.Core.Bool.{Bool, true, false}
 use mathlib.Core.List.{List, [], _∷_}
@@ -18,7 +18,7 @@ use Rattle.sets.specs.Analysis.{terminalIn}
 use Rattle.sets.specs.Intermediate.{waterIn, bodiesBy, intermediate}
 use Rattle.sets.specs.Intermediate.{bodyBy as bodyBy′}
 use Rattle.sets.specs.Proper.{Sound, SoundAll, Proper}
-use Rattle.sets.specs.laws.Parts.{parts-long, Seg, seg-left, seg-right}
+use Rattle.sets.specs.laws.Parts.{total, size-pos, parts-long, all-long, Seg, seg-left, seg-right}
 use Rattle.lakes.specs.laws.Next.{from-long}
 use Rattle.loops.specs.laws.Trees.{leaf-at, tree-of}
 use Rattle.asking.specs.Asking.{wayIn}
@@ -35,6 +35,14 @@ module _ (t : List ℕ) (number : Leaf → ℕ) (r x : ℕ) (leaves : (l : Leaf)
       ap some (tree-of t number r x leaves e o (h .0) (seg-left number (partIn t) (terminal 0) o (partsOf number o e) (partsAll number (o + size e) (present os)) g))
   right-of (some e ∷ os) o h g (suc s) p =
       right-of os (o + size e) (h .1) (seg-right number (partIn t) (terminal 0) o (size e) (partsOf number o e) (partsAll number (o + size e) (present os)) (parts-long number e o) g) s (omega arith)
+
+root-le : (os : List (Option (Exp ℕ))) (o s : ℕ) → getD (rootsFrom o os) s 0 ≤ o + total (present os)
+unfolding rootsFrom present total
+root-le [] o s = omega arith
+root-le (none ∷ os) o zero = omega arith
+root-le (none ∷ os) o (suc s) = root-le os o s
+root-le (some e ∷ os) o zero = omega (arith, size-pos e)
+root-le (some e ∷ os) o (suc s) = omega (arith, root-le os (o + size e) s)
 
 -- the right sides are parts of the intermediate bodies
 module _ (number : Leaf → ℕ) (r x : ℕ) (w : Option (Exp ℕ)) where
@@ -75,6 +83,11 @@ module _ (t : List ℕ) (g : Grammar) (h : Holds t g) where
   leaf-is : (l : Leaf) → terminalIn g l < length (g .terminals) → leafIn t (terminalIn g l) ≡ l
   leaf-is l k =
       sym (up-at (leafIn t) any (terminalCount t) (terminalIn g l) (omega (arith, terminals-are))) ∙ ap (λ (ls : List Leaf). getD ls (terminalIn g l) any) (h .terminals) ∙ leaf-at l (g .terminals) k
+
+  -- a body's word is at most as large as there are expressions
+  pub body-small : (r : ℕ) → r < symbolCount t → symbolWord t r 1 ≤ 1024
+  body-small r l =
+      omega (arith, root-at r l, root-le (g .rights) 0 r, all-long (terminalIn g) (present (g .rights)) 0, long-is, h .few-expressions)
 
   module _ (proper : Proper g) where
     sound : SoundAll (terminalIn g) (length (g .names)) (length (g .terminals)) (present (g .rights))
