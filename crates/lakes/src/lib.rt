@@ -208,7 +208,7 @@ fn is_word(t: &[u32], i: usize, v: usize) -> bool
 }
 
 // Whether symbol s is called `water`.
-fn is_water(t: &[u32], s: usize) -> bool
+pub fn is_water(t: &[u32], s: usize) -> bool
     requires { ⌜ s < 64 ⌝ }
     ensures { λ u. ⌜ u ≡ sameSymbol waterName (nameIn (now (t .entry)) s) ⌝ }
 {

@@ -1,0 +1,5 @@
+pub mod Tasks
+pub mod Parts
+pub mod Turns
+pub mod Spans
+pub mod laws
