@@ -30,11 +30,12 @@ use Rattle.matching.specs.Nodes.{seqN, altN, optN, stepN, repN, walkOf, nodeIf,
 use Rattle.writing.specs.Writing.{byteText, litChar, classChar, litChars, runs as writing-runs, runText, runsText, leafText, symbolText, exprText, ruleText, text}
 use Rattle.gurkenmond.specs.Answers.{verdictSays, outcomeSays, waySays, writtenSays}
 use Rattle.preparing.specs.Reads.{verdictOf, readOf}
-use Rattle.gurkenmond.specs.Calls.{setsOf, cannotSkipOf, matchOf, noneMatches, wayBy, lakeOf, writeOwnOf, writePlainOf}
+use Rattle.asking.specs.Asking.{noneMatches, wayNumber, wayIn}
+use Rattle.gurkenmond.specs.Calls.{setsOf, cannotSkipOf, matchOf, lakeOf, writeOwnOf, writePlainOf}
 use Rattle.preparing.specs.Prepare.{preparedBy, prepared, refuses}
 use Rattle.cases.specs.Ask.{Said, Case, bytes as text-bytes, answered}
 use Rattle.cases.specs.Table.{cases}
 
 pub cases-right : map (λ (c : Case). answered (c .asked)) cases ≡ map (λ (c : Case). c .said) cases
-unfolding cases answered text-bytes oneOf ranges kindAt textBound nameBound openBound expressionBound symbolBound terminalBound literalBound plainBound inputBound depthBound firstOctal rawFrom nodeWords octals letters four char single dashed listed body skip nameSpan less literalBy among table someTrue tokens-marksOf classBy bracket byKind tokenFrom tokenAt lexemesFrom lexemes toksOf toks emptyLeaf hasEmpty size rename symbolsIn leavesIn waterOf stepOne choiceOf skipOf stepTwo plainName leftSides usesOf onlyLakes looseLakes symbolsOf leavesOf terminalsOf expressionsOf numbered partsOf partsAll rootsOf sameBytes sameMarks sameSymbol sameLeaf isIn indexOf newIn tokens choiceToks seqToks prefToks sufToks primToks upTo trees treeC treeS treeP treeF treeQ close newRule after step accepting reading-runs offendsFrom finish reading-over judge placeOf closeBy primBy sufBy prefBy choiceBy arrowBy ruleBy rulesR rulesP choiceP choiceR seqP seqR prefP primP begins reserved second leftsIn unruled tooMany rulesIn refusesText rulesOf settle analysed analysis setsAt blockedBy cannotSkipBelow cannotSkip markRound sets-marksOf beginningsFrom beginnings sets-over given leastBy waterIn bodiesBy intermediate firstCalls callsOf calledBy reach loopFrom loop ranksOf ofRank orderFrom order nonterminalsIn terminalsIn alternatives plainFrom plainBodies sizes rulesBy plainRules bodyAt rowOf fillOf cells stands leafAt cellAt joinOf seqOf altOf stepOf rep plusOf optOf aheadOf neverOf ev seqN altN optN stepN repN walkOf nodeIf nodesOf levels listOf listingOf putNode written wordsOf roomOf nodeAt nodesAt soundAt nodeText byteText litChar classChar litChars writing-runs runText runsText leafText symbolText exprText ruleText text verdictSays outcomeSays waySays writtenSays verdictOf readOf setsOf cannotSkipOf matchOf noneMatches wayBy lakeOf writeOwnOf writePlainOf preparedBy prepared refuses
+unfolding cases answered text-bytes oneOf ranges kindAt textBound nameBound openBound expressionBound symbolBound terminalBound literalBound plainBound inputBound depthBound firstOctal rawFrom nodeWords octals letters four char single dashed listed body skip nameSpan less literalBy among table someTrue tokens-marksOf classBy bracket byKind tokenFrom tokenAt lexemesFrom lexemes toksOf toks emptyLeaf hasEmpty size rename symbolsIn leavesIn waterOf stepOne choiceOf skipOf stepTwo plainName leftSides usesOf onlyLakes looseLakes symbolsOf leavesOf terminalsOf expressionsOf numbered partsOf partsAll rootsOf sameBytes sameMarks sameSymbol sameLeaf isIn indexOf newIn tokens choiceToks seqToks prefToks sufToks primToks upTo trees treeC treeS treeP treeF treeQ close newRule after step accepting reading-runs offendsFrom finish reading-over judge placeOf closeBy primBy sufBy prefBy choiceBy arrowBy ruleBy rulesR rulesP choiceP choiceR seqP seqR prefP primP begins reserved second leftsIn unruled tooMany rulesIn refusesText rulesOf settle analysed analysis setsAt blockedBy cannotSkipBelow cannotSkip markRound sets-marksOf beginningsFrom beginnings sets-over given leastBy waterIn bodiesBy intermediate firstCalls callsOf calledBy reach loopFrom loop ranksOf ofRank orderFrom order nonterminalsIn terminalsIn alternatives plainFrom plainBodies sizes rulesBy plainRules bodyAt rowOf fillOf cells stands leafAt cellAt joinOf seqOf altOf stepOf rep plusOf optOf aheadOf neverOf ev seqN altN optN stepN repN walkOf nodeIf nodesOf levels listOf listingOf putNode written wordsOf roomOf nodeAt nodesAt soundAt nodeText byteText litChar classChar litChars writing-runs runText runsText leafText symbolText exprText ruleText text verdictSays outcomeSays waySays writtenSays verdictOf readOf setsOf cannotSkipOf matchOf noneMatches wayNumber wayIn lakeOf writeOwnOf writePlainOf preparedBy prepared refuses
 cases-right = refl

@@ -1,25 +1,23 @@
 -- What each public call answers and leaves in lent memory, for all inputs (01, Refusal numbers; 01, Meaning of a match; 01, Writing).
 -- Assumes nothing: these are definitions.
 use Prim.Native.Nat.{ℕ, zero, suc, _+_, _-_, _*_}
-use mathlib.Core.Bool.{Bool, true, false, cond, not, _&&_, _||_}
+use mathlib.Core.Bool.{Bool, false, not, _&&_}
 use mathlib.Core.List.{List, [], _∷_, _++_}
 use mathlib.Core.Option.{Option, none, some}
 use lib.ListN.{length, getD, drop}
-use lib.Dec.{leb, ltb, eqb}
+use lib.Dec.{leb, ltb}
 use Rattle.tokens.specs.declared.Mode.{Mode}
 use Rattle.tokens.specs.Token.{Symbol, name}
 use Rattle.tokens.specs.Bounds.{inputBound}
 use Rattle.grammar.specs.Exp.{Exp}
-use Rattle.grammar.specs.Lakes.{waterOf}
-use Rattle.grammar.specs.Numbers.{Grammar, isLake}
+use Rattle.grammar.specs.Numbers.{isLake}
 use Rattle.grammar.specs.Refusal.{Refusal, refusal, refuseIf, _▸_}
 use Rattle.words.specs.Set.{empty}
 use Rattle.sets.specs.declared.Sets.{Sets}
-use Rattle.sets.specs.Intermediate.{waterIn}
 use Rattle.sets.specs.Analysis.{Analysis, setsAt, isExpression, altOf, cannotSkip}
-use Rattle.plain.specs.Plain.{alternatives, plainRules}
+use Rattle.plain.specs.Plain.{plainRules}
 use Rattle.plain.specs.Calls.{order}
-use Rattle.matching.specs.Eval.{ev}
+use Rattle.asking.specs.Asking.{wayIn}
 use Rattle.matching.specs.Cells.{cells}
 use Rattle.matching.specs.Nodes.{Listing, all, deep, full, listOf, listingOf, wordsOf, roomOf}
 use Rattle.writing.specs.Writing.{text}
@@ -100,27 +98,12 @@ unfoldable pub matchOf : Mode → List ℕ → List ℕ → List ℕ → List �
 matchOf m t s cs ws = let p : Prepared = prepared m t in matchAfter (refuses m t ▸ refusesInput p s cs) p s cs ws
 
 -- ── the lake question: "9, 10, then 14" ──
--- none of the alternative symbols matches at p
-unfoldable pub noneMatches : List ℕ → List ℕ → ℕ → List (Exp ℕ) → ℕ → Bool
-noneMatches s cs n [] p = true
-noneMatches s cs n (e ∷ es) p = eqb (ev s cs n e p) 0 && noneMatches s cs n es p
-
-abbrev pub ownTakes : List ℕ → List ℕ → ℕ → Option (Exp ℕ) → ℕ → Bool
-ownTakes s cs n none p = false
-ownTakes s cs n (some e) p = not (eqb (ev s cs n e p) 0)
-
--- "a lake tries its own rule, then water, then takes one byte only if no alternative symbol matches there"
-unfoldable pub wayBy : List ℕ → List ℕ → ℕ → Option (Exp ℕ) → Option (Exp ℕ) → List (Exp ℕ) → ℕ → Way
-wayBy s cs n own water ss p =
-    elim (ownTakes s cs n own p) [
-      | true ↦ ByRule
-      | false ↦
-          elim (ownTakes s cs n (some (waterOf water)) p) [
-            | true ↦ ByWater
-            | false ↦
-                elim (ltb p (length s) && noneMatches s cs n ss p) [ true ↦ BySkip | false ↦ Not ]
-          ]
-    ]
+-- "0 not, 1 by its rule, 2 by water, 3 by one skipped byte": `wayIn` gives the number
+abbrev pub wayOf : ℕ → Way
+wayOf zero = Not
+wayOf (suc zero) = ByRule
+wayOf (suc (suc zero)) = ByWater
+wayOf (suc (suc (suc k))) = BySkip
 
 abbrev pub isLakeAt : Prepared → ℕ → Bool
 isLakeAt p r = ltb r (length (p .grammar .names)) && isLake (getD (p .grammar .names) r (name []))
@@ -132,9 +115,8 @@ pub record LakeAnswer : Type 0 where
 abbrev pub lakeAfter : Option Refusal → Prepared → List ℕ → List ℕ → ℕ → ℕ → LakeAnswer
 lakeAfter (some r) p s cs l q = record { way = WayRefused (r .number) (r .place); cells = cs }
 lakeAfter none p s cs l q =
-    let g : Grammar = p .grammar in
     record {
-      way = wayBy s (filled p s cs) (length (p .bodies)) (getD (g .rights) l none) (waterIn g) (alternatives g (altOf (p .analysis) l)) q;
+      way = wayOf (wayIn (p .grammar) s (filled p s cs) (length (p .bodies)) (altOf (p .analysis) l) l q);
       cells = filled p s cs;
     }
 

@@ -1,4 +1,5 @@
 pub mod Answers
 pub mod Calls
 pub mod Puts
+pub mod Runs
 pub mod laws

@@ -2,3 +2,4 @@
 pub mod Verdicts
 pub mod Sets
 pub mod Writes
+pub mod Matches

@@ -2,7 +2,10 @@
 // are counts beside an enum. What each case says in document 01's numbers is in specs/Answers.antt, what each call answers in specs/Calls.antt.
 ghost use mathlib.Core.Path.{_≡_};
 ghost use Rattle.preparing.specs.Reads.{readOf};
-ghost use Rattle.gurkenmond.specs.Calls.{noSets, setsOf, cannotSkipOf, writeOwnOf, writePlainOf};
+ghost use Rattle.gurkenmond.specs.Calls.{noSets, setsOf, cannotSkipOf, matchOf, writeOwnOf, writePlainOf};
+ghost use Rattle.matching.specs.Nodes.{soundAt, nodeText};
+ghost use Rattle.preparing.specs.declared.Verdict.the-variants.{Refused as VerdictRefused};
+ghost use Rattle.gurkenmond.specs.Runs.{Loopless, Says, Ran, listedMatch, notMatched};
 ghost use Rattle.gurkenmond.specs.Puts.{notWritten, PutText};
 use grammar::Table;
 pub use preparing::Counted;
@@ -217,4 +220,122 @@ pub fn write_plain(mode: Mode, text: &[u8], out: &mut [u8]) -> Written
         return not_written(v);
     }
     put_text(&plain, out, true)
+}
+
+// A refusal of `read`, handed on.
+fn not_matched(v: Verdict) -> Match
+    ensures { λ r. ⌜ r ≡ notMatched v ⌝ }
+{
+    match v {
+        Verdict::Accepted => Match {
+            nodes: 0,
+            outcome: Outcome::NoMatch,
+        },
+        Verdict::Refused {
+            number: n,
+            place: p,
+        } => Match {
+            nodes: 0,
+            outcome: Outcome::Refused {
+                number: n,
+                place: p,
+            },
+        },
+    }
+}
+
+fn refused_match(number: usize, place: usize) -> Match
+    ensures { λ r. ⌜ r ≡ notMatched (VerdictRefused number place) ⌝ }
+{
+    Match {
+        nodes: 0,
+        outcome: Outcome::Refused {
+            number: number,
+            place: place,
+        },
+    }
+}
+
+fn listed_match(taken: usize, l: listing::Listed) -> Match
+    ensures { λ r. ⌜ r ≡ listedMatch taken l ⌝ }
+{
+    match l {
+        listing::Listed::All(k) => Match {
+            nodes: k,
+            outcome: Outcome::Matched(taken),
+        },
+        listing::Listed::Deep(k) => Match {
+            nodes: 0,
+            outcome: Outcome::Refused {
+                number: 11,
+                place: k,
+            },
+        },
+        listing::Listed::Full(k) => Match {
+            nodes: 0,
+            outcome: Outcome::Refused {
+                number: 12,
+                place: k,
+            },
+        },
+    }
+}
+
+// The table of a plain grammar matched: 9, 10, then the cells, then 11 and 12.
+fn run(t: &Table, input: &[u8], cells: &mut [u32], nodes: &mut [u32]) -> Match
+    requires { ⌜ Loopless (now t) ⌝ }
+    ensures { λ r. ⌜ Ran (now (t .entry)) (now (input .entry)) (now (cells .entry)) (now (nodes .entry)) (now (cells .exit)) (now (nodes .exit)) r ⌝ }
+{
+    if 65535 < input.len() {
+        return refused_match(9, 65535);
+    }
+    let n = preparing::symbols(t);
+    let need = n * (input.len() + 1);
+    if cells.len() < need {
+        return refused_match(10, need);
+    }
+    running::fill(t, input, cells);
+    let c = words::word(cells, 0);
+    if c == 0 {
+        return Match {
+            nodes: 0,
+            outcome: Outcome::NoMatch,
+        };
+    }
+    let l = listing::list(t, input, cells, n, nodes);
+    listed_match(c - 1, l)
+}
+
+// A text matched from its begin: the work cells are filled and the nodes listed in the lent words (01, Meaning of a match).
+pub fn match_input(
+    mode: Mode,
+    text: &[u8],
+    input: &[u8],
+    cells: &mut [u32],
+    nodes: &mut [u32],
+) -> Match
+    ensures { λ r. ⌜ Says r (now (cells .exit)) (now (nodes .exit)) (matchOf mode (now (text .entry)) (now (input .entry)) (now (cells .entry)) (now (nodes .entry))) ⌝ }
+{
+    let mut t: Table = [0; 22280];
+    let mut plain: Table = [0; 22280];
+    let c = preparing::plainly(mode, text, &mut t, &mut plain);
+    let v = c.verdict;
+    if preparing::is_refused(v) {
+        return not_matched(v);
+    }
+    run(&plain, input, cells, nodes)
+}
+
+// Whether node k lies whole in the words, with start ≤ end ≤ n (01, "Other calls").
+pub fn node_sound(nodes: &[u32], k: usize, n: usize) -> bool
+    ensures { λ r. ⌜ r ≡ soundAt (now (nodes .entry)) k n ⌝ }
+{
+    listing::nodes::sound(nodes, k, n)
+}
+
+// The text of a node, as that part of the lent input; for an unsound node the empty part at 0.
+pub fn node_text<'a>(input: &'a [u8], nodes: &[u32], k: usize) -> &'a [u8]
+    ensures { λ r. ⌜ now r ≡ nodeText (now (input .entry)) (now (nodes .entry)) k ⌝ }
+{
+    listing::nodes::text(input, nodes, k)
 }

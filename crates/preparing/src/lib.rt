@@ -143,6 +143,13 @@ pub fn is_refused(v: Verdict) -> bool
     }
 }
 
+// How many symbols a table holds.
+pub fn symbols(t: &Table) -> usize
+    ensures { λ r. ⌜ r ≡ symbolCount (now (t .entry)) ⌝ }
+{
+    words::word(t, 0)
+}
+
 // How many expressions a table holds.
 pub fn expressions(t: &Table) -> usize
     ensures { λ r. ⌜ r ≡ expressionCount (now (t .entry)) ⌝ }

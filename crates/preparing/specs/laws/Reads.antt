@@ -132,6 +132,11 @@ module _ (m : Mode) (s : List ℕ) where
   pub clear-good : refuses m s ≡ none → Good (numbered (rulesOf m s))
   clear-good e = is-good (clear-text e)
 
+  pub clear-sound : refuses m s ≡ none → SoundAll (terminalIn (numbered (rulesOf m s))) (length (numbered (rulesOf m s) .names)) (length (numbered (rulesOf m s) .terminals)) bodies
+  clear-sound e =
+      let w = clear-good e in
+      plain-proper (numbered (rulesOf m s)) (w .proper) (w .once) (w .none-empty) (omega (arith, dot-in (rulesOf m s)))
+
   pub clear-loop : refuses m s ≡ none → loop bodies ≡ none
   unfolding rest
   clear-loop e =

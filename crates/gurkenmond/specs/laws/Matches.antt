@@ -1,0 +1,177 @@
+-- A match, from what its parts answer. Assumes nothing.
+use Prim.Native.Nat.{ℕ, zero, suc, _+_, _-_, _*_, _≤_, _<_}
+use mathlib.Core.Path.{_≡_, refl, sym, ap, ap₂, _∙_, subst}
+use mathlib.Core.Bool.{Bool, true, false}
+use mathlib.Core.List.{List}
+use mathlib.Core.Option.{Option, none, some}
+use native.Mathlib.Omega.{arith}
+use native.Mathlib.Nat.{mul-comm, mul-le-mul-right}
+use lib.ListN.{length, getD}
+use lib.Dec.{ltb}
+use borrow.Author.Tests.{lt-ltb, le-ltb}
+use Rattle.tokens.specs.Bounds.{inputBound}
+use Rattle.tokens.specs.declared.Mode.{Mode}
+use Rattle.grammar.specs.Exp.{Exp}
+use Rattle.grammar.specs.Numbers.{Grammar, numbered}
+use Rattle.grammar.specs.Refusal.{Refusal, refusal, refuseIf, _▸_}
+use Rattle.grammar.specs.Table.{symbolCount}
+use Rattle.grammar.specs.Holds.{Holds}
+use Rattle.reading.specs.Reading.{rulesOf}
+use Rattle.lakes.specs.Made.{withBodies}
+use Rattle.plain.specs.Calls.{loop, order}
+use Rattle.translation.specs.Stepped.{plainOf}
+use Rattle.filling.specs.Trees.{bodiesOf}
+use Rattle.loops.specs.laws.Trees.{bodies-are}
+use Rattle.matching.specs.Cells.{cells}
+use Rattle.matching.specs.Nodes.{Listing, listOf, listingOf, wordsOf, roomOf}
+use Rattle.matching.specs.laws.Agrees.{Right}
+use Rattle.running.specs.Runs.{Plain, Fills}
+use Rattle.running.specs.laws.Runs.{bodies-of, cells-right}
+use Rattle.listing.specs.declared.Listed.{Listed}
+use Rattle.listing.specs.declared.Listed.the-variants.{All, Deep, Full}
+use Rattle.listing.specs.Turns.{Ready, said}
+use Rattle.asking.specs.laws.Tables.{body-small}
+use Rattle.preparing.specs.declared.Counted.{Counted}
+use Rattle.preparing.specs.declared.Verdict.{Verdict}
+use Rattle.preparing.specs.declared.Verdict.the-variants.{Accepted, Refused as VerdictRefused}
+use Rattle.preparing.specs.Prepare.{Prepared, prepared, preparedBy, refuses}
+use Rattle.preparing.specs.Reads.{verdictOf, isRefused, readOf}
+use Rattle.preparing.specs.laws.Reads.{clear-sound, clear-loop}
+use Rattle.gurkenmond.specs.declared.Match.{Match}
+use Rattle.gurkenmond.specs.declared.Outcome.the-variants.{Matched, NoMatch, Refused as OutcomeRefused}
+use Rattle.gurkenmond.specs.Calls.{Matching, matching, cellsNeeded, refusesInput, listingBy, matchBy, filled, matchAfter, matchOf}
+use Rattle.gurkenmond.specs.Runs.{Loopless, Says, Ran, outcome, listedMatch, notMatched}
+use Rattle.gurkenmond.specs.laws.Verdicts.{handed}
+
+-- ── the numbers ──
+pub need-small : (n l : ℕ) → n ≤ 64 → l ≤ 65535 → n * (l + 1) ≤ 4194304
+need-small n l h k = let a : n * (l + 1) ≤ 64 * (l + 1) = mul-le-mul-right {m = n} {n = 64} (l + 1) h in omega (arith, a, k)
+
+-- ── 9 and 10 ──
+module _ (t s cs ws : List ℕ) (n : ℕ) (q : n ≡ symbolCount t) (g : Grammar) (p : Prepared) (pl : Plain t g (p .bodies)) where
+  need-is : n * (length s + 1) ≡ cellsNeeded p s
+  need-is = ap (λ (k : ℕ). k * (length s + 1)) (q ∙ bodies-are t g (p .bodies) (pl .holds))
+
+  pub too-long : 65535 < length s → Says (notMatched (VerdictRefused 9 65535)) cs ws (matchAfter (refusesInput p s cs) p s cs ws)
+  unfolding inputBound
+  too-long h =
+      subst (λ (b : Bool). Says (notMatched (VerdictRefused 9 65535)) cs ws (matchAfter (refuseIf b 9 65535 ▸ refuseIf (ltb (length cs) (cellsNeeded p s)) 10 (cellsNeeded p s)) p s cs ws))
+      (sym (lt-ltb 65535 (length s) h)) (refl, refl, refl)
+
+  module _ (short : length s ≤ 65535) where
+    by-cells : (b : Bool) → ltb (length cs) (cellsNeeded p s) ≡ b → refusesInput p s cs ≡ refuseIf b 10 (cellsNeeded p s)
+    unfolding inputBound
+    by-cells b h = ap₂ (λ (x y : Bool). refuseIf x 9 65535 ▸ refuseIf y 10 (cellsNeeded p s)) (le-ltb 65535 (length s) short) h
+
+    pub too-few : (need : ℕ) → need ≡ n * (length s + 1) → length cs < need → Says (notMatched (VerdictRefused 10 need)) cs ws (matchAfter (refusesInput p s cs) p s cs ws)
+    too-few need e h =
+        subst (λ (o : Option Refusal). Says (notMatched (VerdictRefused 10 need)) cs ws (matchAfter o p s cs ws))
+        (sym (by-cells true (lt-ltb (length cs) (cellsNeeded p s) (omega (arith, h, e, need-is)))))
+        (ap (λ (k : ℕ). notMatched (VerdictRefused 10 k)) (e ∙ need-is), refl, refl)
+
+    pub enough : n * (length s + 1) ≤ length cs → refusesInput p s cs ≡ none
+    enough h = by-cells false (le-ltb (length cs) (cellsNeeded p s) (omega (arith, h, need-is)))
+
+-- ── the list ──
+listing-said : (taken : ℕ) (l : Listed) (cs ws : List ℕ) → listingBy taken (said l) cs ws ≡ record { answer = listedMatch taken l; cells = cs; nodes = ws }
+unfolding said
+listing-said taken (All k) cs ws = refl
+listing-said taken (Deep k) cs ws = refl
+listing-said taken (Full k) cs ws = refl
+
+says-by : (r : Match) (cs ws : List ℕ) (w : Matching) → record { answer = r; cells = cs; nodes = ws } ≡ w → Says r cs ws w
+says-by r cs ws w e = (ap (λ (x : Matching). x .answer) e, ap (λ (x : Matching). x .cells) e, ap (λ (x : Matching). x .nodes) e)
+
+module _ (s cs ws : List ℕ) (p : Prepared) (new : List ℕ) (e : new ≡ filled p s cs) (c : ℕ) (f : c ≡ getD new 0 0) where
+  cell-is : c ≡ getD (filled p s cs) 0 0
+  cell-is = f ∙ ap (λ (l : List ℕ). getD l 0 0) e
+
+  pub unmatched : c ≡ 0 → Says (outcome 0 NoMatch) new ws (matchAfter none p s cs ws)
+  unmatched z =
+      says-by (outcome 0 NoMatch) new ws (matchAfter none p s cs ws)
+      (ap (λ (l : List ℕ). matching 0 NoMatch l ws) e
+      ∙ ap (λ (k : ℕ). matchBy k (p .bodies) s (filled p s cs) ws) (sym z ∙ cell-is))
+
+  by-list : (k : ℕ) → c ≡ suc k → (l : Listed) (words : List ℕ) → said l ≡ listingOf (roomOf ws) 0 (listOf (p .bodies) s new) → words ≡ wordsOf (roomOf ws) ws (listOf (p .bodies) s new)
+      → record { answer = listedMatch k l; cells = new; nodes = words } ≡ matchBy c (p .bodies) s new ws
+  by-list k z l words a b =
+      ap (λ (w : List ℕ). record { answer = listedMatch k l; cells = new; nodes = w }) b
+      ∙ sym (listing-said k l new (wordsOf (roomOf ws) ws (listOf (p .bodies) s new)))
+      ∙ ap (λ (x : Listing). listingBy k x new (wordsOf (roomOf ws) ws (listOf (p .bodies) s new))) a
+      ∙ ap (λ (j : ℕ). matchBy j (p .bodies) s new ws) (sym z)
+
+  pub matched : (c ≡ 0 → ⊥) → (l : Listed) (words : List ℕ) → said l ≡ listingOf (roomOf ws) 0 (listOf (p .bodies) s new) → words ≡ wordsOf (roomOf ws) ws (listOf (p .bodies) s new)
+      → Says (listedMatch (c - 1) l) new words (matchAfter none p s cs ws)
+  matched z l words a b =
+      says-by (listedMatch (c - 1) l) new words (matchAfter none p s cs ws)
+      (by-list (c - 1) (omega (arith, z)) l words a b ∙ ap₂ (λ (k : ℕ) (x : List ℕ). matchBy k (p .bodies) s x ws) cell-is e)
+
+-- ── as the code has it ──
+module _ (t s cs ws : List ℕ) where
+  pub ran-long : {r : Match} → r ≡ notMatched (VerdictRefused 9 65535) → 65535 < length s → Ran t s cs ws cs ws r
+  ran-long e h = record { are = λ g p pl clear. let w = too-long t s cs ws (symbolCount t) refl g p pl h in (e ∙ w .0, w .1, w .2) }
+
+  module _ (n need : ℕ) (q : n ≡ symbolCount t) (short : length s ≤ 65535) (m : need ≡ n * (length s + 1)) where
+    pub ran-few : {r : Match} → r ≡ notMatched (VerdictRefused 10 need) → length cs < need → Ran t s cs ws cs ws r
+    ran-few e h = record { are = λ g p pl clear. let w = too-few t s cs ws n q g p pl short need m h in (e ∙ w .0, w .1, w .2) }
+
+    module _ (room : need ≤ length cs) (new : List ℕ) (fills : Fills t s cs new) where
+      clear-input : (g : Grammar) (p : Prepared) → Plain t g (p .bodies) → refusesInput p s cs ≡ none
+      clear-input g p pl = enough t s cs ws n q g p pl short (omega (arith, room, m))
+
+      pub ran-none : (c : ℕ) → c ≡ getD new 0 0 → c ≡ 0 → Ran t s cs ws new ws (outcome 0 NoMatch)
+      ran-none c f z = record {
+        are =
+            λ g p pl clear.
+            subst (λ (o : Option Refusal). Says (outcome 0 NoMatch) new ws (matchAfter o p s cs ws)) (sym (clear-input g p pl))
+            (unmatched s cs ws p new (fills .are g (p .bodies) pl clear) c f z);
+      }
+
+      pub ready : Loopless t → Ready t s new n
+      ready l = record {
+        count = q;
+        few = omega (arith, q, l .plain .holds .few-symbols);
+        short = short;
+        right =
+            subst (λ (bs : List (Exp ℕ)). Right bs s new) (sym (bodies-of t (l .grammar) (l .bodies) (l .plain)))
+            (subst (λ (x : List ℕ). Right (l .bodies) s x) (sym (fills .are (l .grammar) (l .bodies) (l .plain) (l .clear)))
+            (cells-right t (l .grammar) (l .bodies) (l .plain) (l .clear) s cs (rooms (length (l .bodies)) (q ∙ bodies-are t (l .grammar) (l .bodies) (l .plain .holds)))));
+        small = λ r k. body-small t (withBodies (l .grammar) (l .bodies)) (l .plain .holds) r (omega (arith, k, q));
+      }
+        where
+          rooms : (k : ℕ) → n ≡ k → (length s + 1) * k ≤ length cs
+          rooms k e = let a : (length s + 1) * k ≡ k * (length s + 1) = mul-comm (length s + 1) k in let b : n * (length s + 1) ≡ k * (length s + 1) = ap (λ (j : ℕ). j * (length s + 1)) e in omega (arith, a, b, room, m)
+
+      pub ran-all : (c : ℕ) → c ≡ getD new 0 0 → (c ≡ 0 → ⊥) → (l : Listed) (words : List ℕ) (r : Match) → said l ≡ listingOf (roomOf ws) 0 (listOf (bodiesOf t) s new)
+          → words ≡ wordsOf (roomOf ws) ws (listOf (bodiesOf t) s new) → r ≡ listedMatch (c - 1) l → Ran t s cs ws new words r
+      ran-all c f z l words r a b e = record {
+        are =
+            λ g p pl clear.
+            let d : bodiesOf t ≡ p .bodies = bodies-of t g (p .bodies) pl in
+            let w =
+            matched s cs ws p new (fills .are g (p .bodies) pl clear) c f z l words (a ∙ ap (λ (bs : List (Exp ℕ)). listingOf (roomOf ws) 0 (listOf bs s new)) d)
+            (b ∙ ap (λ (bs : List (Exp ℕ)). wordsOf (roomOf ws) ws (listOf bs s new)) d) in
+            subst (λ (o : Option Refusal). Says r new words (matchAfter o p s cs ws)) (sym (clear-input g p pl)) (e ∙ w .0, w .1, w .2);
+      }
+
+-- ── the call ──
+module _ (m : Mode) (s : List ℕ) (out : List ℕ) (clear : refuses m s ≡ none) (h : Holds out (withBodies (numbered (rulesOf m s)) (plainOf (numbered (rulesOf m s))))) where
+  plain-is : Plain out (numbered (rulesOf m s)) (plainOf (numbered (rulesOf m s)))
+  plain-is = record { holds = h; sound = clear-sound m s clear }
+
+  pub loopless : Loopless out
+  loopless = record { grammar = numbered (rulesOf m s); bodies = plainOf (numbered (rulesOf m s)); plain = plain-is; clear = clear-loop m s clear }
+
+  pub match-ran : (i cs ws new words : List ℕ) (r : Match) → Ran out i cs ws new words r → Says r new words (matchOf m s i cs ws)
+  unfolding matchOf prepared preparedBy
+  match-ran i cs ws new words r a =
+      subst (λ (o : Option Refusal). Says r new words (matchAfter (o ▸ refusesInput (prepared m s) i cs) (prepared m s) i cs ws)) (sym clear)
+      (a .are (numbered (rulesOf m s)) (prepared m s) plain-is (clear-loop m s clear))
+
+pub match-refused : (m : Mode) (s i cs ws : List ℕ) (c : Counted) → c ≡ readOf m s → isRefused (c .verdict) ≡ true → Says (notMatched (c .verdict)) cs ws (matchOf m s i cs ws)
+unfolding matchOf verdictOf
+match-refused m s i cs ws c q h =
+    let w = handed m s c q h in
+    says-by (notMatched (c .verdict)) cs ws (matchOf m s i cs ws)
+    (ap (λ (v : Verdict). record { answer = notMatched v; cells = cs; nodes = ws }) (w .2)
+    ∙ sym (ap (λ (o : Option Refusal). matchAfter (o ▸ refusesInput (prepared m s) i cs) (prepared m s) i cs ws) (w .1)))
