@@ -3,6 +3,8 @@ pub mod Automaton
 pub mod Turns
 pub mod Walks
 pub mod Names
+pub mod Lefts
 pub mod Hits
 pub mod Offences
+pub mod Index
 pub mod Chain

@@ -140,7 +140,7 @@ fn lakelike(text: &[u8], from: usize, n: usize) -> bool
 }
 
 // "names, a lake's too, may not begin with `lake__`" in lake mode.
-fn reserved_name(mode: Mode, text: &[u8], from: usize, n: usize) -> bool
+pub fn reserved_name(mode: Mode, text: &[u8], from: usize, n: usize) -> bool
     requires { ⌜ from + n ≤ length (now text) ⌝ }
     ensures { λ r. ⌜ r ≡ reservedBy mode (bytesAt (now (text .entry)) from n) ⌝ }
 {
@@ -171,7 +171,7 @@ fn bad_name(mode: Mode, text: &[u8], at: usize, t: Token) -> bool
 }
 
 // Refusal 4: 1 + the place of the leftmost second left side or reserved name; 0 where there is none.
-pub fn second_left(mode: Mode, text: &[u8]) -> usize
+pub fn second_walked(mode: Mode, text: &[u8]) -> usize
     requires { ⌜ length (now text) < 4294967296 ⌝ }
     ensures { λ r. ⌜ r ≡ placed (second mode [] (lexemes mode (now (text .entry)))) ⌝ }
 {
@@ -204,7 +204,7 @@ fn lacking(mode: Mode, text: &[u8], at: usize, t: Token) -> bool
 }
 
 // Refusal 5: 1 + the place of the first use of a nonterminal without a rule; 0 where there is none.
-pub fn unruled_use(mode: Mode, text: &[u8]) -> usize
+pub fn unruled_walked(mode: Mode, text: &[u8]) -> usize
     requires { ⌜ length (now text) < 4294967296 ⌝ }
     ensures { λ r. ⌜ r ≡ placed (unruled (leftsIn (lexemes mode (now (text .entry)))) (lexemes mode (now (text .entry)))) ⌝ }
 {

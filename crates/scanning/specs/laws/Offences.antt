@@ -95,7 +95,7 @@ module _ (m : Mode) (s : List ℕ) (at : ℕ) (t : Token) (e : t ≡ coded (toke
     abbrev w : List ℕ
     w = bytesAt s (begun (t .kind) (t .start)) (t .size)
 
-    said : (u : Tok) → tokenAt m s at .is ≡ some u → symbol (symbolBy (t .kind) w) ≡ u
+    pub said : (u : Tok) → tokenAt m s at .is ≡ some u → symbol (symbolBy (t .kind) w) ≡ u
     said u q =
         let n = named (t .kind) low h [] m s at u q (kind-is u q) in
         ap (λ (i : ℕ). symbol (symbolBy (t .kind) (bytesAt s (begun (t .kind) i) (t .size)))) (ap (λ (x : Token). x .start) e)
@@ -155,7 +155,7 @@ module _ (m : Mode) (s : List ℕ) where
   unfolding second
   walked at v e = sym (ap placed (sym (v .2) ∙ ap (second m (walkTo m s (v .0) .seen)) (lex-end m s at e)))
 
-  at-token : (at : ℕ) (v : Walking at) (u : Tok) → tokenAt m s at .is ≡ some u → (r : Bool)
+  pub at-token : (at : ℕ) (v : Walking at) (u : Tok) → tokenAt m s at .is ≡ some u → (r : Bool)
       → r ≡ bad4 m (walkTo m s (v .0) .seen) u (before (lexemesAt m s (tokenAt m s at .next)))
       → second m [] (lexemes m s)
       ≡ elim r as (λ x. Option ℕ) [

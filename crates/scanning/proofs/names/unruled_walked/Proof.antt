@@ -1,4 +1,4 @@
--- `scanning::names::unruled_use` meets its contract. Assumes nothing.
+-- `scanning::names::unruled_walked` meets its contract. Assumes nothing.
 use Prim.Native.Nat.{ℕ, _+_, _-_, _≤_, _<_}
 use mathlib.Core.Path.{_≡_, refl, sym, ap, _∙_, subst}
 use mathlib.Core.Option.{Option, none, some}
@@ -12,10 +12,10 @@ use Rattle.scanning.specs.Names.{placed}
 use Rattle.scanning.specs.laws.Turns.{is-end, is-token, here}
 use Rattle.scanning.specs.laws.Offences.{none-lacks, this-lacks, later-lacks}
 use borrow.Author.Needs.{needs}
-use Rattle.scanning.proofs.names.unruled_use.Statement.{statement}
-use Rattle.scanning.proofs.names.unruled_use.Tie as tie
-use Rattle.scanning.proofs.names.unruled_use.Reads as reads
-use Rattle.scanning.proofs.names.unruled_use.Lts as lts
+use Rattle.scanning.proofs.names.unruled_walked.Statement.{statement}
+use Rattle.scanning.proofs.names.unruled_walked.Tie as tie
+use Rattle.scanning.proofs.names.unruled_walked.Reads as reads
+use Rattle.scanning.proofs.names.unruled_walked.Lts as lts
 use Rattle.scanning.proofs.names.lacking.Reads as lacking-reads
 use Rattle.tokens.proofs.token_at.Reads as token-at-reads
 
@@ -50,8 +50,8 @@ loop-less c = omega (arith, here (c .before .before .before .before .before .bef
 loop-again : tie.Need-loop-again Inv-loop μ-loop
 loop-again c = (here (c .before .before .before .before .before .before .before .args .mode) (c .before .before .before .before .before .before .before .args .text .now) (c .before .before .before .before .before .loop .at) (c .before .before .before .before .token-at .result) (c .before .before .before .before .token-at .ensures) (c .before .before .if1 .left) .within, ap (λ (i : ℕ). unruled (leftsIn (lexemes (c .before .before .before .before .before .before .before .args .mode) (c .before .before .before .before .before .before .before .args .text .now))) (lexemesAt (c .before .before .before .before .before .before .before .args .mode) (c .before .before .before .before .before .before .before .args .text .now) i)) (ap (λ (t : Token). t .next) (c .before .before .before .before .token-at .ensures)) ∙ later-lacks (c .before .before .before .before .before .before .before .args .mode) (c .before .before .before .before .before .before .before .args .text .now) (leftsIn (lexemes (c .before .before .before .before .before .before .before .args .mode) (c .before .before .before .before .before .before .before .args .text .now))) (c .before .before .before .before .before .loop .at) ((is-token (tokenAt (c .before .before .before .before .before .before .before .args .mode) (c .before .before .before .before .before .before .before .args .text .now) (c .before .before .before .before .before .loop .at) .is) (λ z. c .before .before .if1 .left (ap (λ (t : Token). t .kind) (c .before .before .before .before .token-at .ensures) ∙ z))) .0) ((is-token (tokenAt (c .before .before .before .before .before .before .before .args .mode) (c .before .before .before .before .before .before .before .args .text .now) (c .before .before .before .before .before .loop .at) .is) (λ z. c .before .before .if1 .left (ap (λ (t : Token). t .kind) (c .before .before .before .before .token-at .ensures) ∙ z))) .1) (sym (c .if2 .left) ∙ c .before .lacking .ensures ((is-token (tokenAt (c .before .before .before .before .before .before .before .args .mode) (c .before .before .before .before .before .before .before .args .text .now) (c .before .before .before .before .before .loop .at) .is) (λ z. c .before .before .if1 .left (ap (λ (t : Token). t .kind) (c .before .before .before .before .token-at .ensures) ∙ z))) .0) ((is-token (tokenAt (c .before .before .before .before .before .before .before .args .mode) (c .before .before .before .before .before .before .before .args .text .now) (c .before .before .before .before .before .loop .at) .is) (λ z. c .before .before .if1 .left (ap (λ (t : Token). t .kind) (c .before .before .before .before .token-at .ensures) ∙ z))) .1)) ∙ c .before .before .before .before .before .loop .inv .1)
 
-pub unruled-use-spec : {M : Type 1} → statement M
-unruled-use-spec =
+pub unruled-walked-spec : {M : Type 1} → statement M
+unruled-walked-spec =
     tie.close
     (tie.spec
     Inv-loop

@@ -1,4 +1,4 @@
--- `scanning::names::second_left` meets its contract. Assumes nothing.
+-- `scanning::names::second_walked` meets its contract. Assumes nothing.
 use Prim.Native.Nat.{ℕ, _+_, _-_, _≤_, _<_}
 use mathlib.Core.Path.{_≡_, refl, sym, ap, _∙_, subst}
 use mathlib.Core.Option.{Option, none, some}
@@ -12,10 +12,10 @@ use Rattle.scanning.specs.Names.{placed}
 use Rattle.scanning.specs.laws.Turns.{is-end, is-token, here}
 use Rattle.scanning.specs.laws.Offences.{Walking, walking, walked, walked-into, walks-past}
 use borrow.Author.Needs.{needs}
-use Rattle.scanning.proofs.names.second_left.Statement.{statement}
-use Rattle.scanning.proofs.names.second_left.Tie as tie
-use Rattle.scanning.proofs.names.second_left.Reads as reads
-use Rattle.scanning.proofs.names.second_left.Lts as lts
+use Rattle.scanning.proofs.names.second_walked.Statement.{statement}
+use Rattle.scanning.proofs.names.second_walked.Tie as tie
+use Rattle.scanning.proofs.names.second_walked.Reads as reads
+use Rattle.scanning.proofs.names.second_walked.Lts as lts
 use Rattle.scanning.proofs.names.bad_name.Reads as bad-name-reads
 use Rattle.tokens.proofs.token_at.Reads as token-at-reads
 
@@ -49,8 +49,8 @@ loop-less c = omega (arith, here (c .before .before .before .before .before .bef
 loop-again : tie.Need-loop-again Inv-loop μ-loop
 loop-again c = (here (c .before .before .before .before .before .before .before .args .mode) (c .before .before .before .before .before .before .before .args .text .now) (c .before .before .before .before .before .loop .at) (c .before .before .before .before .token-at .result) (c .before .before .before .before .token-at .ensures) (c .before .before .if1 .left) .within, subst (Walking (c .before .before .before .before .before .before .before .args .mode) (c .before .before .before .before .before .before .before .args .text .now)) (sym (ap (λ (t : Token). t .next) (c .before .before .before .before .token-at .ensures))) (walks-past (c .before .before .before .before .before .before .before .args .mode) (c .before .before .before .before .before .before .before .args .text .now) (c .before .before .before .before .before .loop .at) (c .before .before .before .before .before .loop .inv .1) ((is-token (tokenAt (c .before .before .before .before .before .before .before .args .mode) (c .before .before .before .before .before .before .before .args .text .now) (c .before .before .before .before .before .loop .at) .is) (λ z. c .before .before .if1 .left (ap (λ (t : Token). t .kind) (c .before .before .before .before .token-at .ensures) ∙ z))) .0) ((is-token (tokenAt (c .before .before .before .before .before .before .before .args .mode) (c .before .before .before .before .before .before .before .args .text .now) (c .before .before .before .before .before .loop .at) .is) (λ z. c .before .before .if1 .left (ap (λ (t : Token). t .kind) (c .before .before .before .before .token-at .ensures) ∙ z))) .1) (sym (c .if2 .left) ∙ c .before .bad-name .ensures (c .before .before .before .before .before .loop .inv .1 .0) (c .before .before .before .before .before .loop .inv .1 .1) ((is-token (tokenAt (c .before .before .before .before .before .before .before .args .mode) (c .before .before .before .before .before .before .before .args .text .now) (c .before .before .before .before .before .loop .at) .is) (λ z. c .before .before .if1 .left (ap (λ (t : Token). t .kind) (c .before .before .before .before .token-at .ensures) ∙ z))) .0) ((is-token (tokenAt (c .before .before .before .before .before .before .before .args .mode) (c .before .before .before .before .before .before .before .args .text .now) (c .before .before .before .before .before .loop .at) .is) (λ z. c .before .before .if1 .left (ap (λ (t : Token). t .kind) (c .before .before .before .before .token-at .ensures) ∙ z))) .1))))
 
-pub second-left-spec : {M : Type 1} → statement M
-second-left-spec =
+pub second-walked-spec : {M : Type 1} → statement M
+second-walked-spec =
     tie.close
     (tie.spec
     Inv-loop
