@@ -1,11 +1,9 @@
-// Refusals 1 to 5 of a grammar text, found without storing anything (01, Refusal numbers).
+// Refusals 1 to 5 of a grammar text (01, Refusal numbers).
 ghost use mathlib.Core.Path.{_≡_};
 ghost use Rattle.tokens.specs.Bounds.{textBound};
 ghost use Rattle.scanning.specs.Found.{found};
 ghost use Rattle.scanning.specs.Scanned.{scanned};
 
-pub mod lefts;
-pub mod names;
 pub mod syntax;
 
 use syntax::Found;
