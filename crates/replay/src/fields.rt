@@ -35,6 +35,15 @@ pub fn until(s: &[u8], at: usize) -> usize {
     i
 }
 
+// Where the field behind the one at `at` begins.
+pub fn after(s: &[u8], at: usize) -> usize {
+    let to = until(s, at);
+    if to < s.len() {
+        return to + 1;
+    }
+    s.len()
+}
+
 // Whether the word stands in the line from `at` on.
 pub fn stands(s: &[u8], at: usize, word: &[u8]) -> bool {
     if s.len() < word.len() {

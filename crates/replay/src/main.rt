@@ -1,47 +1,22 @@
-// Answers questions from standard input, one a line; a line that is no question is answered by `unreadable`, and so is one longer than the buffer.
-//   read MODE GRAMMAR              read SYMBOLS TERMINALS EXPRESSIONS, or refused NUMBER PLACE
-//   sets MODE GRAMMAR EXPRESSION   sets B0 B1 S0 S1 A0 A1 EPS ROUNDS, or refused NUMBER PLACE
-//   skip MODE GRAMMAR              skip and the numbers of the lakes that cannot skip, or refused NUMBER PLACE
-// MODE is `lake` or `plain`; bytes are in hexadecimal, `-` is the empty text.
+// Answers questions from standard input, one a line; a line that is no question is answered by `unreadable`, and so is one that is longer than the buffer
+// or that lends more than there is.
+//   read MODE GRAMMAR                         read SYMBOLS TERMINALS EXPRESSIONS
+//   sets MODE GRAMMAR EXPRESSION              sets B0 B1 S0 S1 A0 A1 EPS ROUNDS
+//   skip MODE GRAMMAR                         skip and the numbers of the lakes that cannot skip
+//   match MODE GRAMMAR INPUT CELLS NODEWORDS  match TAKEN or none; then every lent word
+//   lake MODE GRAMMAR INPUT CELLS LAKE PLACE  value 0 to 3; then every lent cell
+//   own MODE GRAMMAR ROOM                     text BYTES
+//   plain MODE GRAMMAR ROOM                   text BYTES
+// or `refused NUMBER PLACE`. MODE is `lake` or `plain`; bytes are in hexadecimal, `-` is the empty text. Every lent word holds 3,735,928,559 before the call.
 ghost use Prim.Native.Nat.{_+_, _≤_, _<_};
 ghost use mathlib.Core.Path.{_≡_};
 ghost use lib.ListN.{length};
-
+mod buffers;
 mod fields;
+mod says;
 
 use gurkenmond::Verdict;
 use tokens::Mode;
-
-fn line_buffer() -> [u8; 2359296]
-    ensures { λ r. ⌜ 2359296 ≡ length r ⌝ }
-{
-    [0; 2359296]
-}
-
-fn text_buffer() -> [u8; 1048640]
-    ensures { λ r. ⌜ 1048640 ≡ length r ⌝ }
-{
-    [0; 1048640]
-}
-
-fn number(n: u64) {
-    io::write_all(1, b" ");
-    io::print_decimal(1, n);
-}
-
-fn line_end() {
-    io::write_all(1, b"\n");
-}
-
-fn unreadable() {
-    io::write_all(1, b"unreadable\n");
-}
-
-fn refused(number_is: usize, place: usize) {
-    io::write_all(1, b"refused");
-    number(number_is as u64);
-    number(place as u64);
-}
 
 fn answer_read(mode: Mode, text: &[u8]) {
     let r = gurkenmond::read(mode, text);
@@ -49,30 +24,16 @@ fn answer_read(mode: Mode, text: &[u8]) {
     match v {
         Verdict::Accepted => {
             io::write_all(1, b"read");
-            number(r.symbols as u64);
-            number(r.terminals as u64);
-            number(r.expressions as u64);
+            says::number(r.symbols as u64);
+            says::number(r.terminals as u64);
+            says::number(r.expressions as u64);
         }
         Verdict::Refused {
             number: n,
             place: p,
-        } => refused(n, p),
+        } => says::refused(n, p),
     }
-    line_end();
-}
-
-fn print_sets(s: sets::Sets) {
-    number(s.begin[0]);
-    number(s.begin[1]);
-    number(s.succeed[0]);
-    number(s.succeed[1]);
-    number(s.alt[0]);
-    number(s.alt[1]);
-    if s.eps {
-        number(1);
-    } else {
-        number(0);
-    }
+    says::line_end();
 }
 
 fn answer_sets(mode: Mode, text: &[u8], e: usize) {
@@ -81,26 +42,15 @@ fn answer_sets(mode: Mode, text: &[u8], e: usize) {
     match v {
         Verdict::Accepted => {
             io::write_all(1, b"sets");
-            print_sets(r.sets);
-            number(r.rounds as u64);
+            says::sets(r.sets);
+            says::number(r.rounds as u64);
         }
         Verdict::Refused {
             number: n,
             place: p,
-        } => refused(n, p),
+        } => says::refused(n, p),
     }
-    line_end();
-}
-
-// The numbers of the bits of a word.
-fn bits(w: u64) {
-    let mut i: u64 = 0;
-    while i < 64 {
-        if (w >> i) & 1 == 1 {
-            number(i);
-        }
-        i += 1;
-    }
+    says::line_end();
 }
 
 fn answer_skip(mode: Mode, text: &[u8]) {
@@ -109,24 +59,141 @@ fn answer_skip(mode: Mode, text: &[u8]) {
     match v {
         Verdict::Accepted => {
             io::write_all(1, b"skip");
-            bits(r.word);
+            says::bits(r.word);
         }
         Verdict::Refused {
             number: n,
             place: p,
-        } => refused(n, p),
+        } => says::refused(n, p),
     }
-    line_end();
+    says::line_end();
+}
+
+fn answer_match(mode: Mode, text: &[u8], input: &[u8], cells: &mut [u32], nodes: &mut [u32]) {
+    let r = gurkenmond::match_input(mode, text, input, cells, nodes);
+    let o = r.outcome;
+    says::outcome(o);
+    says::words(b" ; cells", cells);
+    says::words(b" ; nodes", nodes);
+    says::line_end();
+}
+
+fn answer_lake(
+    mode: Mode,
+    text: &[u8],
+    input: &[u8],
+    cells: &mut [u32],
+    lake: usize,
+    place: usize,
+) {
+    let w = gurkenmond::lake_at(mode, text, input, cells, lake, place);
+    says::way(w);
+    says::words(b" ; cells", cells);
+    says::line_end();
+}
+
+fn answer_own(mode: Mode, text: &[u8], out: &mut [u8]) {
+    let w = gurkenmond::write_own(mode, text, out);
+    says::written(w, out);
+    says::line_end();
+}
+
+fn answer_plain(mode: Mode, text: &[u8], out: &mut [u8]) {
+    let w = gurkenmond::write_plain(mode, text, out);
+    says::written(w, out);
+    says::line_end();
+}
+
+// The number field at `at`, at most so large; above that `most + 1`, which is no number.
+fn number_at(line: &[u8], at: usize, most: usize) -> usize
+    requires { ⌜ most < 4294967296 ⌝ }
+    ensures { λ r. ⌜ r ≤ most + 1 ⌝ }
+{
+    let to = fields::until(line, at);
+    let n = fields::decimal(line, at, to);
+    if most < n {
+        return most + 1;
+    }
+    n
 }
 
 fn ask_sets(mode: Mode, text: &[u8], line: &[u8], at: usize) {
-    let to = fields::until(line, at);
-    let e = fields::decimal(line, at, to);
+    let e = number_at(line, at, 4294967295);
     if e == 4294967296 {
-        unreadable();
+        says::unreadable();
         return;
     }
     answer_sets(mode, text, e);
+}
+
+fn ask_text(kind: u8, mode: Mode, text: &[u8], line: &[u8], at: usize) {
+    let n = number_at(line, at, 262144);
+    if n == 262145 {
+        says::unreadable();
+        return;
+    }
+    let mut out = buffers::room();
+    if kind == 5 {
+        answer_own(mode, text, &mut out[..n]);
+    } else {
+        answer_plain(mode, text, &mut out[..n]);
+    }
+}
+
+fn ask_match(mode: Mode, text: &[u8], input: &[u8], line: &[u8], at: usize) {
+    let c = number_at(line, at, 131072);
+    let then = fields::after(line, at);
+    let k = number_at(line, then, 65536);
+    if c == 131073 {
+        says::unreadable();
+        return;
+    }
+    if k == 65537 {
+        says::unreadable();
+        return;
+    }
+    let mut cells = buffers::cells();
+    let mut nodes = buffers::nodes();
+    answer_match(mode, text, input, &mut cells[..c], &mut nodes[..k]);
+}
+
+fn ask_lake(mode: Mode, text: &[u8], input: &[u8], line: &[u8], at: usize) {
+    let c = number_at(line, at, 131072);
+    let then = fields::after(line, at);
+    let lake = number_at(line, then, 4294967295);
+    let last = fields::after(line, then);
+    let place = number_at(line, last, 4294967295);
+    if c == 131073 {
+        says::unreadable();
+        return;
+    }
+    if lake == 4294967296 {
+        says::unreadable();
+        return;
+    }
+    if place == 4294967296 {
+        says::unreadable();
+        return;
+    }
+    let mut cells = buffers::cells();
+    answer_lake(mode, text, input, &mut cells[..c], lake, place);
+}
+
+// A question with an input, whose field begins at `at`.
+fn ask_input(kind: u8, mode: Mode, text: &[u8], line: &[u8], at: usize) {
+    let to = fields::until(line, at);
+    if !fields::is_bytes(line, at, to, 65600) {
+        says::unreadable();
+        return;
+    }
+    let mut input = buffers::input();
+    let n = fields::decode(line, at, to, &mut input);
+    let then = fields::after(line, at);
+    if kind == 3 {
+        ask_match(mode, text, &input[..n], line, then);
+    } else {
+        ask_lake(mode, text, &input[..n], line, then);
+    }
 }
 
 // A question of the kind on a grammar; what follows the grammar stands in the line from `at` on.
@@ -135,24 +202,23 @@ fn ask(kind: u8, mode: Mode, text: &[u8], line: &[u8], at: usize) {
         0 => answer_read(mode, text),
         1 => ask_sets(mode, text, line, at),
         2 => answer_skip(mode, text),
-        _ => unreadable(),
+        3 => ask_input(kind, mode, text, line, at),
+        4 => ask_input(kind, mode, text, line, at),
+        _ => ask_text(kind, mode, text, line, at),
     }
 }
 
 // The grammar's field begins at `at`.
 fn grammar_at(kind: u8, mode: Mode, line: &[u8], at: usize) {
     let to = fields::until(line, at);
-    if to >= 2359296 {
-        unreadable();
+    if !fields::is_bytes(line, at, to, 1048640) {
+        says::unreadable();
         return;
     }
-    if fields::is_bytes(line, at, to, 1048640) {
-        let mut text = text_buffer();
-        let n = fields::decode(line, at, to, &mut text);
-        ask(kind, mode, &text[..n], line, to + 1);
-        return;
-    }
-    unreadable();
+    let mut text = buffers::text();
+    let n = fields::decode(line, at, to, &mut text);
+    let then = fields::after(line, at);
+    ask(kind, mode, &text[..n], line, then);
 }
 
 // The mode's field begins at `at`.
@@ -167,7 +233,7 @@ fn mode_at(kind: u8, line: &[u8], at: usize)
         grammar_at(kind, Mode::Plain, line, at + 6);
         return;
     }
-    unreadable();
+    says::unreadable();
 }
 
 fn answer(line: &[u8]) {
@@ -183,13 +249,29 @@ fn answer(line: &[u8]) {
         mode_at(2, line, 5);
         return;
     }
-    unreadable();
+    if fields::stands(line, 0, b"match ") {
+        mode_at(3, line, 6);
+        return;
+    }
+    if fields::stands(line, 0, b"lake ") {
+        mode_at(4, line, 5);
+        return;
+    }
+    if fields::stands(line, 0, b"own ") {
+        mode_at(5, line, 4);
+        return;
+    }
+    if fields::stands(line, 0, b"plain ") {
+        mode_at(6, line, 6);
+        return;
+    }
+    says::unreadable();
 }
 
 // The line so far is answered; one byte more than there is room for is too long.
 fn finish(line: &[u8], k: usize) {
     if line.len() < k {
-        unreadable();
+        says::unreadable();
         return;
     }
     answer(&line[..k]);
@@ -238,6 +320,6 @@ fn answer_all(chunk: &mut [u8], line: &mut [u8]) {
 
 fn main() {
     let mut chunk = io::large_buffer();
-    let mut line = line_buffer();
+    let mut line = buffers::line();
     answer_all(&mut chunk, &mut line);
 }

@@ -1,0 +1,67 @@
+-- `replay::ask_text` meets its contract. Assumes nothing.
+use mathlib.Core.Path.{_≡_, sym}
+use native.Mathlib.Omega.{arith}
+use lib.Seq.{length-take-le}
+use borrow.Author.Needs.{needs}
+use Rattle.replay.proofs.ask_text.Statement.{statement}
+use Rattle.replay.proofs.ask_text.Tie as tie
+use Rattle.replay.proofs.ask_text.Reads as reads
+use Rattle.replay.proofs.ask_text.Lts as lts
+use Rattle.replay.proofs.answer_own.Reads as answer-own-reads
+use Rattle.replay.proofs.answer_plain.Reads as answer-plain-reads
+use Rattle.replay.proofs.buffers.room.Reads as room-reads
+use Rattle.replay.proofs.number_at.Reads as number-at-reads
+use Rattle.replay.proofs.says.unreadable.Reads as unreadable-reads
+
+number-at-requires : tie.Need-number-at-requires
+number-at-requires c κs = search needs
+
+unreadable-requires : tie.Need-unreadable-requires
+unreadable-requires c κs = search needs
+
+returns : tie.Need-returns
+returns c = search needs
+
+room-requires : tie.Need-room-requires
+room-requires c κs = search needs
+
+array-borrow-prefix-out : tie.Need-array-borrow-prefix-out
+array-borrow-prefix-out c = search needs
+
+slice-aggregate-answer-own : tie.Need-slice-aggregate-answer-own
+slice-aggregate-answer-own c = sym (length-take-le (c .before .before .before .before .number-at .result) (c .before .before .room .result) (omega (arith, c .before .before .before .before .number-at .ensures, c .before .before .room .ensures, c .before .before .before .if1 .left)))
+
+answer-own-requires : tie.Need-answer-own-requires
+answer-own-requires c κs = search needs
+
+array-borrow-prefix-out-2 : tie.Need-array-borrow-prefix-out-2
+array-borrow-prefix-out-2 c = search needs
+
+slice-aggregate-answer-plain : tie.Need-slice-aggregate-answer-plain
+slice-aggregate-answer-plain c = sym (length-take-le (c .before .before .before .before .number-at .result) (c .before .before .room .result) (omega (arith, c .before .before .before .before .number-at .ensures, c .before .before .room .ensures, c .before .before .before .if1 .left)))
+
+answer-plain-requires : tie.Need-answer-plain-requires
+answer-plain-requires c κs = search needs
+
+returns-2 : tie.Need-returns-2
+returns-2 c = search needs
+
+returns-3 : tie.Need-returns-3
+returns-3 c = search needs
+
+pub ask-text-spec : {M : Type 1} → statement M
+ask-text-spec =
+    tie.close
+    (tie.spec
+    number-at-requires
+    unreadable-requires
+    returns
+    room-requires
+    array-borrow-prefix-out
+    slice-aggregate-answer-own
+    answer-own-requires
+    array-borrow-prefix-out-2
+    slice-aggregate-answer-plain
+    answer-plain-requires
+    returns-2
+    returns-3)

@@ -1,0 +1,127 @@
+// Answers, as a line of words and numbers.
+use gurkenmond::Outcome;
+use gurkenmond::Verdict;
+use gurkenmond::Way;
+use gurkenmond::Written;
+
+pub fn number(n: u64) {
+    io::write_all(1, b" ");
+    io::print_decimal(1, n);
+}
+
+pub fn line_end() {
+    io::write_all(1, b"\n");
+}
+
+pub fn unreadable() {
+    io::write_all(1, b"unreadable\n");
+}
+
+pub fn refused(number_is: usize, place: usize) {
+    io::write_all(1, b"refused");
+    number(number_is as u64);
+    number(place as u64);
+}
+
+// The numbers of the bits of a word.
+pub fn bits(w: u64) {
+    let mut i: u64 = 0;
+    while i < 64 {
+        if (w >> i) & 1 == 1 {
+            number(i);
+        }
+        i += 1;
+    }
+}
+
+fn word(w: u32) {
+    number(w as u64);
+}
+
+fn hex(b: u8) {
+    io::print_hex(1, b as u64, 2);
+}
+
+// Every lent word, in order.
+pub fn words(label: &[u8], ws: &[u32]) {
+    io::write_all(1, label);
+    let mut i: usize = 0;
+    while i < ws.len() {
+        word(ws[i]);
+        i += 1;
+    }
+}
+
+// The first n bytes in hexadecimal.
+pub fn bytes(out: &[u8], n: usize) {
+    io::write_all(1, b"text ");
+    let mut i: usize = 0;
+    while i < n {
+        if i < out.len() {
+            hex(out[i]);
+        }
+        i += 1;
+    }
+}
+
+pub fn sets(s: sets::Sets) {
+    number(s.begin[0]);
+    number(s.begin[1]);
+    number(s.succeed[0]);
+    number(s.succeed[1]);
+    number(s.alt[0]);
+    number(s.alt[1]);
+    if s.eps {
+        number(1);
+    } else {
+        number(0);
+    }
+}
+
+pub fn outcome(o: Outcome) {
+    match o {
+        Outcome::Matched(k) => {
+            io::write_all(1, b"match");
+            number(k as u64);
+        }
+        Outcome::NoMatch => {
+            io::write_all(1, b"none");
+        }
+        Outcome::Refused {
+            number: n,
+            place: p,
+        } => refused(n, p),
+    }
+}
+
+// "0 not, 1 by its rule, 2 by water, 3 by one skipped byte" (01).
+pub fn way(w: Way) {
+    match w {
+        Way::Not => {
+            io::write_all(1, b"value 0");
+        }
+        Way::ByRule => {
+            io::write_all(1, b"value 1");
+        }
+        Way::ByWater => {
+            io::write_all(1, b"value 2");
+        }
+        Way::BySkip => {
+            io::write_all(1, b"value 3");
+        }
+        Way::Refused {
+            number: n,
+            place: p,
+        } => refused(n, p),
+    }
+}
+
+pub fn written(w: Written, out: &[u8]) {
+    match w {
+        Written::Bytes(n) => bytes(out, n),
+        Written::Refused {
+            number: n,
+            place: p,
+        } => refused(n, p),
+    }
+}
