@@ -4,7 +4,10 @@
 stack.py [KIB]     the answers below, with KIB of stack (default: STACK_KIB)
 stack.py --least   the least stack, in steps of 64 KiB, with which each case still answers
 """
+import re
 import sys
+
+from matcher import Grammar, plain_text
 from programs import Programs
 
 STACK_KIB = 2048
@@ -50,6 +53,11 @@ def cases():
     flooded = "a <- 'x' <l> a?" + "\nwater <- " + " / ".join(["'q'"] * 169)
     nodes = [[f"{2 * k} 510 {k} a", f"{2 * k + 1} {2 * k + 2} {k + 1} <l>"] for k in range(255)]
     yield "255 levels of a lake with 169 alternatives of water", flooded, "xr" * 255, ["match 510", *sum(nodes, [])]
+    # in plain each lake has a copy of water: 1,024 expressions, and 1,025
+    full = "a <- 'x' <l>* <m>* ';'\nwater <- " + " / ".join(["'q'"] * 168)
+    yield "1,024 expressions in plain", full, "xqr;", ["match 4", "0 4 0 a", "1 2 1 <l>", "2 3 1 <l>"]
+    over = "a <- 'x' <l>* <m>* <n>* ';' / 'z'\nwater <- " + " / ".join(["'q'"] * 125)
+    yield "1,025 expressions in plain", over, "xqr;", ["refused 7 1025"]
     yield "32 parentheses", "a <- " + "(" * 32 + "'x'" + ")" * 32, "x", ["match 1", "0 1 0 a"]
     yield "33 parentheses", "a <- " + "(" * 33 + "'x'" + ")" * 33, "x", ["refused 3 37"]
     yield "16,384 bytes of parentheses", "(" * 16384, "x", ["refused 2 0"]
@@ -72,8 +80,16 @@ def wrong(kib):
             answer = programs.spans(grammar.encode(), text.encode())
             if answer != "".join(line + "\n" for line in lines).encode():
                 yield name, answer[:60], lines[0]
-            if not answer.startswith(b"refused") and programs.plain(grammar.encode()).startswith(b"ended"):
-                yield name, b"plain_text ended", lines[0]
+            written = programs.plain(grammar.encode())
+            if written != plain_of(grammar, lines[0]):
+                yield name + " in plain", written[:60], plain_of(grammar, lines[0])[:60]
+
+
+def plain_of(grammar, line):
+    """What `plain_text` writes where `spans` begins with that line: the refusal if it is one of 1 to 8."""
+    if re.match("refused [1-8] ", line):
+        return line.encode() + b"\n"
+    return plain_text(Grammar(grammar.encode()))
 
 
 def least():
