@@ -5,6 +5,8 @@ ghost use Prim.Native.Nat.{ℕ, _+_, _-_, _*_, _^_, _<_, _≤_};
 ghost use lib.ListN.{length, getD, set, take};
 ghost use Rattle.analysis.specs.Lent.{Begins, Parted, Fronted, SetsOf, lakeIn, hitIn, blockedIn, skipIn, skipsIn, CannotSkip};
 ghost use mathlib.Core.Bool.{cond, _||_};
+ghost use Rattle.sets.specs.Steps.{rootIn};
+ghost use Rattle.words.specs.Set.{empty as none};
 
 // ε marks by symbol, then BEGINNING of every expression (01, Lakes made plain).
 fn begins(t: &grammar::Table, marks: &mut [bool], sets: &mut [[u64; 2]], eps: &mut [bool])
@@ -119,7 +121,7 @@ pub fn sets_at(
 }
 
 // Whether symbol n is a lake.
-fn is_lake(t: &grammar::Table, n: usize) -> bool
+pub fn is_lake(t: &grammar::Table, n: usize) -> bool
     requires { ⌜ n < 64 ⌝ }
     ensures { λ r. ⌜ r ≡ lakeIn (now (t .entry)) n ⌝ }
 {
@@ -155,6 +157,15 @@ fn blocked(t: &grammar::Table, marks: &[bool], s: [u64; 2], r: usize) -> bool
         n += 1;
     }
     found
+}
+
+// ALT of the body of symbol n.
+pub fn alt_of(t: &grammar::Table, alts: &[[u64; 2]; 1024], n: usize) -> [u64; 2]
+    requires { ⌜ n < 64 ⌝ }
+    ensures { λ r. ⌜ r ≡ getD (now (alts .entry)) (rootIn (now (t .entry)) n) none ⌝ }
+{
+    let i = sets::root(t, n);
+    sets::set_at(alts, i)
 }
 
 // Whether lake n cannot skip.

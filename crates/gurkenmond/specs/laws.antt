@@ -3,3 +3,4 @@ pub mod Verdicts
 pub mod Sets
 pub mod Writes
 pub mod Matches
+pub mod Asks

@@ -2,10 +2,11 @@
 // are counts beside an enum. What each case says in document 01's numbers is in specs/Answers.antt, what each call answers in specs/Calls.antt.
 ghost use mathlib.Core.Path.{_≡_};
 ghost use Rattle.preparing.specs.Reads.{readOf};
-ghost use Rattle.gurkenmond.specs.Calls.{noSets, setsOf, cannotSkipOf, matchOf, writeOwnOf, writePlainOf};
+ghost use Rattle.gurkenmond.specs.Calls.{noSets, setsOf, cannotSkipOf, matchOf, lakeOf, wayOf, writeOwnOf, writePlainOf};
 ghost use Rattle.matching.specs.Nodes.{soundAt, nodeText};
 ghost use Rattle.preparing.specs.declared.Verdict.the-variants.{Refused as VerdictRefused};
 ghost use Rattle.gurkenmond.specs.Runs.{Loopless, Says, Ran, listedMatch, notMatched};
+ghost use Rattle.gurkenmond.specs.Asks.{notAsked, Standing, Asked};
 ghost use Rattle.gurkenmond.specs.Puts.{notWritten, PutText};
 use grammar::Table;
 pub use preparing::Counted;
@@ -338,4 +339,116 @@ pub fn node_text<'a>(input: &'a [u8], nodes: &[u32], k: usize) -> &'a [u8]
     ensures { λ r. ⌜ now r ≡ nodeText (now (input .entry)) (now (nodes .entry)) k ⌝ }
 {
     listing::nodes::text(input, nodes, k)
+}
+
+fn refused_way(number: usize, place: usize) -> Way
+    ensures { λ r. ⌜ r ≡ notAsked (VerdictRefused number place) ⌝ }
+{
+    Way::Refused {
+        number: number,
+        place: place,
+    }
+}
+
+// A refusal of `read`, handed on.
+fn not_asked(v: Verdict) -> Way
+    ensures { λ r. ⌜ r ≡ notAsked v ⌝ }
+{
+    match v {
+        Verdict::Accepted => Way::Not,
+        Verdict::Refused {
+            number: n,
+            place: p,
+        } => Way::Refused {
+            number: n,
+            place: p,
+        },
+    }
+}
+
+fn way_of(k: usize) -> Way
+    ensures { λ r. ⌜ r ≡ wayOf k ⌝ }
+{
+    match k {
+        0 => Way::Not,
+        1 => Way::ByRule,
+        2 => Way::ByWater,
+        _ => Way::BySkip,
+    }
+}
+
+// The lake question on the tables of a grammar: 9, 10, then 14; then the cells are filled.
+fn ask(
+    t: &Table,
+    mid: &Table,
+    alts: &[[u64; 2]; 1024],
+    plain: &Table,
+    input: &[u8],
+    cells: &mut [u32],
+    lake: usize,
+    place: usize,
+) -> Way
+    requires { ⌜ Standing (now t) (now mid) (now alts) (now plain) ⌝ }
+    ensures { λ r. ⌜ Asked (now (t .entry)) (now (mid .entry)) (now (alts .entry)) (now (plain .entry)) (now (input .entry)) (now (cells .entry)) lake place (now (cells .exit)) r ⌝ }
+{
+    if 65535 < input.len() {
+        return refused_way(9, 65535);
+    }
+    let n = preparing::symbols(plain);
+    let need = n * (input.len() + 1);
+    if cells.len() < need {
+        return refused_way(10, need);
+    }
+    if n <= lake {
+        return refused_way(14, 0);
+    }
+    if !analysis::is_lake(mid, lake) {
+        return refused_way(14, 0);
+    }
+    if input.len() < place {
+        return refused_way(14, 0);
+    }
+    running::fill(plain, input, cells);
+    let a = analysis::alt_of(mid, alts, lake);
+    let w = asking::way(t, input, cells, n, a, lake, place);
+    way_of(w)
+}
+
+// How a lake, by its symbol number, matches at a position of the input (01, "Other calls"); the cells are those of the match.
+pub fn lake_at(
+    mode: Mode,
+    text: &[u8],
+    input: &[u8],
+    cells: &mut [u32],
+    lake: usize,
+    place: usize,
+) -> Way
+    ensures { λ r. ⌜ (r ≡ lakeOf mode (now (text .entry)) (now (input .entry)) (now (cells .entry)) lake place .way) × (now (cells .exit) ≡ lakeOf mode (now (text .entry)) (now (input .entry)) (now (cells .entry)) lake place .cells) ⌝ }
+{
+    let mut t: Table = [0; 22280];
+    let mut mid: Table = [0; 22280];
+    let mut plain: Table = [0; 22280];
+    let mut marks = [false; 64];
+    let mut sets: [[u64; 2]; 1024] = [[0, 0]; 1024];
+    let mut eps = [false; 1024];
+    let mut succ: [[u64; 2]; 1024] = [[0, 0]; 1024];
+    let mut alts: [[u64; 2]; 1024] = [[0, 0]; 1024];
+    let p = preparing::prepare(
+        mode,
+        text,
+        &mut t,
+        &mut mid,
+        &mut marks,
+        &mut sets,
+        &mut eps,
+        &mut succ,
+        &mut alts,
+        &mut plain,
+    );
+    let c = p.counted;
+    let v = c.verdict;
+    if preparing::is_refused(v) {
+        return not_asked(v);
+    }
+    ask(&t, &mid, &alts, &plain, input, cells, lake, place)
 }

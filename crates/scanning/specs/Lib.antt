@@ -1,5 +1,4 @@
 pub mod Numbers
 pub mod Found
-pub mod Names
 pub mod Scanned
 pub mod laws

@@ -1,8 +1,4 @@
 -- Laws of the definitions beside this file.
 pub mod Automaton
 pub mod Turns
-pub mod Walks
-pub mod Names
-pub mod Hits
-pub mod Offences
 pub mod Chain

@@ -1,10 +1,9 @@
-// Refusals 1 to 5 of a grammar text, found without storing anything (01, Refusal numbers).
+// Refusals 1 to 5 of a grammar text (01, Refusal numbers).
 ghost use mathlib.Core.Path.{_≡_};
 ghost use Rattle.tokens.specs.Bounds.{textBound};
 ghost use Rattle.scanning.specs.Found.{found};
 ghost use Rattle.scanning.specs.Scanned.{scanned};
 
-pub mod names;
 pub mod syntax;
 
 use syntax::Found;
@@ -31,11 +30,11 @@ pub fn refused(mode: Mode, text: &[u8]) -> Found
     if f.number != 0 {
         return f;
     }
-    let p = names::second_left(mode, text);
+    let p = lefts::second_left(mode, text);
     if p != 0 {
         return syntax::refuse(4, p - 1);
     }
-    let q = names::unruled_use(mode, text);
+    let q = lefts::unruled_use(mode, text);
     if q != 0 {
         return syntax::refuse(5, q - 1);
     }

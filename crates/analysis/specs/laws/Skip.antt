@@ -67,7 +67,7 @@ module _ (t : List ℕ) (g : Grammar) (h : Holds t (middle g)) (proper : Proper 
   abbrev R : ℕ
   R = length (g .names)
 
-  lake-is : (n : ℕ) → n < R → lakeIn t n ≡ isLake (getD (g .names) n (name []))
+  pub lake-is : (n : ℕ) → n < R → lakeIn t n ≡ isLake (getD (g .names) n (name []))
   unfolding nameIn
   lake-is n l =
       sym (ap isLake (ap (λ (ns : List Symbol). getD ns n (name [])) (sym (h .names)) ∙ upTo-at (nameIn t) (symbolCount t) n (name []) (omega (arith, symbols-is t g h proper)))
@@ -82,7 +82,7 @@ module _ (t : List ℕ) (g : Grammar) (h : Holds t (middle g)) (proper : Proper 
   blocked-is s (suc n) l =
       ap₂ _||_ (ap₂ (λ (x y : Bool). memberOf s n && (not x && y)) (lake-is n (omega arith)) (mark-is n (omega arith))) (blocked-is s n (omega arith))
 
-  alt-is : (n : ℕ) → n < R → getD alts (rootIn t n) empty ≡ altOf (analysis g) n
+  pub alt-is : (n : ℕ) → n < R → getD alts (rootIn t n) empty ≡ altOf (analysis g) n
   unfolding analysis analysed
   alt-is n l =
       sym (getD-take (expressionCount t) alts (rootIn t n) empty (tame t g h proper .roots n l))

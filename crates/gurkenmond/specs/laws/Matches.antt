@@ -52,22 +52,23 @@ module _ (t s cs ws : List ℕ) (n : ℕ) (q : n ≡ symbolCount t) (g : Grammar
   need-is : n * (length s + 1) ≡ cellsNeeded p s
   need-is = ap (λ (k : ℕ). k * (length s + 1)) (q ∙ bodies-are t g (p .bodies) (pl .holds))
 
-  pub too-long : 65535 < length s → Says (notMatched (VerdictRefused 9 65535)) cs ws (matchAfter (refusesInput p s cs) p s cs ws)
+  pub input-long : 65535 < length s → refusesInput p s cs ≡ some (refusal 9 65535)
   unfolding inputBound
-  too-long h =
-      subst (λ (b : Bool). Says (notMatched (VerdictRefused 9 65535)) cs ws (matchAfter (refuseIf b 9 65535 ▸ refuseIf (ltb (length cs) (cellsNeeded p s)) 10 (cellsNeeded p s)) p s cs ws))
-      (sym (lt-ltb 65535 (length s) h)) (refl, refl, refl)
+  input-long h = ap (λ (b : Bool). refuseIf b 9 65535 ▸ refuseIf (ltb (length cs) (cellsNeeded p s)) 10 (cellsNeeded p s)) (lt-ltb 65535 (length s) h)
+
+  pub too-long : 65535 < length s → Says (notMatched (VerdictRefused 9 65535)) cs ws (matchAfter (refusesInput p s cs) p s cs ws)
+  too-long h = subst (λ (o : Option Refusal). Says (notMatched (VerdictRefused 9 65535)) cs ws (matchAfter o p s cs ws)) (sym (input-long h)) (refl, refl, refl)
 
   module _ (short : length s ≤ 65535) where
     by-cells : (b : Bool) → ltb (length cs) (cellsNeeded p s) ≡ b → refusesInput p s cs ≡ refuseIf b 10 (cellsNeeded p s)
     unfolding inputBound
     by-cells b h = ap₂ (λ (x y : Bool). refuseIf x 9 65535 ▸ refuseIf y 10 (cellsNeeded p s)) (le-ltb 65535 (length s) short) h
 
+    pub input-few : (need : ℕ) → need ≡ n * (length s + 1) → length cs < need → refusesInput p s cs ≡ some (refusal 10 need)
+    input-few need e h = by-cells true (lt-ltb (length cs) (cellsNeeded p s) (omega (arith, h, e, need-is))) ∙ ap (λ (k : ℕ). some (refusal 10 k)) (sym (e ∙ need-is))
+
     pub too-few : (need : ℕ) → need ≡ n * (length s + 1) → length cs < need → Says (notMatched (VerdictRefused 10 need)) cs ws (matchAfter (refusesInput p s cs) p s cs ws)
-    too-few need e h =
-        subst (λ (o : Option Refusal). Says (notMatched (VerdictRefused 10 need)) cs ws (matchAfter o p s cs ws))
-        (sym (by-cells true (lt-ltb (length cs) (cellsNeeded p s) (omega (arith, h, e, need-is)))))
-        (ap (λ (k : ℕ). notMatched (VerdictRefused 10 k)) (e ∙ need-is), refl, refl)
+    too-few need e h = subst (λ (o : Option Refusal). Says (notMatched (VerdictRefused 10 need)) cs ws (matchAfter o p s cs ws)) (sym (input-few need e h)) (refl, refl, refl)
 
     pub enough : n * (length s + 1) ≤ length cs → refusesInput p s cs ≡ none
     enough h = by-cells false (le-ltb (length cs) (cellsNeeded p s) (omega (arith, h, need-is)))
@@ -156,7 +157,7 @@ module _ (t s cs ws : List ℕ) where
 
 -- ── the call ──
 module _ (m : Mode) (s : List ℕ) (out : List ℕ) (clear : refuses m s ≡ none) (h : Holds out (withBodies (numbered (rulesOf m s)) (plainOf (numbered (rulesOf m s))))) where
-  plain-is : Plain out (numbered (rulesOf m s)) (plainOf (numbered (rulesOf m s)))
+  pub plain-is : Plain out (numbered (rulesOf m s)) (plainOf (numbered (rulesOf m s)))
   plain-is = record { holds = h; sound = clear-sound m s clear }
 
   pub loopless : Loopless out

@@ -12,8 +12,8 @@ use Rattle.scanning.proofs.refused.Statement.{statement}
 use Rattle.scanning.proofs.refused.Tie as tie
 use Rattle.scanning.proofs.refused.Reads as reads
 use Rattle.scanning.proofs.refused.Lts as lts
-use Rattle.scanning.proofs.names.second_left.Reads as second-left-reads
-use Rattle.scanning.proofs.names.unruled_use.Reads as unruled-use-reads
+use Rattle.lefts.proofs.second_left.Reads as second-left-reads
+use Rattle.lefts.proofs.unruled_use.Reads as unruled-use-reads
 use Rattle.scanning.proofs.syntax.offending.Reads as offending-reads
 use Rattle.scanning.proofs.syntax.refuse.Reads as refuse-reads
 use Rattle.scanning.proofs.text_bound.Reads as text-bound-reads

@@ -18,7 +18,7 @@ use Rattle.reading.specs.Machine.{Judged, fine, syntax, wide, judge, start, pla
 use Rattle.reading.specs.Reading.{tooLong, offence, second, unruled, leftsIn, tooMany, rulesIn, refusesText, rulesOf}
 use Rattle.scanning.specs.declared.syntax.Found.{Found}
 use Rattle.scanning.specs.Found.{found}
-use Rattle.scanning.specs.Names.{placed}
+use Rattle.naming.specs.Names.{placed}
 use Rattle.scanning.specs.Scanned.{scanned}
 
 pub assoc : (a b c : Option Refusal) → ((a ▸ b) ▸ c) ≡ (a ▸ (b ▸ c))

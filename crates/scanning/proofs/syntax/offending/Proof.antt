@@ -13,7 +13,8 @@ use Rattle.grammar.specs.Refusal.{Refusal, refusal}
 use Rattle.scanning.specs.Numbers.{stateOf, nextOf, deep, judgedAt}
 use Rattle.scanning.specs.Found.{found}
 use Rattle.scanning.specs.laws.Automaton.{walk-is, next-le, moved-le, kind-small}
-use Rattle.scanning.specs.laws.Turns.{here, end-well, end-badly, class-below, dead, over-wide, walks-on, stays-flat}
+use Rattle.naming.specs.laws.Here.{here}
+use Rattle.scanning.specs.laws.Turns.{end-well, end-badly, class-below, dead, over-wide, walks-on, stays-flat}
 use borrow.Author.Needs.{needs}
 use Rattle.scanning.proofs.syntax.offending.Statement.{statement}
 use Rattle.scanning.proofs.syntax.offending.Tie as tie

@@ -1,0 +1,45 @@
+-- `gurkenmond::lake_at` meets its contract. Assumes nothing.
+use mathlib.Core.Path.{_≡_, sym, _∙_}
+use Rattle.gurkenmond.specs.laws.Asks.{lake-refused}
+use borrow.Author.Needs.{needs}
+use Rattle.gurkenmond.proofs.lake_at.Statement.{statement}
+use Rattle.gurkenmond.proofs.lake_at.Tie as tie
+use Rattle.gurkenmond.proofs.lake_at.Reads as reads
+use Rattle.gurkenmond.proofs.lake_at.Lts as lts
+use Rattle.gurkenmond.proofs.ask.Reads as ask-reads
+use Rattle.gurkenmond.proofs.not_asked.Reads as not-asked-reads
+use Rattle.preparing.proofs.is_refused.Reads as is-refused-reads
+use Rattle.preparing.proofs.prepare.Reads as prepare-reads
+
+prepare-requires : tie.Need-prepare-requires
+prepare-requires c κs = search needs
+
+is-refused-requires : tie.Need-is-refused-requires
+is-refused-requires c κs = search needs
+
+not-asked-requires : tie.Need-not-asked-requires
+not-asked-requires c κs = search needs
+
+returns : tie.Need-returns
+returns c = (c .not-asked .ensures ∙ lake-refused (c .before .before .before .before .before .before .before .before .before .before .before .before .before .before .before .before .args .mode) (c .before .before .before .before .before .before .before .before .before .before .before .before .before .before .before .before .args .text .now) (c .before .before .before .before .before .before .before .before .before .before .before .before .before .before .before .before .args .input .now) (c .before .before .before .before .before .before .before .before .before .before .before .before .before .before .before .before .args .cells .now) (c .before .before .before .before .before .before .before .before .before .before .before .before .before .before .before .before .args .lake) (c .before .before .before .before .before .before .before .before .before .before .before .before .before .before .before .before .args .place) (c .before .before .before .before .prepare .result .counted) (c .before .before .before .before .prepare .ensures .answer) (sym (c .before .before .is-refused .ensures) ∙ c .before .if1 .taken) .0, lake-refused (c .before .before .before .before .before .before .before .before .before .before .before .before .before .before .before .before .args .mode) (c .before .before .before .before .before .before .before .before .before .before .before .before .before .before .before .before .args .text .now) (c .before .before .before .before .before .before .before .before .before .before .before .before .before .before .before .before .args .input .now) (c .before .before .before .before .before .before .before .before .before .before .before .before .before .before .before .before .args .cells .now) (c .before .before .before .before .before .before .before .before .before .before .before .before .before .before .before .before .args .lake) (c .before .before .before .before .before .before .before .before .before .before .before .before .before .before .before .before .args .place) (c .before .before .before .before .prepare .result .counted) (c .before .before .before .before .prepare .ensures .answer) (sym (c .before .before .is-refused .ensures) ∙ c .before .if1 .taken) .1)
+
+ask-requires : tie.Need-ask-requires
+ask-requires c κs = record { mode = c .before .before .before .before .before .before .before .before .before .before .before .before .before .before .before .before .before .before .before .before .args .mode; text = c .before .before .before .before .before .before .before .before .before .before .before .before .before .before .before .before .before .before .before .before .args .text .now; marks = _; sets = _; eps = _; succ = _; rounds = c .before .before .before .before .before .before .before .before .prepare .result .rounds; stands = c .before .before .before .before .before .before .before .before .prepare .ensures .stands (sym (c .before .before .before .before .before .before .is-refused .ensures) ∙ c .before .before .before .before .before .if1 .left) }
+
+same-length : tie.Need-same-length
+same-length c = search needs
+
+returns-2 : tie.Need-returns-2
+returns-2 c = c .before .before .ask .ensures .are (c .before .before .before .before .before .before .before .before .before .before .before .before .before .before .before .before .before .before .before .before .before .before .before .args .mode) (c .before .before .before .before .before .before .before .before .before .before .before .before .before .before .before .before .before .before .before .before .before .before .before .args .text .now) _ _ _ _ (c .before .before .before .before .before .before .before .before .before .before .before .prepare .result .rounds) (c .before .before .before .before .before .before .before .before .before .before .before .prepare .ensures .stands (sym (c .before .before .before .before .before .before .before .before .before .is-refused .ensures) ∙ c .before .before .before .before .before .before .before .before .if1 .left))
+
+pub lake-at-spec : {M : Type 1} → statement M
+lake-at-spec =
+    tie.close
+    (tie.spec
+    prepare-requires
+    is-refused-requires
+    not-asked-requires
+    returns
+    ask-requires
+    same-length
+    returns-2)

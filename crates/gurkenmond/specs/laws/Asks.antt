@@ -1,0 +1,208 @@
+-- The lake question, from what its parts answer. Assumes nothing.
+use Prim.Native.Nat.{ℕ, zero, suc, _+_, _*_, _≤_, _<_}
+use mathlib.Core.Path.{_≡_, refl, sym, ap, ap₂, _∙_, subst}
+use mathlib.Core.Bool.{Bool, true, false, not, _&&_, true≢false}
+use mathlib.Core.List.{List, []}
+use mathlib.Core.Option.{Option, none, some}
+use native.Mathlib.Omega.{arith}
+use lib.ListN.{length, getD}
+use lib.Dec.{ltb, leb}
+use borrow.Author.Tests.{lt-ltb, le-ltb, lt-leb, le-leb}
+use Rattle.tokens.specs.Token.{name}
+use Rattle.tokens.specs.declared.Mode.{Mode}
+use Rattle.grammar.specs.Numbers.{Grammar, numbered, isLake}
+use Rattle.grammar.specs.Refusal.{Refusal, refusal, refuseIf, _▸_}
+use Rattle.grammar.specs.Table.{symbolCount, terminalCount, nameIn, grammarIn}
+use Rattle.grammar.specs.Holds.{Holds}
+use Rattle.grammar.specs.laws.Lists.{up-length}
+use Rattle.reading.specs.Reading.{rulesOf}
+use Rattle.words.specs.Set.{empty}
+use Rattle.sets.specs.Analysis.{analysis, altOf}
+use Rattle.sets.specs.Steps.{rootIn}
+use Rattle.analysis.specs.Lent.{lakeIn}
+use Rattle.analysis.specs.laws.Skip.{lake-is, alt-is}
+use Rattle.translation.specs.Stepped.{plainOf}
+use Rattle.loops.specs.laws.Trees.{bodies-are}
+use Rattle.running.specs.Runs.{Plain, Fills}
+use Rattle.asking.specs.Asking.{wayIn}
+use Rattle.asking.specs.laws.Tables.{way-is}
+use Rattle.preparing.specs.declared.Counted.{Counted}
+use Rattle.preparing.specs.declared.Verdict.{Verdict}
+use Rattle.preparing.specs.declared.Verdict.the-variants.{Accepted, Refused as VerdictRefused}
+use Rattle.preparing.specs.Prepare.{Prepared, prepared, preparedBy, refuses}
+use Rattle.preparing.specs.Reads.{verdictOf, isRefused, readOf}
+use Rattle.preparing.specs.Loads.{Stands}
+use Rattle.preparing.specs.laws.Reads.{clear-good, clear-loop}
+use Rattle.gurkenmond.specs.declared.Way.{Way}
+use Rattle.gurkenmond.specs.declared.Way.the-variants.{Refused as WayRefused}
+use Rattle.gurkenmond.specs.Calls.{LakeAnswer, refusesInput, filled, isLakeAt, wayOf, lakeAfter, lakeOf}
+use Rattle.gurkenmond.specs.Asks.{notAsked, Standing, SaysWay, Asked}
+use Rattle.gurkenmond.specs.Runs.{Loopless}
+use Rattle.gurkenmond.specs.laws.Verdicts.{handed}
+use Rattle.gurkenmond.specs.laws.Matches.{plain-is, loopless, input-long, input-few, enough}
+
+says-by : (r : Way) (cs : List ℕ) (w : LakeAnswer) → record { way = r; cells = cs } ≡ w → SaysWay r cs w
+says-by r cs w e = (ap (λ (x : LakeAnswer). x .way) e, ap (λ (x : LakeAnswer). x .cells) e)
+
+pub lake-refused : (m : Mode) (s i cs : List ℕ) (l q : ℕ) (c : Counted) → c ≡ readOf m s → isRefused (c .verdict) ≡ true → SaysWay (notAsked (c .verdict)) cs (lakeOf m s i cs l q)
+unfolding lakeOf verdictOf
+lake-refused m s i cs l q c e h =
+    let w = handed m s c e h in
+    says-by (notAsked (c .verdict)) cs (lakeOf m s i cs l q)
+    (ap (λ (v : Verdict). record { way = notAsked v; cells = cs }) (w .2)
+    ∙ sym (ap (λ (o : Option Refusal). lakeAfter (o ▸ (refusesInput (prepared m s) i cs ▸ refuseIf (not (isLakeAt (prepared m s) l && leb q (length i))) 14 0)) (prepared m s) i cs l q) (w .1)))
+
+-- as many symbols as the grammar has
+symbols-of : (t : List ℕ) (g : Grammar) → Holds t g → symbolCount t ≡ length (g .names)
+symbols-of t g h = sym (up-length (nameIn t) (symbolCount t)) ∙ ap length (h .names)
+
+-- ── of a text that is accepted ──
+module _ (m : Mode) (s t mid : List ℕ) (ms : List Bool) (sets : List (List ℕ)) (eps : List Bool) (succ alts : List (List ℕ)) (out : List ℕ) (rounds : ℕ) (st : Stands m s t mid ms sets eps succ alts out rounds) where
+  abbrev g : Grammar
+  g = numbered (rulesOf m s)
+
+  abbrev p : Prepared
+  p = prepared m s
+
+  pl : Plain out g (plainOf g)
+  pl = plain-is m s out (st .clear) (st .worked .plain)
+
+  pub free : Loopless out
+  free = loopless m s out (st .clear) (st .worked .plain)
+
+  pub same-symbols : symbolCount out ≡ symbolCount t
+  same-symbols = symbols-of out _ (st .worked .plain) ∙ sym (symbols-of t g (st .table))
+
+  pub few-terminals : terminalCount t ≤ 64
+  few-terminals = st .table .few-terminals
+
+  module _ (i cs : List ℕ) (l q : ℕ) where
+    by-checks : (a b : Option Refusal) → refusesInput p i cs ≡ a → refuseIf (not (isLakeAt p l && leb q (length i))) 14 0 ≡ b → lakeAfter (a ▸ b) p i cs l q ≡ lakeOf m s i cs l q
+    unfolding lakeOf
+    by-checks a b x y =
+        sym (ap (λ (o : Option Refusal). lakeAfter (o ▸ (refusesInput p i cs ▸ refuseIf (not (isLakeAt p l && leb q (length i))) 14 0)) p i cs l q) (st .clear)
+        ∙ ap₂ (λ (o r : Option Refusal). lakeAfter (o ▸ r) p i cs l q) x y)
+
+    pub lake-long : 65535 < length i → SaysWay (notAsked (VerdictRefused 9 65535)) cs (lakeOf m s i cs l q)
+    unfolding prepared preparedBy
+    lake-long h = says-by (notAsked (VerdictRefused 9 65535)) cs (lakeOf m s i cs l q) (by-checks (some (refusal 9 65535)) _ (input-long out i cs cs (symbolCount out) refl g p pl h) refl)
+
+    module _ (n need : ℕ) (e : n ≡ symbolCount out) (short : length i ≤ 65535) (f : need ≡ n * (length i + 1)) where
+      pub lake-few : length cs < need → SaysWay (notAsked (VerdictRefused 10 need)) cs (lakeOf m s i cs l q)
+      unfolding prepared preparedBy
+      lake-few h = says-by (notAsked (VerdictRefused 10 need)) cs (lakeOf m s i cs l q) (by-checks (some (refusal 10 need)) _ (input-few out i cs cs n e g p pl short need f h) refl)
+
+      module _ (room : need ≤ length cs) where
+        input-none : refusesInput p i cs ≡ none
+        unfolding prepared preparedBy
+        input-none = enough out i cs cs n e g p pl short (omega (arith, room, f))
+
+        no-lake : (isLakeAt p l && leb q (length i)) ≡ false → SaysWay (notAsked (VerdictRefused 14 0)) cs (lakeOf m s i cs l q)
+        no-lake h = says-by (notAsked (VerdictRefused 14 0)) cs (lakeOf m s i cs l q) (by-checks none (some (refusal 14 0)) input-none (ap (λ (b : Bool). refuseIf (not b) 14 0) h))
+
+        names-long : n ≡ length (p .grammar .names)
+        unfolding prepared preparedBy
+        names-long = e ∙ symbols-of out _ (st .worked .plain)
+
+        abbrev lakeful : Bool
+        lakeful = isLake (getD (p .grammar .names) l (name []))
+
+        pub lake-past : n ≤ l → SaysWay (notAsked (VerdictRefused 14 0)) cs (lakeOf m s i cs l q)
+        lake-past h = no-lake (ap (λ (b : Bool). (b && lakeful) && leb q (length i)) (le-ltb l (length (p .grammar .names)) (omega (arith, h, names-long))))
+
+        module _ (there : l < n) where
+          kind-is : lakeIn mid l ≡ lakeful
+          unfolding prepared preparedBy
+          kind-is = lake-is mid g (st .worked .between) (clear-good m s (st .clear) .proper) ms _ _ _ alts rounds (st .worked .analysed) l (omega (arith, there, names-long))
+
+          by-kind : (b c : Bool) → lakeful ≡ b → leb q (length i) ≡ c → (isLakeAt p l && leb q (length i)) ≡ (b && c)
+          by-kind b c x y =
+              ap (λ (a : Bool). (a && lakeful) && leb q (length i)) (lt-ltb l (length (p .grammar .names)) (omega (arith, there, names-long)))
+              ∙ ap₂ _&&_ x y
+
+          pub lake-other : lakeIn mid l ≡ false → SaysWay (notAsked (VerdictRefused 14 0)) cs (lakeOf m s i cs l q)
+          lake-other h = no-lake (by-kind false (leb q (length i)) (sym kind-is ∙ h) refl)
+
+          pub lake-behind : lakeIn mid l ≡ true → length i < q → SaysWay (notAsked (VerdictRefused 14 0)) cs (lakeOf m s i cs l q)
+          lake-behind h k = no-lake (by-kind true false (sym kind-is ∙ h) (lt-leb q (length i) k))
+
+          module _ (is : lakeIn mid l ≡ true) (in-text : q ≤ length i) (new : List ℕ) (fills : Fills out i cs new) where
+            checks : refuseIf (not (isLakeAt p l && leb q (length i))) 14 0 ≡ none
+            checks = ap (λ (b : Bool). refuseIf (not b) 14 0) (by-kind true true (sym kind-is ∙ is) (le-leb q (length i) in-text))
+
+            cells-are : new ≡ filled p i cs
+            unfolding prepared preparedBy
+            cells-are = fills .are g (plainOf g) pl (clear-loop m s (st .clear))
+
+            set-is : (a : List ℕ) → a ≡ getD alts (rootIn mid l) empty → a ≡ altOf (p .analysis) l
+            unfolding prepared preparedBy
+            set-is a x = x ∙ alt-is mid g (st .worked .between) (clear-good m s (st .clear) .proper) ms _ _ _ alts rounds (st .worked .analysed) l (omega (arith, there, names-long))
+
+            count-is : n ≡ length (p .bodies)
+            unfolding prepared preparedBy
+            count-is = e ∙ bodies-are out g (plainOf g) (pl .holds)
+
+            way-all : (a : List ℕ) (w : ℕ) → a ≡ getD alts (rootIn mid l) empty → w ≡ wayIn (grammarIn t) i new n a l q → w ≡ wayIn (p .grammar) i (filled p i cs) (length (p .bodies)) (altOf (p .analysis) l) l q
+            unfolding prepared preparedBy
+            way-all a w x y =
+                way-is t g (st .table) (clear-good m s (st .clear) .proper) i new n a l q w y
+                ∙ ap (λ (z : List ℕ). wayIn g i new n z l q) (set-is a x)
+                ∙ ap₂ (λ (cs : List ℕ) (k : ℕ). wayIn g i cs k (altOf (analysis g) l) l q) cells-are count-is
+
+            pub lake-answered : (a : List ℕ) (w : ℕ) (r : Way) → a ≡ getD alts (rootIn mid l) empty → w ≡ wayIn (grammarIn t) i new n a l q → r ≡ wayOf w → SaysWay r new (lakeOf m s i cs l q)
+            lake-answered a w r x y z =
+                says-by r new (lakeOf m s i cs l q)
+                (ap₂ (λ (v : Way) (c : List ℕ). record { way = v; cells = c }) (z ∙ ap wayOf (way-all a w x y)) cells-are ∙ by-checks none none input-none checks)
+
+-- ── as the code has it ──
+module _ {t mid : List ℕ} {alts : List (List ℕ)} {out : List ℕ} (w : Standing t mid alts out) where
+  pub standing-same : symbolCount out ≡ symbolCount t
+  standing-same = same-symbols (w .mode) (w .text) t mid (w .marks) (w .sets) (w .eps) (w .succ) alts out (w .rounds) (w .stands)
+
+  pub standing-few : symbolCount out ≤ 64
+  standing-few = w .stands .worked .plain .few-symbols
+
+  pub standing-terminals : terminalCount t ≤ 64
+  standing-terminals = w .stands .table .few-terminals
+
+two : {r r′ : Way} {cs : List ℕ} {x : LakeAnswer} → r ≡ r′ → SaysWay r′ cs x → SaysWay r cs x
+two e s = (e ∙ s .0, s .1)
+
+module _ {t mid : List ℕ} {alts : List (List ℕ)} {out : List ℕ} (i cs : List ℕ) (l q : ℕ) where
+  pub asked-long : {r : Way} → r ≡ notAsked (VerdictRefused 9 65535) → 65535 < length i → Asked t mid alts out i cs l q cs r
+  asked-long e h = record { are = λ m s ms sets eps succ rounds st. two e (lake-long m s t mid ms sets eps succ alts out rounds st i cs l q h) }
+
+  module _ (n need : ℕ) (e : n ≡ symbolCount out) (short : length i ≤ 65535) (f : need ≡ n * (length i + 1)) where
+    pub asked-few : {r : Way} → r ≡ notAsked (VerdictRefused 10 need) → length cs < need → Asked t mid alts out i cs l q cs r
+    asked-few z h = record { are = λ m s ms sets eps succ rounds st. two z (lake-few m s t mid ms sets eps succ alts out rounds st i cs l q n need e short f h) }
+
+    module _ (room : need ≤ length cs) where
+      pub asked-past : {r : Way} → r ≡ notAsked (VerdictRefused 14 0) → n ≤ l → Asked t mid alts out i cs l q cs r
+      asked-past z h = record { are = λ m s ms sets eps succ rounds st. two z (lake-past m s t mid ms sets eps succ alts out rounds st i cs l q n need e short f room h) }
+
+      module _ (there : l < n) where
+        pub asked-other : {r : Way} → r ≡ notAsked (VerdictRefused 14 0) → lakeIn mid l ≡ false → Asked t mid alts out i cs l q cs r
+        asked-other z h = record { are = λ m s ms sets eps succ rounds st. two z (lake-other m s t mid ms sets eps succ alts out rounds st i cs l q n need e short f room there h) }
+
+        pub asked-behind : {r : Way} → r ≡ notAsked (VerdictRefused 14 0) → lakeIn mid l ≡ true → length i < q → Asked t mid alts out i cs l q cs r
+        asked-behind z h k = record { are = λ m s ms sets eps succ rounds st. two z (lake-behind m s t mid ms sets eps succ alts out rounds st i cs l q n need e short f room there h k) }
+
+        pub asked-all : lakeIn mid l ≡ true → q ≤ length i → (new : List ℕ) → Fills out i cs new → (a : List ℕ) (w : ℕ) (r : Way) → a ≡ getD alts (rootIn mid l) empty → w ≡ wayIn (grammarIn t) i new n a l q → r ≡ wayOf w
+            → Asked t mid alts out i cs l q new r
+        asked-all is k new fills a w r x y z = record {
+          are = λ m s ms sets eps succ rounds st. lake-answered m s t mid ms sets eps succ alts out rounds st i cs l q n need e short f room there is k new fills a w r x y z;
+        }
+
+pub way-rest : (k : ℕ) → (k ≡ 0 → ⊥) → (k ≡ 1 → ⊥) → (k ≡ 2 → ⊥) → wayOf 3 ≡ wayOf k
+way-rest zero f g h = absurd (f refl)
+way-rest (suc zero) f g h = absurd (g refl)
+way-rest (suc (suc zero)) f g h = absurd (h refl)
+way-rest (suc (suc (suc k))) f g h = refl
+
+pub not-true : (b : Bool) → not b ≡ true → b ≡ false
+not-true true e = absurd (true≢false (sym e))
+not-true false e = refl
+
+pub not-false : (b : Bool) → not b ≡ false → b ≡ true
+not-false true e = refl
+not-false false e = absurd (true≢false e)

@@ -1,0 +1,6 @@
+-- Laws of the definitions beside this file.
+pub mod Here
+pub mod Walks
+pub mod Names
+pub mod Hits
+pub mod Offences
