@@ -1,0 +1,415 @@
+"""An independent reader, translator, writer and matcher of lake grammars, from document 01 alone: small, recursive and slow.
+
+It takes grammars that are in the notation and within the bounds of 01 (refusals 1 to 7 are not its business). An expression is an `Exp`, so that every
+occurrence has an identity of its own; a symbol is its name, a lake's with `<` and `>`.
+"""
+import re
+import sys
+
+sys.setrecursionlimit(20000)
+
+
+class Exp:
+    """op: any, literal (value: bytes), class (value: set of bytes), symbol (value: name), sequence, choice, ?, *, +, &, !"""
+
+    def __init__(self, op, *parts, value=None):
+        self.op, self.parts, self.value = op, parts, value
+        self.succeed, self.alt = set(), set()
+
+    def copy(self):
+        return Exp(self.op, *[part.copy() for part in self.parts], value=self.value)
+
+    def all(self):
+        yield self
+        for part in self.parts:
+            yield from part.all()
+
+
+# ── reading (01, Notation) ──
+
+LETTERS = {ord("n"): 10, ord("r"): 13, ord("t"): 9, ord("'"): 39, ord('"'): 34, ord("["): 91, ord("]"): 93, ord("\\"): 92}
+
+
+class Reader:
+    def __init__(self, text, plain):
+        self.text, self.at, self.plain = text, 0, plain
+        self.blanks()
+
+    def blanks(self):
+        self.at = re.compile(rb"([ \t\r\n]|#[^\r\n]*)*").match(self.text, self.at).end()
+
+    def takes(self, pattern):
+        found = re.compile(pattern).match(self.text, self.at)
+        if not found:
+            return None
+        self.at = found.end()
+        return found.group()
+
+    def token(self, pattern):
+        found = self.takes(pattern)
+        if found is not None:
+            self.blanks()
+        return found
+
+    def char(self):
+        byte = self.text[self.at]
+        self.at += 1
+        if byte != ord("\\"):
+            return byte
+        octal = self.takes(rb"[0-2][0-7][0-7]|[0-7][0-7]|[0-7]")
+        if octal:
+            return int(octal, 8)
+        self.at += 1
+        return LETTERS[self.text[self.at - 1]]
+
+    def literal(self, quote):
+        value = bytearray()
+        while self.text[self.at] != quote:
+            value.append(self.char())
+        self.at += 1
+        self.blanks()
+        return Exp("literal", value=bytes(value))
+
+    def marks(self):
+        value = set()
+        negative = not self.plain and self.takes(rb"\^") is not None
+        while self.text[self.at] != ord("]"):
+            low = high = self.char()
+            if self.takes(rb"-") is not None:
+                high = self.char()
+            value |= set(range(low, high + 1))
+        self.at += 1
+        self.blanks()
+        return Exp("class", value=frozenset(set(range(256)) - value if negative else value))
+
+    NAME = rb"[a-zA-Z_][a-zA-Z_0-9]*|<[a-zA-Z_][a-zA-Z_0-9]*>"
+
+    def primary(self):
+        if self.token(rb"\("):
+            inner = self.choice()
+            self.token(rb"\)")
+            return inner
+        if self.token(rb"\."):
+            return Exp("any")
+        if self.takes(rb"\["):
+            return self.marks()
+        quote = self.takes(rb"['\"]")
+        if quote:
+            return self.literal(quote[0])
+        return Exp("symbol", value=self.token(self.NAME).decode())
+
+    def suffix(self):
+        inner = self.primary()
+        mark = self.token(rb"[?*+]")
+        return Exp(mark.decode(), inner) if mark else inner
+
+    def prefix(self):
+        mark = self.token(rb"[&!]")
+        return Exp(mark.decode(), self.suffix()) if mark else self.suffix()
+
+    def starts(self):
+        """Whether a primary or a prefix stands here: a name before an arrow is the next rule's."""
+        if re.compile(rb"[(.\['\"&!]").match(self.text, self.at):
+            return True
+        name = re.compile(self.NAME).match(self.text, self.at)
+        if not name:
+            return False
+        return not re.compile(rb"([ \t\r\n]|#[^\r\n]*)*<-").match(self.text, name.end())
+
+    def sequence(self):
+        whole = self.prefix()
+        while self.starts():
+            whole = Exp("sequence", whole, self.prefix())
+        return whole
+
+    def choice(self):
+        whole = self.sequence()
+        while self.token(rb"/"):
+            whole = Exp("choice", whole, self.sequence())
+        return whole
+
+    def rules(self):
+        rules = {}
+        while self.at < len(self.text):
+            name = self.token(self.NAME).decode()
+            self.token(rb"<-")
+            rules[name] = self.choice()
+        return rules
+
+
+# ── lakes made plain (01) ──
+
+def same_terminal(exp):
+    return (exp.op, exp.value)
+
+
+class Grammar:
+    def __init__(self, text, plain=False):
+        self.rules = Reader(text, plain).rules()
+        self.symbols = list(self.rules)
+        self.terminals = [("any", None)]
+        for body in self.rules.values():
+            for exp in leaves(body):
+                if exp.op == "symbol" and exp.value not in self.symbols:
+                    self.symbols.append(exp.value)
+                if exp.op != "symbol" and same_terminal(exp) not in self.terminals:
+                    self.terminals.append(same_terminal(exp))
+        water = self.rules.get("water")
+        self.water = None if plain else water or Exp("!", Exp("any"))
+        self.bodies = {name: self.step_one(name) for name in self.symbols}
+        self.find_eps()
+        self.find_sets()
+        self.plain = {name: self.step_two(name) for name in self.symbols}
+
+    def step_one(self, name):
+        body = self.rules.get(name)
+        if not name.startswith("<"):
+            return body.copy()
+        water = self.water.copy()
+        return Exp("choice", body.copy(), water) if body else water
+
+    def has_eps(self, exp):
+        if exp.op in ("&", "!", "?", "*"):
+            return True
+        if exp.op == "symbol":
+            return exp.value in self.eps
+        if exp.op == "+":
+            return self.has_eps(exp.parts[0])
+        if exp.op == "sequence":
+            return all(self.has_eps(part) for part in exp.parts)
+        return exp.op == "choice" and any(self.has_eps(part) for part in exp.parts)
+
+    def find_eps(self):
+        self.eps, last = set(), None
+        while self.eps != last:
+            last = self.eps
+            self.eps = {name for name in self.symbols if self.has_eps(self.bodies[name])}
+
+    def beginning(self, exp):
+        """Without ε."""
+        if exp.op in ("any", "literal", "class"):
+            return {same_terminal(exp)}
+        if exp.op == "symbol":
+            return {exp.value}
+        if exp.op in ("&", "!"):
+            return set()
+        if exp.op == "sequence" and not self.has_eps(exp.parts[0]):
+            return self.beginning(exp.parts[0])
+        return set().union(*[self.beginning(part) for part in exp.parts])
+
+    def hand_on(self, exp):
+        """What the parts of an expression get from it: (part, SUCCEED, ALT)."""
+        if exp.op == "symbol":
+            yield self.bodies[exp.value], exp.succeed, exp.alt
+        elif exp.op == "sequence":
+            a, b = exp.parts
+            yield a, self.beginning(b) | (exp.succeed if self.has_eps(b) else set()), exp.alt
+            yield b, exp.succeed, exp.alt if self.has_eps(a) else set()
+        elif exp.op == "choice":
+            a, b = exp.parts
+            yield a, exp.succeed, exp.alt | self.beginning(b) | (exp.succeed if self.has_eps(b) else set())
+            yield b, exp.succeed, exp.alt
+        elif exp.op in ("?", "*", "+"):
+            inner = exp.parts[0]
+            again = set() if exp.op == "?" else self.beginning(inner)
+            yield inner, exp.succeed | again, exp.alt | exp.succeed
+
+    def find_sets(self):
+        changed = True
+        while changed:
+            changed = False
+            for body in self.bodies.values():
+                for exp in body.all():
+                    for part, succeed, alt in self.hand_on(exp):
+                        if not (succeed <= part.succeed and alt <= part.alt):
+                            changed = True
+                            part.succeed |= succeed
+                            part.alt |= alt
+
+    def stops(self, name):
+        """The alternative symbols of a lake, lakes dropped: nonterminals by number, then terminals by number."""
+        alt = self.bodies[name].alt
+        symbols = [Exp("symbol", value=s) for s in self.symbols if s in alt and not s.startswith("<")]
+        return symbols + [Exp(op, value=value) for op, value in self.terminals if (op, value) in alt]
+
+    def step_two(self, name):
+        body = self.bodies[name].copy()
+        if not name.startswith("<"):
+            return body
+        guard = None
+        for stop in self.stops(name):
+            guard = Exp("choice", guard, stop) if guard else stop
+        skip = Exp("sequence", Exp("!", guard), Exp("any")) if guard else Exp("any")
+        return Exp("choice", body, skip)
+
+    def first_calls(self, exp):
+        if exp.op == "symbol":
+            return {exp.value}
+        parts = exp.parts
+        if exp.op == "sequence" and not self.has_eps(parts[0]):
+            parts = parts[:1]
+        return set().union(*[self.first_calls(part) for part in parts])
+
+    def loop(self):
+        """The number of the first symbol that reaches itself by first calls; None."""
+        reach = {name: self.first_calls(self.plain[name]) for name in self.symbols}
+        for _ in self.symbols:
+            reach = {name: to.union(*[reach[other] for other in to]) for name, to in reach.items()}
+        on = [number for number, name in enumerate(self.symbols) if name in reach[name]]
+        return on[0] if on else None
+
+
+def leaves(exp):
+    return [part for part in exp.all() if not part.parts]
+
+
+# ── writing (01) ──
+
+LEVELS = {"choice": 0, "sequence": 1, "&": 2, "!": 2, "?": 3, "*": 3, "+": 3}
+
+
+def char_text(byte, escaped):
+    if byte in escaped:
+        return escaped[byte]
+    if byte in (10, 13, 9):
+        return {10: b"\\n", 13: b"\\r", 9: b"\\t"}[byte]
+    if 32 <= byte <= 126 or byte >= 192:
+        return bytes([byte])
+    return b"\\%03o" % byte
+
+
+LITERAL = {92: b"\\\\", 39: b"\\'"}
+CLASS = {92: b"\\\\", 91: b"\\[", 93: b"\\]", 45: b"\\055", 94: b"\\136"}
+
+
+def class_text(value):
+    text, byte = b"", 0
+    while byte < 256:
+        end = byte
+        while end in value:
+            end += 1
+        if end > byte:
+            text += char_text(byte, CLASS)
+            if end - byte > 1:
+                text += b"-" + char_text(end - 1, CLASS)
+        byte = end + 1
+    return b"[" + text + b"]"
+
+
+def plain_name(name):
+    return "lake__" + name[1:-1] if name.startswith("<") else name
+
+
+def text_of(exp, least=0):
+    """The text of an expression where one of level `least` or tighter may stand bare."""
+    if LEVELS.get(exp.op, 4) < least:
+        return b"(" + text_of(exp) + b")"
+    if exp.op == "any":
+        return b"."
+    if exp.op == "literal":
+        return b"'" + b"".join(char_text(byte, LITERAL) for byte in exp.value) + b"'"
+    if exp.op == "class":
+        return class_text(exp.value)
+    if exp.op == "symbol":
+        return plain_name(exp.value).encode()
+    if exp.op == "sequence":
+        return text_of(exp.parts[0], 1) + b" " + text_of(exp.parts[1], 2)
+    if exp.op == "choice":
+        return text_of(exp.parts[0], 0) + b" / " + text_of(exp.parts[1], 1)
+    if exp.op in "&!":
+        return exp.op.encode() + text_of(exp.parts[0], 3)
+    return text_of(exp.parts[0], 4) + exp.op.encode()
+
+
+def plain_text(grammar):
+    loop = grammar.loop()
+    if loop is not None:
+        return b"refused 8 %d\n" % loop
+    return b"".join(plain_name(name).encode() + b" <- " + text_of(body) + b"\n" for name, body in grammar.plain.items())
+
+
+# ── the meaning of a match (01): the lakes' own, not their translation's ──
+
+class Matcher:
+    """An answer is None or the end and the nodes below: (symbol, start, end, nodes)."""
+
+    def __init__(self, grammar, text):
+        self.grammar, self.text, self.known = grammar, text, {}
+
+    def symbol(self, name, p):
+        if (name, p) not in self.known:
+            self.known[name, p] = self.lake(name, p) if name.startswith("<") else self.match(self.grammar.bodies[name], p)
+        return self.known[name, p]
+
+    def lake(self, name, p):
+        """By its rule, by water, or by one skipped byte where no alternative symbol matches."""
+        for body in (self.grammar.rules.get(name), self.grammar.water):
+            answer = self.match(body, p) if body else None
+            if answer:
+                return answer
+        if p < len(self.text) and not any(self.match(stop, p) for stop in self.grammar.stops(name)):
+            return p + 1, []
+        return None
+
+    def match(self, exp, p):
+        if exp.op == "any":
+            return (p + 1, []) if p < len(self.text) else None
+        if exp.op == "literal":
+            return (p + len(exp.value), []) if self.text.startswith(exp.value, p) else None
+        if exp.op == "class":
+            return (p + 1, []) if p < len(self.text) and self.text[p] in exp.value else None
+        if exp.op == "symbol":
+            answer = self.symbol(exp.value, p)
+            return answer and (answer[0], [(exp.value, p, *answer)])
+        if exp.op == "choice":
+            return self.match(exp.parts[0], p) or self.match(exp.parts[1], p)
+        if exp.op == "sequence":
+            first = self.match(exp.parts[0], p)
+            second = first and self.match(exp.parts[1], first[0])
+            return second and (second[0], first[1] + second[1])
+        if exp.op in "&!":
+            return (p, []) if bool(self.match(exp.parts[0], p)) == (exp.op == "&") else None
+        if exp.op == "?":
+            return self.match(exp.parts[0], p) or (p, [])
+        return self.repeat(exp, p)
+
+    def repeat(self, exp, p):
+        end, nodes = p, []
+        if exp.op == "+":
+            first = self.match(exp.parts[0], p)
+            if not first:
+                return None
+            end, nodes = first
+        while True:
+            further = self.match(exp.parts[0], end)
+            if not further or further[0] == end:
+                return end, nodes
+            end, nodes = further[0], nodes + further[1]
+
+
+def preorder(node, depth=0):
+    symbol, start, end, below = node
+    yield f"{start} {end} {depth} {symbol}"
+    for inner in below:
+        yield from preorder(inner, depth + 1)
+
+
+def spans(grammar, text, cells=16384, nodes=1024):
+    """The lines of program `spans`, for few nodes (all are listed before they are counted)."""
+    loop = grammar.loop()
+    if loop is not None:
+        return [f"refused 8 {loop}"]
+    need = len(grammar.symbols) * (len(text) + 1)
+    if cells < need:
+        return [f"refused 10 {need}"]
+    start = grammar.symbols[0]
+    answer = Matcher(grammar, text).symbol(start, 0)
+    if not answer:
+        return ["none"]
+    lines = list(preorder((start, 0, *answer)))
+    for number, line in enumerate(lines):
+        if int(line.split()[2]) > 255:
+            return [f"refused 11 {number}"]
+        if number >= nodes:
+            return [f"refused 12 {number}"]
+    return [f"match {answer[0]}"] + lines
