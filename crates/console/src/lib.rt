@@ -32,10 +32,15 @@ pub fn number(n: usize) {
     io::print_decimal(1, n as u64);
 }
 
-pub fn refused(number_is: usize, place: usize) {
+pub fn refusal(number_is: usize, place: usize) {
     io::write_all(1, b"refused");
     number(number_is);
     number(place);
+}
+
+// The whole line of a refusal.
+pub fn refused(number_is: usize, place: usize) {
+    refusal(number_is, place);
     line_end();
 }
 

@@ -11,8 +11,7 @@
 ghost use Prim.Native.Nat.{_+_, _≤_, _<_};
 ghost use mathlib.Core.Path.{_≡_};
 ghost use lib.ListN.{length};
-mod buffers;
-mod fields;
+
 mod says;
 
 use gurkenmond::Verdict;
@@ -24,16 +23,16 @@ fn answer_read(mode: Mode, text: &[u8]) {
     match v {
         Verdict::Accepted => {
             io::write_all(1, b"read");
-            says::number(r.symbols as u64);
-            says::number(r.terminals as u64);
-            says::number(r.expressions as u64);
+            console::number(r.symbols);
+            console::number(r.terminals);
+            console::number(r.expressions);
         }
         Verdict::Refused {
             number: n,
             place: p,
-        } => says::refused(n, p),
+        } => console::refusal(n, p),
     }
-    says::line_end();
+    console::line_end();
 }
 
 fn answer_sets(mode: Mode, text: &[u8], e: usize) {
@@ -43,14 +42,14 @@ fn answer_sets(mode: Mode, text: &[u8], e: usize) {
         Verdict::Accepted => {
             io::write_all(1, b"sets");
             says::sets(r.sets);
-            says::number(r.rounds as u64);
+            console::number(r.rounds);
         }
         Verdict::Refused {
             number: n,
             place: p,
-        } => says::refused(n, p),
+        } => console::refusal(n, p),
     }
-    says::line_end();
+    console::line_end();
 }
 
 fn answer_skip(mode: Mode, text: &[u8]) {
@@ -64,9 +63,9 @@ fn answer_skip(mode: Mode, text: &[u8]) {
         Verdict::Refused {
             number: n,
             place: p,
-        } => says::refused(n, p),
+        } => console::refusal(n, p),
     }
-    says::line_end();
+    console::line_end();
 }
 
 fn answer_match(mode: Mode, text: &[u8], input: &[u8], cells: &mut [u32], nodes: &mut [u32]) {
@@ -75,7 +74,7 @@ fn answer_match(mode: Mode, text: &[u8], input: &[u8], cells: &mut [u32], nodes:
     says::outcome(o);
     says::words(b" ; cells", cells);
     says::words(b" ; nodes", nodes);
-    says::line_end();
+    console::line_end();
 }
 
 fn answer_lake(
@@ -89,19 +88,19 @@ fn answer_lake(
     let w = gurkenmond::lake_at(mode, text, input, cells, lake, place);
     says::way(w);
     says::words(b" ; cells", cells);
-    says::line_end();
+    console::line_end();
 }
 
 fn answer_own(mode: Mode, text: &[u8], out: &mut [u8]) {
     let w = gurkenmond::write_own(mode, text, out);
     says::written(w, out);
-    says::line_end();
+    console::line_end();
 }
 
 fn answer_plain(mode: Mode, text: &[u8], out: &mut [u8]) {
     let w = gurkenmond::write_plain(mode, text, out);
     says::written(w, out);
-    says::line_end();
+    console::line_end();
 }
 
 // The number field at `at`, at most so large; above that `most + 1`, which is no number.
@@ -109,8 +108,8 @@ fn number_at(line: &[u8], at: usize, most: usize) -> usize
     requires { ⌜ most < 4294967296 ⌝ }
     ensures { λ r. ⌜ r ≤ most + 1 ⌝ }
 {
-    let to = fields::until(line, at);
-    let n = fields::decimal(line, at, to);
+    let to = lines::until(line, at);
+    let n = lines::decimal(line, at, to);
     if most < n {
         return most + 1;
     }
@@ -120,7 +119,7 @@ fn number_at(line: &[u8], at: usize, most: usize) -> usize
 fn ask_sets(mode: Mode, text: &[u8], line: &[u8], at: usize) {
     let e = number_at(line, at, 4294967295);
     if e == 4294967296 {
-        says::unreadable();
+        console::unreadable();
         return;
     }
     answer_sets(mode, text, e);
@@ -129,10 +128,10 @@ fn ask_sets(mode: Mode, text: &[u8], line: &[u8], at: usize) {
 fn ask_text(kind: u8, mode: Mode, text: &[u8], line: &[u8], at: usize) {
     let n = number_at(line, at, 262144);
     if n == 262145 {
-        says::unreadable();
+        console::unreadable();
         return;
     }
-    let mut out = buffers::room();
+    let mut out = lines::buffers::room();
     if kind == 5 {
         answer_own(mode, text, &mut out[..n]);
     } else {
@@ -142,53 +141,53 @@ fn ask_text(kind: u8, mode: Mode, text: &[u8], line: &[u8], at: usize) {
 
 fn ask_match(mode: Mode, text: &[u8], input: &[u8], line: &[u8], at: usize) {
     let c = number_at(line, at, 131072);
-    let then = fields::after(line, at);
+    let then = lines::after(line, at);
     let k = number_at(line, then, 65536);
     if c == 131073 {
-        says::unreadable();
+        console::unreadable();
         return;
     }
     if k == 65537 {
-        says::unreadable();
+        console::unreadable();
         return;
     }
-    let mut cells = buffers::cells();
-    let mut nodes = buffers::nodes();
+    let mut cells = lines::buffers::cells();
+    let mut nodes = lines::buffers::nodes();
     answer_match(mode, text, input, &mut cells[..c], &mut nodes[..k]);
 }
 
 fn ask_lake(mode: Mode, text: &[u8], input: &[u8], line: &[u8], at: usize) {
     let c = number_at(line, at, 131072);
-    let then = fields::after(line, at);
+    let then = lines::after(line, at);
     let lake = number_at(line, then, 4294967295);
-    let last = fields::after(line, then);
+    let last = lines::after(line, then);
     let place = number_at(line, last, 4294967295);
     if c == 131073 {
-        says::unreadable();
+        console::unreadable();
         return;
     }
     if lake == 4294967296 {
-        says::unreadable();
+        console::unreadable();
         return;
     }
     if place == 4294967296 {
-        says::unreadable();
+        console::unreadable();
         return;
     }
-    let mut cells = buffers::cells();
+    let mut cells = lines::buffers::cells();
     answer_lake(mode, text, input, &mut cells[..c], lake, place);
 }
 
 // A question with an input, whose field begins at `at`.
 fn ask_input(kind: u8, mode: Mode, text: &[u8], line: &[u8], at: usize) {
-    let to = fields::until(line, at);
-    if !fields::is_bytes(line, at, to, 65600) {
-        says::unreadable();
+    let to = lines::until(line, at);
+    if !lines::is_bytes(line, at, to, 65600) {
+        console::unreadable();
         return;
     }
-    let mut input = buffers::input();
-    let n = fields::decode(line, at, to, &mut input);
-    let then = fields::after(line, at);
+    let mut input = lines::buffers::input();
+    let n = lines::decode(line, at, to, &mut input);
+    let then = lines::after(line, at);
     if kind == 3 {
         ask_match(mode, text, &input[..n], line, then);
     } else {
@@ -210,14 +209,14 @@ fn ask(kind: u8, mode: Mode, text: &[u8], line: &[u8], at: usize) {
 
 // The grammar's field begins at `at`.
 fn grammar_at(kind: u8, mode: Mode, line: &[u8], at: usize) {
-    let to = fields::until(line, at);
-    if !fields::is_bytes(line, at, to, 1048640) {
-        says::unreadable();
+    let to = lines::until(line, at);
+    if !lines::is_bytes(line, at, to, 1048640) {
+        console::unreadable();
         return;
     }
-    let mut text = buffers::text();
-    let n = fields::decode(line, at, to, &mut text);
-    let then = fields::after(line, at);
+    let mut text = lines::buffers::text();
+    let n = lines::decode(line, at, to, &mut text);
+    let then = lines::after(line, at);
     ask(kind, mode, &text[..n], line, then);
 }
 
@@ -225,53 +224,53 @@ fn grammar_at(kind: u8, mode: Mode, line: &[u8], at: usize) {
 fn mode_at(kind: u8, line: &[u8], at: usize)
     requires { ⌜ at ≤ 16 ⌝ }
 {
-    if fields::stands(line, at, b"lake ") {
+    if lines::stands(line, at, b"lake ") {
         grammar_at(kind, Mode::Lake, line, at + 5);
         return;
     }
-    if fields::stands(line, at, b"plain ") {
+    if lines::stands(line, at, b"plain ") {
         grammar_at(kind, Mode::Plain, line, at + 6);
         return;
     }
-    says::unreadable();
+    console::unreadable();
 }
 
 fn answer(line: &[u8]) {
-    if fields::stands(line, 0, b"read ") {
+    if lines::stands(line, 0, b"read ") {
         mode_at(0, line, 5);
         return;
     }
-    if fields::stands(line, 0, b"sets ") {
+    if lines::stands(line, 0, b"sets ") {
         mode_at(1, line, 5);
         return;
     }
-    if fields::stands(line, 0, b"skip ") {
+    if lines::stands(line, 0, b"skip ") {
         mode_at(2, line, 5);
         return;
     }
-    if fields::stands(line, 0, b"match ") {
+    if lines::stands(line, 0, b"match ") {
         mode_at(3, line, 6);
         return;
     }
-    if fields::stands(line, 0, b"lake ") {
+    if lines::stands(line, 0, b"lake ") {
         mode_at(4, line, 5);
         return;
     }
-    if fields::stands(line, 0, b"own ") {
+    if lines::stands(line, 0, b"own ") {
         mode_at(5, line, 4);
         return;
     }
-    if fields::stands(line, 0, b"plain ") {
+    if lines::stands(line, 0, b"plain ") {
         mode_at(6, line, 6);
         return;
     }
-    says::unreadable();
+    console::unreadable();
 }
 
 // The line so far is answered; one byte more than there is room for is too long.
 fn finish(line: &[u8], k: usize) {
     if line.len() < k {
-        says::unreadable();
+        console::unreadable();
         return;
     }
     answer(&line[..k]);
@@ -320,6 +319,6 @@ fn answer_all(chunk: &mut [u8], line: &mut [u8]) {
 
 fn main() {
     let mut chunk = io::large_buffer();
-    let mut line = buffers::line();
+    let mut line = lines::buffers::line();
     answer_all(&mut chunk, &mut line);
 }

@@ -1,26 +1,12 @@
 // Answers, as a line of words and numbers.
 use gurkenmond::Outcome;
-use gurkenmond::Verdict;
 use gurkenmond::Way;
 use gurkenmond::Written;
 
-pub fn number(n: u64) {
+// A 64-bit number behind a word.
+fn number(n: u64) {
     io::write_all(1, b" ");
     io::print_decimal(1, n);
-}
-
-pub fn line_end() {
-    io::write_all(1, b"\n");
-}
-
-pub fn unreadable() {
-    io::write_all(1, b"unreadable\n");
-}
-
-pub fn refused(number_is: usize, place: usize) {
-    io::write_all(1, b"refused");
-    number(number_is as u64);
-    number(place as u64);
 }
 
 // The numbers of the bits of a word.
@@ -82,7 +68,7 @@ pub fn outcome(o: Outcome) {
     match o {
         Outcome::Matched(k) => {
             io::write_all(1, b"match");
-            number(k as u64);
+            console::number(k);
         }
         Outcome::NoMatch => {
             io::write_all(1, b"none");
@@ -90,7 +76,7 @@ pub fn outcome(o: Outcome) {
         Outcome::Refused {
             number: n,
             place: p,
-        } => refused(n, p),
+        } => console::refusal(n, p),
     }
 }
 
@@ -112,7 +98,7 @@ pub fn way(w: Way) {
         Way::Refused {
             number: n,
             place: p,
-        } => refused(n, p),
+        } => console::refusal(n, p),
     }
 }
 
@@ -122,6 +108,6 @@ pub fn written(w: Written, out: &[u8]) {
         Written::Refused {
             number: n,
             place: p,
-        } => refused(n, p),
+        } => console::refusal(n, p),
     }
 }

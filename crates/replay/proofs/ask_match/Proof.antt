@@ -8,11 +8,11 @@ use Rattle.replay.proofs.ask_match.Tie as tie
 use Rattle.replay.proofs.ask_match.Reads as reads
 use Rattle.replay.proofs.ask_match.Lts as lts
 use Rattle.replay.proofs.answer_match.Reads as answer-match-reads
-use Rattle.replay.proofs.buffers.cells.Reads as cells-reads
-use Rattle.replay.proofs.buffers.nodes.Reads as nodes-reads
-use Rattle.replay.proofs.fields.after.Reads as after-reads
+use Rattle.lines.proofs.buffers.cells.Reads as cells-reads
+use Rattle.lines.proofs.buffers.nodes.Reads as nodes-reads
+use Rattle.lines.proofs.after.Reads as after-reads
 use Rattle.replay.proofs.number_at.Reads as number-at-reads
-use Rattle.replay.proofs.says.unreadable.Reads as unreadable-reads
+use Rattle.console.proofs.unreadable.Reads as unreadable-reads
 
 number-at-requires : tie.Need-number-at-requires
 number-at-requires c κs = search needs

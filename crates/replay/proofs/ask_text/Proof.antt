@@ -9,9 +9,9 @@ use Rattle.replay.proofs.ask_text.Reads as reads
 use Rattle.replay.proofs.ask_text.Lts as lts
 use Rattle.replay.proofs.answer_own.Reads as answer-own-reads
 use Rattle.replay.proofs.answer_plain.Reads as answer-plain-reads
-use Rattle.replay.proofs.buffers.room.Reads as room-reads
+use Rattle.lines.proofs.buffers.room.Reads as room-reads
 use Rattle.replay.proofs.number_at.Reads as number-at-reads
-use Rattle.replay.proofs.says.unreadable.Reads as unreadable-reads
+use Rattle.console.proofs.unreadable.Reads as unreadable-reads
 
 number-at-requires : tie.Need-number-at-requires
 number-at-requires c κs = search needs

@@ -1,15 +1,15 @@
--- `replay::fields::decimal` meets its contract. Assumes nothing.
+-- `lines::decimal` meets its contract. Assumes nothing.
 use Prim.Native.Nat.{ℕ, _+_, _-_, _*_, _≤_, _<_}
 use mathlib.Core.Path.{_≡_, refl, sym, ap, _∙_}
 use native.Mathlib.Omega.{arith}
 use lib.ListN.{length, length-set}
 use lib.Seq.{length-take-le}
 use borrow.Author.Needs.{needs}
-use Rattle.replay.proofs.fields.decimal.Statement.{statement}
-use Rattle.replay.proofs.fields.decimal.Tie as tie
-use Rattle.replay.proofs.fields.decimal.Reads as reads
-use Rattle.replay.proofs.fields.decimal.Lts as lts
-use Rattle.replay.proofs.fields.shifted.Reads as shifted-reads
+use Rattle.lines.proofs.decimal.Statement.{statement}
+use Rattle.lines.proofs.decimal.Tie as tie
+use Rattle.lines.proofs.decimal.Reads as reads
+use Rattle.lines.proofs.decimal.Lts as lts
+use Rattle.lines.proofs.shifted.Reads as shifted-reads
 
 abbrev Inv-loop : tie.InvT-loop
 Inv-loop s from to v₀ i₀ v i = from ≤ i

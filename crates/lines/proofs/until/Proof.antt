@@ -1,14 +1,14 @@
--- `replay::fields::until` meets its contract. Assumes nothing.
+-- `lines::until` meets its contract. Assumes nothing.
 use Prim.Native.Nat.{ℕ, _+_, _-_, _*_, _≤_, _<_}
 use mathlib.Core.Path.{_≡_, refl, sym, ap, _∙_}
 use native.Mathlib.Omega.{arith}
 use lib.ListN.{length, length-set}
 use lib.Seq.{length-take-le}
 use borrow.Author.Needs.{needs}
-use Rattle.replay.proofs.fields.until.Statement.{statement}
-use Rattle.replay.proofs.fields.until.Tie as tie
-use Rattle.replay.proofs.fields.until.Reads as reads
-use Rattle.replay.proofs.fields.until.Lts as lts
+use Rattle.lines.proofs.until.Statement.{statement}
+use Rattle.lines.proofs.until.Tie as tie
+use Rattle.lines.proofs.until.Reads as reads
+use Rattle.lines.proofs.until.Lts as lts
 
 abbrev Inv-loop : tie.InvT-loop
 Inv-loop s at i₀ i = at ≤ i

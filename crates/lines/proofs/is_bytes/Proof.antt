@@ -1,15 +1,15 @@
--- `replay::fields::is_bytes` meets its contract. Assumes nothing.
+-- `lines::is_bytes` meets its contract. Assumes nothing.
 use Prim.Native.Nat.{ℕ, _+_, _-_, _*_, _≤_, _<_}
 use mathlib.Core.Path.{_≡_, refl, sym, ap, _∙_}
 use native.Mathlib.Omega.{arith}
 use lib.ListN.{length, length-set}
 use lib.Seq.{length-take-le}
 use borrow.Author.Needs.{needs}
-use Rattle.replay.proofs.fields.is_bytes.Statement.{statement}
-use Rattle.replay.proofs.fields.is_bytes.Tie as tie
-use Rattle.replay.proofs.fields.is_bytes.Reads as reads
-use Rattle.replay.proofs.fields.is_bytes.Lts as lts
-use Rattle.replay.proofs.fields.digit.Reads as digit-reads
+use Rattle.lines.proofs.is_bytes.Statement.{statement}
+use Rattle.lines.proofs.is_bytes.Tie as tie
+use Rattle.lines.proofs.is_bytes.Reads as reads
+use Rattle.lines.proofs.is_bytes.Lts as lts
+use Rattle.lines.proofs.digit.Reads as digit-reads
 
 abbrev Inv-loop : tie.InvT-loop
 Inv-loop s from to most i₀ i = from ≤ i

@@ -1,15 +1,15 @@
--- `replay::fields::decode` meets its contract. Assumes nothing.
+-- `lines::decode` meets its contract. Assumes nothing.
 use Prim.Native.Nat.{ℕ, _+_, _-_, _*_, _≤_, _<_}
 use mathlib.Core.Path.{_≡_, refl, sym, ap, _∙_}
 use native.Mathlib.Omega.{arith}
 use lib.ListN.{length, length-set}
 use lib.Seq.{length-take-le}
 use borrow.Author.Needs.{needs}
-use Rattle.replay.proofs.fields.decode.Statement.{statement}
-use Rattle.replay.proofs.fields.decode.Tie as tie
-use Rattle.replay.proofs.fields.decode.Reads as reads
-use Rattle.replay.proofs.fields.decode.Lts as lts
-use Rattle.replay.proofs.fields.pair.Reads as pair-reads
+use Rattle.lines.proofs.decode.Statement.{statement}
+use Rattle.lines.proofs.decode.Tie as tie
+use Rattle.lines.proofs.decode.Reads as reads
+use Rattle.lines.proofs.decode.Lts as lts
+use Rattle.lines.proofs.pair.Reads as pair-reads
 
 abbrev Inv-loop : tie.InvT-loop
 Inv-loop s from to out₀ i₀ n₀ out i n = (n ≤ length out) × (length out ≡ length out₀)

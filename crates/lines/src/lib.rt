@@ -1,4 +1,6 @@
-// The fields of a question: words apart by one space, bytes in hexadecimal, decimal numbers.
+// A line of questions: its fields are words apart by one space, bytes in hexadecimal, decimal numbers.
+pub mod buffers;
+
 ghost use Prim.Native.Nat.{_+_, _≤_, _<_};
 ghost use mathlib.Core.Path.{_≡_};
 ghost use lib.ListN.{length};

@@ -1,14 +1,14 @@
--- `replay::fields::stands` meets its contract. Assumes nothing.
+-- `lines::stands` meets its contract. Assumes nothing.
 use Prim.Native.Nat.{ℕ, _+_, _-_, _*_, _≤_, _<_}
 use mathlib.Core.Path.{_≡_, refl, sym, ap, _∙_}
 use native.Mathlib.Omega.{arith}
 use lib.ListN.{length, length-set}
 use lib.Seq.{length-take-le}
 use borrow.Author.Needs.{needs}
-use Rattle.replay.proofs.fields.stands.Statement.{statement}
-use Rattle.replay.proofs.fields.stands.Tie as tie
-use Rattle.replay.proofs.fields.stands.Reads as reads
-use Rattle.replay.proofs.fields.stands.Lts as lts
+use Rattle.lines.proofs.stands.Statement.{statement}
+use Rattle.lines.proofs.stands.Tie as tie
+use Rattle.lines.proofs.stands.Reads as reads
+use Rattle.lines.proofs.stands.Lts as lts
 
 abbrev Inv-loop : tie.InvT-loop
 Inv-loop s at word i₀ i = i ≤ length word
