@@ -1,0 +1,3 @@
+-- What the public definitions mean.
+pub mod Meant
+pub mod Cells
