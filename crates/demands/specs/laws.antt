@@ -1,3 +1,5 @@
 -- What the public definitions mean.
 pub mod Meant
 pub mod Cells
+pub mod Offends
+pub mod Matches
