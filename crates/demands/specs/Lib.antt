@@ -1,3 +1,4 @@
 pub mod Meant
 pub mod Offends
+pub mod Ways
 pub mod laws

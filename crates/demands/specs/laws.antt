@@ -3,3 +3,4 @@ pub mod Meant
 pub mod Cells
 pub mod Offends
 pub mod Matches
+pub mod Lakes
