@@ -1,4 +1,5 @@
 pub mod Meant
 pub mod Offends
 pub mod Ways
+pub mod Rows
 pub mod laws

@@ -4,3 +4,6 @@ pub mod Cells
 pub mod Offends
 pub mod Matches
 pub mod Lakes
+pub mod Chain
+pub mod Tokens
+pub mod Refusals
