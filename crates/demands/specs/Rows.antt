@@ -115,3 +115,10 @@ pub record Tells (R : ℕ → ℕ → Type 0) (o : Option Refusal) : Type 0 wher
   pub first : (r : Refusal) → R (r .number) (r .place) → ((j q : ℕ) → j < r .number → R j q → ⊥) → o ≡ some r
   pub silent : o ≡ none → (j q : ℕ) → R j q → ⊥
   pub accepts : ((j q : ℕ) → R j q → ⊥) → o ≡ none
+
+-- row k holds at p, and no earlier row holds anywhere; no row holds
+abbrev pub FirstRow : (ℕ → ℕ → Type 0) → ℕ → ℕ → Type 0
+FirstRow R k p = R k p × ((j q : ℕ) → j < k → R j q → ⊥)
+
+abbrev pub NoRow : (ℕ → ℕ → Type 0) → Type 0
+NoRow R = (j q : ℕ) → R j q → ⊥

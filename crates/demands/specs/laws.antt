@@ -7,3 +7,4 @@ pub mod Lakes
 pub mod Chain
 pub mod Tokens
 pub mod Refusals
+pub mod Refused

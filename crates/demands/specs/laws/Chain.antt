@@ -44,6 +44,9 @@ module _ (R : ℕ → ℕ → Type 0) (o : Option Refusal) (lo hi : ℕ) (within
     };
   }
 
+pub widen : {R : ℕ → ℕ → Type 0} {o : Option Refusal} {lo hi : ℕ} (less : ℕ) → Level R o lo hi → less ≤ lo → Level R o less hi
+widen less x h = record { within = λ k p r. (omega (arith, h, x .within k p r .0), x .within k p r .1); tells = x .tells }
+
 -- a check, and the next one where it lets through
 pub join : {R S : ℕ → ℕ → Type 0} {lo mid hi : ℕ} (a b : Option Refusal) → lo ≤ mid → mid ≤ hi → Level R a lo mid → Level S b mid hi → Level (λ k p. R k p ⊎ S k p) (a ▸ b) lo hi
 join {R} {S} {lo} {mid} {hi} a b l h x y = record { within = within; tells = by-first a (x .tells) }

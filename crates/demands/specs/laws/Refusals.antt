@@ -29,7 +29,7 @@ use Rattle.preparing.specs.laws.Loads.{some-none}
 use Rattle.gurkenmond.specs.Calls.{cellsNeeded, refusesInput, isLakeAt}
 use Rattle.sets.specs.Analysis.{isExpression}
 use Rattle.demands.specs.Rows.{FirstToken, Doubled, Ruleless, TooMany, symbols, terminals, expressions, Over, Row1, Row2, Row3, Row4, Row5, Row6, Row7, Row8, Rows, MatchRows, LakeRows, SetsRows, WriteRows, Tells}
-use Rattle.demands.specs.laws.Chain.{Level, level, join, over, found-at, missing, same-refusal}
+use Rattle.demands.specs.laws.Chain.{Level, level, widen, join, over, found-at, missing, same-refusal}
 use Rattle.demands.specs.laws.Tokens.{finds-so, finds-it, finds-doubled, finds-ruleless}
 
 -- ── 2 and 3 ──
@@ -183,3 +183,34 @@ module _ (m : Mode) (t : List ℕ) where
       let need : ℕ = cellsNeeded (prepared m t) s in
       join (refuses m t) _ (omega arith) (omega arith) one-to-eight
       (join (refuseIf (ltb inputBound (length s)) 9 inputBound) (refuseIf (ltb (length cs) need) 10 need) (omega arith) (omega arith) (over 9 inputBound inputBound (length s)) (over 10 need (length cs) need))
+
+  -- "the lake question 9, 10, then 14"
+  and-both : (a b : Bool) → (a && b) ≡ true → (a ≡ true) × (b ≡ true)
+  and-both true true e = (refl, refl)
+  and-both true false e = absurd (true≢false (sym e))
+  and-both false b e = absurd (true≢false (sym e))
+
+  lake-there : (s : List ℕ) (l q : ℕ) → (isLakeAt (prepared m t) l && leb q (length s)) ≡ true → (isLakeAt (prepared m t) l ≡ true) × (q ≤ length s)
+  lake-there s l q e = let w = and-both (isLakeAt (prepared m t) l) (leb q (length s)) e in (w .0, leb-true q (length s) (w .1))
+
+  there-lake : (s : List ℕ) (l q : ℕ) → (isLakeAt (prepared m t) l ≡ true) × (q ≤ length s) → (isLakeAt (prepared m t) l && leb q (length s)) ≡ true
+  there-lake s l q h = ap₂ _&&_ (h .0) (le-leb q (length s) (h .1))
+
+  pub lake-chain : (s cs : List ℕ) (l q : ℕ)
+      → Level (LakeRows m t s cs l q) (refuses m t ▸ (refusesInput (prepared m t) s cs ▸ refuseIf (not (isLakeAt (prepared m t) l && leb q (length s))) 14 0)) 1 15
+  lake-chain s cs l q =
+      let a : Option Refusal = refusesInput (prepared m t) s cs in
+      let b : Option Refusal = refuseIf (not (isLakeAt (prepared m t) l && leb q (length s))) 14 0 in
+      subst (λ (o : Option Refusal). Level (LakeRows m t s cs l q) o 1 15) (assoc (refuses m t) a b)
+      (join (refuses m t ▸ a) b (omega arith) (omega arith) (match-chain s cs)
+      (widen 11 (missing 14 (isLakeAt (prepared m t) l && leb q (length s)) ((isLakeAt (prepared m t) l ≡ true) × (q ≤ length s)) (lake-there s l q) (there-lake s l q)) (omega arith)))
+
+  -- the sets of an expression, then 14
+  pub sets-chain : (e : ℕ) → Level (SetsRows m t e) (refuses m t ▸ refuseIf (not (isExpression (prepared m t .analysis) e)) 14 0) 1 15
+  sets-chain e =
+      join (refuses m t) _ (omega arith) (omega arith) one-to-eight
+      (widen 9 (missing 14 (isExpression (prepared m t .analysis) e) (isExpression (prepared m t .analysis) e ≡ true) (λ h. h) (λ h. h)) (omega arith))
+
+  -- writing, then 13
+  pub write-chain : (w out : List ℕ) → Level (WriteRows m t w out) (refuses m t ▸ refuseIf (ltb (length out) (length w)) 13 (length w)) 1 14
+  write-chain w out = join (refuses m t) _ (omega arith) (omega arith) one-to-eight (widen 9 (over 13 (length w) (length out) (length w)) (omega arith))
