@@ -8,3 +8,5 @@ pub mod Chain
 pub mod Tokens
 pub mod Refusals
 pub mod Refused
+pub mod Loops
+pub mod Unique
