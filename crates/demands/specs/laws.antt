@@ -10,3 +10,4 @@ pub mod Refusals
 pub mod Refused
 pub mod Loops
 pub mod Unique
+pub mod Meets
