@@ -12,10 +12,13 @@ use Rattle.matching.specs.Nodes.{roomOf, nodesAt}
 use Rattle.preparing.specs.Prepare.{prepared}
 use Rattle.gurkenmond.specs.declared.Outcome.{Outcome}
 use Rattle.gurkenmond.specs.declared.Outcome.the-variants.{Matched, NoMatch, Refused as OutcomeRefused}
-use Rattle.gurkenmond.specs.Calls.{Matching, matching}
-use Rattle.demands.specs.Meant.{meant}
+use Rattle.gurkenmond.specs.declared.Way.{Way}
+use Rattle.gurkenmond.specs.declared.Way.the-variants.{Refused as WayRefused}
+use Rattle.gurkenmond.specs.Calls.{Matching, matching, LakeAnswer}
+use Rattle.demands.specs.Meant.{meant, rightAt, alternativesAt}
 use Rattle.demands.specs.Offends.{Fits, TooDeep, NoRoom}
-use Rattle.demands.specs.Rows.{MatchRows, FirstRow, NoRow}
+use Rattle.demands.specs.Rows.{MatchRows, LakeRows, FirstRow, NoRow}
+use Rattle.demands.specs.Ways.{Ways}
 
 -- R
 abbrev pub symbolsIn : Mode → List ℕ → ℕ
@@ -47,3 +50,9 @@ pub data Meets (m : Mode) (t s cs ws : List ℕ) : Matching → Type 0 where
       → Meets m t s cs ws (matching 0 (OutcomeRefused 11 j) c ws)
   no-room : {k j : ℕ} {c : List ℕ} {ns : List Node} → NoRow (MatchRows m t s cs) → Tabled m t s cs c → Derives (meant m t) s 0 (sym 0) 0 (suc k) ns → NoRoom (roomOf ws) ns j
       → Meets m t s cs ws (matching 0 (OutcomeRefused 12 j) c ws)
+
+-- the same of the lake question, for lake l at place q
+pub data MeetsLake (m : Mode) (t s cs : List ℕ) (l q : ℕ) : LakeAnswer → Type 0 where
+  lake-refused : {k p : ℕ} → FirstRow (LakeRows m t s cs l q) k p → MeetsLake m t s cs l q (record { way = WayRefused k p; cells = cs })
+  lake-answered : {w : Way} {c : List ℕ} → NoRow (LakeRows m t s cs l q) → Tabled m t s cs c
+      → Ways (meant m t) s 0 (rightAt (prepared m t .grammar) l) (alternativesAt (prepared m t .grammar) (prepared m t .analysis) l) q w → MeetsLake m t s cs l q (record { way = w; cells = c })

@@ -11,3 +11,4 @@ pub mod Refused
 pub mod Loops
 pub mod Unique
 pub mod Meets
+pub mod MeetsLake

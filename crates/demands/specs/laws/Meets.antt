@@ -51,7 +51,7 @@ rowed R (suc n) i h = go (ltb i (n * R)) refl (λ l. rowed R n i l)
         let l : n * R ≤ i = ltb-false i (n * R) e in
         (n, i - n * R, omega arith, omega (arith, l, h, suc-mul n R), omega (arith, l))
 
-tabled-one : (m : Mode) (t s cs c e : List ℕ) → Tabled m t s cs c → Tabled m t s cs e → c ≡ e
+pub tabled-one : (m : Mode) (t s cs c e : List ℕ) → Tabled m t s cs c → Tabled m t s cs e → c ≡ e
 tabled-one m t s cs c e a b =
     ext-getD 0 c e (a .long ∙ flip (b .long)) (λ i l. at i (ltb i ((length s + 1) * symbolsIn m t)) refl)
   where
@@ -118,7 +118,7 @@ module _ (m : Mode) (t s cs ws : List ℕ) where
     abbrev R : ℕ
     R = symbolsIn m t
 
-    table : Tabled m t s cs (filled (prepared m t) s cs)
+    pub table : Tabled m t s cs (filled (prepared m t) s cs)
     table = record {
       long = filled-length (prepared m t .bodies) s (order (prepared m t .bodies)) cs;
       cell =
