@@ -3,7 +3,7 @@
 use Prim.Native.Nat.{ℕ}
 use mathlib.Core.Bool.{Bool, true, false}
 use mathlib.Core.List.{List, []}
-use mathlib.Core.Option.{Option, none, some}
+use mathlib.Core.Option.{Option, none}
 use lib.ListN.{length, getD}
 use lib.Dec.{ltb}
 use Rattle.tokens.specs.declared.Mode.{Mode}
@@ -15,7 +15,7 @@ use Rattle.sets.specs.Analysis.{Analysis, altOf}
 use Rattle.plain.specs.Plain.{alternatives}
 use Rattle.meaning.specs.Meaning.{Body, rule, lake, Meant}
 use Rattle.matching.specs.Eval.{nowhere}
-use Rattle.preparing.specs.Prepare.{Prepared, prepared}
+use Rattle.preparing.specs.Prepare.{prepared}
 
 -- a lake is its own right side, if it has a rule, and its alternative symbols; a nonterminal is its right side, and refusal 5 sees to it that there is one
 abbrev pub standsFor : Bool → Option (Exp ℕ) → List (Exp ℕ) → Body

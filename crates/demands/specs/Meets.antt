@@ -10,7 +10,6 @@ use Rattle.grammar.specs.Exp.{sym}
 use Rattle.meaning.specs.Meaning.{Node, Derives}
 use Rattle.matching.specs.Nodes.{roomOf, nodesAt}
 use Rattle.preparing.specs.Prepare.{prepared}
-use Rattle.gurkenmond.specs.declared.Outcome.{Outcome}
 use Rattle.gurkenmond.specs.declared.Outcome.the-variants.{Matched, NoMatch, Refused as OutcomeRefused}
 use Rattle.gurkenmond.specs.declared.Way.{Way}
 use Rattle.gurkenmond.specs.declared.Way.the-variants.{Refused as WayRefused}

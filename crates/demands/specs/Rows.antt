@@ -1,28 +1,27 @@
 -- The table of refusals, row by row, in its own words: which number holds, and at which place (01, Refusal numbers, in order of check).
 -- Assumes nothing: these are definitions.
-use Prim.Native.Nat.{ℕ, zero, suc, _+_, _*_, _≤_, _<_}
+use Prim.Native.Nat.{ℕ, zero, suc, _≤_, _<_}
 use mathlib.Core.Path.{_≡_}
 use mathlib.Core.Bool.{Bool, true, false}
-use mathlib.Core.List.{List, [], _∷_, _++_}
+use mathlib.Core.List.{List, _∷_}
 use mathlib.Core.Logic.{_⊎_}
 use mathlib.Core.Option.{Option, none, some}
 use lib.ListN.{length}
-use lib.Dec.{ltb, leb}
 use Rattle.tokens.specs.declared.Mode.{Mode}
 use Rattle.tokens.specs.Token.{Symbol, Lexeme, name, symbol}
 use Rattle.tokens.specs.Tokens.{lexemes}
 use Rattle.tokens.specs.Bounds.{textBound, symbolBound, terminalBound, expressionBound, plainBound, inputBound}
-use Rattle.grammar.specs.Exp.{Exp, Rule}
+use Rattle.grammar.specs.Exp.{Rule}
 use Rattle.grammar.specs.Numbers.{symbolsOf, terminalsOf, expressionsOf}
-use Rattle.grammar.specs.Refusal.{Refusal, refuseIf, refuseAt, _▸_}
-use Rattle.reading.specs.Machine.{start, syntax, wide, judge, placeOf}
-use Rattle.reading.specs.Reading.{tooLong, offence, before, reserved, second, unruled, leftsIn, rulesOf}
+use Rattle.grammar.specs.Refusal.{Refusal}
+use Rattle.reading.specs.Machine.{syntax, wide, placeOf}
+use Rattle.reading.specs.Reading.{before, reserved, rulesOf}
 use Rattle.reading.specs.laws.Bounds.{Says}
 use Rattle.sets.specs.Analysis.{isExpression}
-use Rattle.plain.specs.Plain.{sizes, tooLarge}
-use Rattle.plain.specs.Calls.{callsOf, looping}
+use Rattle.plain.specs.Plain.{sizes}
+use Rattle.plain.specs.Calls.{callsOf}
 use Rattle.plain.specs.laws.Loops.{Smallest}
-use Rattle.preparing.specs.Prepare.{Prepared, prepared}
+use Rattle.preparing.specs.Prepare.{prepared}
 use Rattle.gurkenmond.specs.Calls.{cellsNeeded, isLakeAt}
 
 -- ── the tokens that 4 and 5 speak of ──

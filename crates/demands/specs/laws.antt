@@ -8,6 +8,7 @@ pub mod Chain
 pub mod Tokens
 pub mod Refusals
 pub mod Refused
+pub mod Checks
 pub mod Loops
 pub mod Unique
 pub mod Meets

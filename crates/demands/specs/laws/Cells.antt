@@ -3,13 +3,12 @@
 use Prim.Native.Nat.{ℕ, zero, suc, _+_, _*_, _≤_, _<_}
 use mathlib.Core.Path.{_≡_, refl, ap, ap₂, _∙_, subst}
 use mathlib.Core.Path.{sym as flip}
-use mathlib.Core.Bool.{Bool, true, false}
+use mathlib.Core.Bool.{Bool}
 use mathlib.Core.List.{List, []}
-use mathlib.Core.Option.{Option, none, some}
+use mathlib.Core.Option.{Option, none}
 use native.Mathlib.Omega.{arith}
 use native.Mathlib.Nat.{mul-comm}
 use lib.ListN.{length, getD}
-use lib.Dec.{ltb}
 use borrow.Author.Tests.{le-ltb}
 use Rattle.tokens.specs.Bounds.{inputBound}
 use Rattle.tokens.specs.declared.Mode.{Mode}
@@ -27,13 +26,13 @@ use Rattle.analysis.specs.laws.Marks.{marks-least}
 use Rattle.plain.specs.Calls.{order, loop}
 use Rattle.meaning.specs.Meaning.{Node, Derives}
 use Rattle.meaning.specs.laws.One.{one}
-use Rattle.matching.specs.Eval.{nowhere, bodyOf}
+use Rattle.matching.specs.Eval.{nowhere}
 use Rattle.matching.specs.First.{Markings, Ordered}
 use Rattle.matching.specs.laws.Agrees.{Right}
 use Rattle.matching.specs.laws.Filled.{filled-right, filled-behind, filled-length}
 use Rattle.running.specs.laws.Order.{ordered}
 use Rattle.running.specs.laws.Full.{calls-small}
-use Rattle.preparing.specs.Prepare.{Prepared, prepared, preparedBy, refuses}
+use Rattle.preparing.specs.Prepare.{prepared, preparedBy, refuses}
 use Rattle.preparing.specs.laws.Reads.{clear-sound, clear-loop}
 use Rattle.gurkenmond.specs.Calls.{Matching, cellsNeeded, refusesInput, listingBy, matchBy, filled, matchAfter, matchOf}
 use Rattle.matching.specs.Nodes.{Listing, all, deep, full, listingOf, listOf, wordsOf, roomOf}

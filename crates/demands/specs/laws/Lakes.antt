@@ -1,5 +1,5 @@
 -- Demand 2 on the lake question: the way it answers is the way of the rules, and no other (01, Meaning of a match). Assumes nothing.
-use Prim.Native.Nat.{ℕ, zero, suc, _+_, _≤_, _<_}
+use Prim.Native.Nat.{ℕ, zero, suc, _≤_}
 use mathlib.Core.Path.{_≡_, refl, ap, ap₂, _∙_, subst}
 use mathlib.Core.Path.{sym as flip}
 use mathlib.Core.Bool.{Bool, true, false, not, cond, _&&_, true≢false}
@@ -9,22 +9,20 @@ use native.Mathlib.Omega.{arith}
 use lib.ListN.{length, getD}
 use lib.Dec.{ltb, leb, eqb}
 use borrow.Author.Tests.{ltb-true, ltb-false, lt-ltb, le-ltb, le-leb, ne-eqb}
-use Rattle.tokens.specs.Token.{any, name}
+use Rattle.tokens.specs.Token.{name}
 use Rattle.tokens.specs.Bounds.{inputBound}
 use Rattle.tokens.specs.declared.Mode.{Mode}
-use Rattle.grammar.specs.Exp.{Exp, ter, never}
+use Rattle.grammar.specs.Exp.{Exp}
 use Rattle.grammar.specs.Lakes.{waterOf}
 use Rattle.grammar.specs.Numbers.{isLake}
 use Rattle.grammar.specs.Refusal.{Refusal, refuseIf, _▸_}
-use Rattle.sets.specs.Intermediate.{waterIn}
-use Rattle.sets.specs.Analysis.{altOf}
-use Rattle.meaning.specs.Meaning.{Body, lake, Meant, Node, own, wet, some-of, Tries, own-none, own-is, dry-end, dry, wet-is, none-of, this-one, later-one, Derives}
+use Rattle.meaning.specs.Meaning.{lake, Meant, Node, own, wet, some-of, Tries, own-none, own-is, dry-end, dry, wet-is, none-of, this-one, later-one, Derives}
 use Rattle.meaning.specs.laws.One.{one}
 use Rattle.matching.specs.Eval.{leafAt, neverOf, ev}
 use Rattle.matching.specs.laws.Agrees.{Right}
 use Rattle.matching.specs.laws.Whole.{Holds, evaluated}
 use Rattle.asking.specs.Asking.{noneMatches, ownTakes, wayNumber, wayIn}
-use Rattle.preparing.specs.Prepare.{Prepared, prepared, refuses}
+use Rattle.preparing.specs.Prepare.{prepared, refuses}
 use Rattle.gurkenmond.specs.declared.Way.{Way}
 use Rattle.gurkenmond.specs.declared.Way.the-variants.{Not, ByRule, ByWater, BySkip}
 use Rattle.gurkenmond.specs.Calls.{LakeAnswer, cellsNeeded, refusesInput, filled, isLakeAt, wayOf, lakeAfter, lakeOf, matchOf}

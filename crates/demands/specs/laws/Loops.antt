@@ -9,7 +9,6 @@ use mathlib.Core.Option.{none}
 use native.Mathlib.Omega.{arith}
 use lib.ListN.{length, getD}
 use Rattle.tokens.specs.declared.Mode.{Mode}
-use Rattle.grammar.specs.Exp.{Exp}
 use Rattle.grammar.specs.Numbers.{Grammar, numbered}
 use Rattle.reading.specs.Reading.{refusesText, rulesOf}
 use Rattle.sets.specs.Analysis.{terminalIn}

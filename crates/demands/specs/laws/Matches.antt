@@ -4,14 +4,14 @@ use Prim.Native.Nat.{ℕ, zero, suc, _+_, _*_, _≤_, _<_}
 use mathlib.Core.Path.{_≡_, refl, ap, ap₂, _∙_, subst}
 use mathlib.Core.Path.{sym as flip}
 use mathlib.Core.Bool.{true}
-use mathlib.Core.List.{List, [], _∷_, _++_}
-use mathlib.Core.Logic.{_⊎_, inl, inr}
+use mathlib.Core.List.{List, [], _∷_}
+use mathlib.Core.Logic.{inl, inr}
 use mathlib.Core.Option.{none}
 use native.Mathlib.Omega.{arith}
 use lib.ListN.{length, getD, length-append}
 use Rattle.tokens.specs.Bounds.{inputBound, nodeWords}
 use Rattle.tokens.specs.declared.Mode.{Mode}
-use Rattle.grammar.specs.Exp.{Exp, Rule, sym}
+use Rattle.grammar.specs.Exp.{Rule, sym}
 use Rattle.grammar.specs.Syntax.{Rules, rule, more}
 use Rattle.grammar.specs.Trees.{trees, treeC, ruled}
 use Rattle.grammar.specs.Numbers.{leftSides, looseLakes, symbolsOf, numbered}
@@ -19,11 +19,11 @@ use Rattle.reading.specs.Reading.{rulesOf}
 use Rattle.texts.specs.laws.Own.{lefts-long}
 use Rattle.meaning.specs.Meaning.{Node, Derives}
 use Rattle.meaning.specs.laws.One.{one}
-use Rattle.matching.specs.Nodes.{Listing, all, deep, full, listingOf, listOf, written, wordsOf, roomOf, nodesAt, soundAt, nodeText, partOf}
+use Rattle.matching.specs.Nodes.{Listing, deep, full, listingOf, wordsOf, roomOf, nodesAt, soundAt, nodeText, partOf}
 use Rattle.matching.specs.laws.Cut.{IsAll}
 use Rattle.matching.specs.laws.Words.{words-length, words-behind, words-refused, words-back, match-sound, match-text}
 use Rattle.matching.specs.laws.Whole.{listed}
-use Rattle.preparing.specs.Prepare.{Prepared, prepared, preparedBy, refuses}
+use Rattle.preparing.specs.Prepare.{prepared, preparedBy, refuses}
 use Rattle.preparing.specs.laws.Reads.{grammar-read, clear-text}
 use Rattle.gurkenmond.specs.declared.Match.{Match}
 use Rattle.gurkenmond.specs.declared.Outcome.{Outcome}

@@ -1,10 +1,10 @@
 -- The plain bodies, which the calls evaluate, are those of what the symbols stand for: each lake's is its own right side, then water, then one byte where no
 -- alternative symbol matches (01, Lakes made plain). Assumes nothing.
 use Prim.Native.Nat.{ℕ, _+_, _≤_, _<_}
-use mathlib.Core.Path.{_≡_, refl, sym, ap, ap₂, _∙_, subst, fun-ext}
+use mathlib.Core.Path.{_≡_, refl, sym, ap, _∙_, subst, fun-ext}
 use mathlib.Core.Bool.{Bool, true, false}
 use mathlib.Core.List.{List, [], _++_, map}
-use mathlib.Core.Option.{Option, none, some}
+use mathlib.Core.Option.{Option, none}
 use native.Mathlib.Omega.{arith}
 use lib.ListN.{length, getD, replicate, length-map, length-append, length-replicate, List·getD-eq-default}
 use lib.Dec.{ltb}
@@ -19,7 +19,6 @@ use Rattle.sets.specs.Analysis.{Analysis, analysis, altOf}
 use Rattle.sets.specs.laws.Lists.{getD-any}
 use Rattle.lakes.specs.laws.Next.{bodies-at, bodies-long as middle-long}
 use Rattle.plain.specs.Plain.{alternatives, plainBy, plainBodies}
-use Rattle.translation.specs.Stepped.{plainOf as plainBodiesOf}
 use Rattle.translation.specs.laws.Bodies.{plain-at}
 use Rattle.texts.specs.laws.Own.{lefts-long}
 use Rattle.texts.specs.laws.Plain.{bodies-long}

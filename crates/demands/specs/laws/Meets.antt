@@ -5,7 +5,7 @@ use mathlib.Core.Path.{_≡_, refl, ap, ap₂, _∙_, subst}
 use mathlib.Core.Path.{sym as flip}
 use mathlib.Core.Bool.{Bool, true, false}
 use mathlib.Core.List.{List, [], _∷_}
-use mathlib.Core.Logic.{_⊎_, inl, inr}
+use mathlib.Core.Logic.{inl, inr}
 use mathlib.Core.Option.{Option, none, some}
 use native.Mathlib.Omega.{arith}
 use native.Mathlib.Nat.{suc-mul, mul-comm}
@@ -23,19 +23,17 @@ use Rattle.plain.specs.Calls.{order}
 use Rattle.matching.specs.Nodes.{roomOf, wordsOf, nodeAt, nodesAt}
 use Rattle.matching.specs.laws.Filled.{filled-length}
 use Rattle.preparing.specs.Prepare.{prepared, refuses}
-use Rattle.gurkenmond.specs.declared.Outcome.{Outcome}
 use Rattle.gurkenmond.specs.declared.Outcome.the-variants.{Matched, NoMatch, Refused as OutcomeRefused}
 use Rattle.gurkenmond.specs.Calls.{Matching, matching, cellsNeeded, refusesInput, filled, matchOf}
 use Rattle.demands.specs.Meant.{meant}
-use Rattle.demands.specs.Offends.{Fits, TooDeep, NoRoom}
-use Rattle.demands.specs.Rows.{MatchRows, FirstRow, NoRow}
+use Rattle.demands.specs.Offends.{Fits}
+use Rattle.demands.specs.Rows.{MatchRows, NoRow}
 use Rattle.demands.specs.Meets.{symbolsIn, Tabled, Listed, Meets, refused, fails, takes, too-deep, no-room}
 use Rattle.demands.specs.laws.Meant.{bodies-many, from-plain}
 use Rattle.demands.specs.laws.Offends.{OneOf, one-of}
 use Rattle.demands.specs.laws.Cells.{filled-as-meant, filled-later}
 use Rattle.demands.specs.laws.Matches.{start-meant, not-matched, matched, nodes-back, nodes-behind, nodes-many}
 use Rattle.demands.specs.laws.Matches.{too-deep as too-deep-is, no-room as no-room-is}
-use Rattle.demands.specs.laws.Chain.{Level}
 use Rattle.demands.specs.laws.Refusals.{match-chain}
 use Rattle.demands.specs.laws.Refused.{match-refused, match-passes}
 

@@ -1,10 +1,10 @@
 -- The lake question meets what the rules of the meaning and the table of refusals say of it, and nothing else does: answer and cells
 -- (01, What the promises have to nail). Assumes nothing.
 use Prim.Native.Nat.{ℕ, _≤_}
-use mathlib.Core.Path.{_≡_, refl, sym, ap, ap₂, _∙_, subst}
+use mathlib.Core.Path.{_≡_, refl, sym, ap₂, _∙_, subst}
 use mathlib.Core.Bool.{Bool, true, false, not, _&&_, true≢false}
 use mathlib.Core.List.{List, []}
-use mathlib.Core.Logic.{_⊎_, inl, inr}
+use mathlib.Core.Logic.{inl, inr}
 use mathlib.Core.Option.{Option, none, some}
 use lib.ListN.{length}
 use lib.Dec.{leb}
@@ -16,12 +16,11 @@ use Rattle.preparing.specs.Prepare.{prepared, refuses}
 use Rattle.gurkenmond.specs.declared.Way.{Way}
 use Rattle.gurkenmond.specs.Calls.{LakeAnswer, refusesInput, filled, isLakeAt, lakeOf}
 use Rattle.demands.specs.Meant.{meant, rightAt, alternativesAt}
-use Rattle.demands.specs.Rows.{MatchRows, LakeRows, FirstRow, NoRow}
+use Rattle.demands.specs.Rows.{MatchRows, LakeRows, NoRow}
 use Rattle.demands.specs.Ways.{Ways}
 use Rattle.demands.specs.Meets.{Tabled, MeetsLake, lake-refused, lake-answered}
 use Rattle.demands.specs.laws.Cells.{cells-filled}
 use Rattle.demands.specs.laws.Lakes.{lake-only, lake-meant, lake-cells}
-use Rattle.demands.specs.laws.Chain.{Level}
 use Rattle.demands.specs.laws.Refusals.{lake-chain}
 use Rattle.demands.specs.laws.Refused.{match-passes}
 use Rattle.demands.specs.laws.Refused.{lake-refused as lake-refused-is}

@@ -10,7 +10,7 @@ use lib.Dec.{ltb}
 use borrow.Author.Tests.{ltb-true, ltb-false}
 use Rattle.tokens.specs.Bounds.{depthBound}
 use Rattle.meaning.specs.Meaning.{Node}
-use Rattle.matching.specs.Nodes.{Listing, all, deep, full, listingOf}
+use Rattle.matching.specs.Nodes.{all, deep, full, listingOf}
 use Rattle.matching.specs.laws.Cut.{listing-deep, listing-full, listing-next}
 use Rattle.demands.specs.Offends.{Shallow, Fits, Reaches, TooDeep, NoRoom}
 

@@ -1,34 +1,34 @@
 -- The whole chain of refusals, on the public definitions: refused k at p exactly if row k of the table holds at p and no earlier row holds anywhere
 -- (01, Refusal numbers, in order of check; "the table's exact conditions"). Assumes nothing.
-use Prim.Native.Nat.{ℕ, zero, suc, _+_, _*_, _^_, _≤_, _<_}
+use Prim.Native.Nat.{ℕ, suc, _≤_, _<_}
 use mathlib.Core.Path.{_≡_, refl, sym, ap, ap₂, _∙_, subst}
 use mathlib.Core.Bool.{Bool, true, false, not, _&&_, true≢false}
-use mathlib.Core.List.{List, [], _∷_}
-use mathlib.Core.Logic.{_⊎_, inl, inr, _↔_}
+use mathlib.Core.List.{List, []}
+use mathlib.Core.Logic.{_⊎_, inl, inr}
 use mathlib.Core.Option.{Option, none, some}
 use native.Mathlib.Omega.{arith}
-use lib.ListN.{length, getD}
+use lib.ListN.{length}
 use lib.Dec.{ltb, leb}
 use borrow.Author.Tests.{ltb-true, ltb-false, lt-ltb, le-ltb, le-leb, leb-true}
 use Rattle.tokens.specs.declared.Mode.{Mode}
 use Rattle.tokens.specs.Token.{Lexeme}
-use Rattle.tokens.specs.Tokens.{lexemes, toksOf}
+use Rattle.tokens.specs.Tokens.{lexemes}
 use Rattle.tokens.specs.Bounds.{textBound, symbolBound, terminalBound, expressionBound, plainBound, inputBound}
 use Rattle.grammar.specs.Exp.{Exp, Rule}
 use Rattle.grammar.specs.Numbers.{symbolsOf, terminalsOf, expressionsOf}
 use Rattle.grammar.specs.Refusal.{Refusal, refusal, refuseIf, refuseAt, _▸_}
 use Rattle.reading.specs.Machine.{start, Judged, fine, syntax, wide, judge, placeOf}
-use Rattle.reading.specs.Reading.{tooLong, offence, second, unruled, leftsIn, tooMany, rulesIn, refusesText, rulesOf}
+use Rattle.reading.specs.Reading.{tooLong, offence, second, unruled, leftsIn, tooMany, refusesText, rulesOf}
 use Rattle.reading.specs.laws.Bounds.{Says, judged, one-answer}
 use Rattle.scanning.specs.laws.Chain.{assoc}
 use Rattle.plain.specs.Plain.{sizes, tooLarge}
 use Rattle.plain.specs.Calls.{callsOf, loop, loopFrom, looping}
 use Rattle.plain.specs.laws.Loops.{Smallest, Found, found}
-use Rattle.preparing.specs.Prepare.{Prepared, prepared, refuses}
+use Rattle.preparing.specs.Prepare.{prepared, refuses}
 use Rattle.preparing.specs.laws.Loads.{some-none}
 use Rattle.gurkenmond.specs.Calls.{cellsNeeded, refusesInput, isLakeAt}
 use Rattle.sets.specs.Analysis.{isExpression}
-use Rattle.demands.specs.Rows.{FirstToken, Doubled, Ruleless, TooMany, symbols, terminals, expressions, Over, Row1, Row2, Row3, Row4, Row5, Row6, Row7, Row8, Rows, MatchRows, LakeRows, SetsRows, WriteRows, Tells}
+use Rattle.demands.specs.Rows.{FirstToken, Doubled, Ruleless, TooMany, symbols, terminals, expressions, Row2, Row3, Row4, Row5, Rows, MatchRows, LakeRows, SetsRows, WriteRows}
 use Rattle.demands.specs.laws.Chain.{Level, level, widen, join, over, found-at, missing, same-refusal}
 use Rattle.demands.specs.laws.Tokens.{finds-so, finds-it, finds-doubled, finds-ruleless}
 

@@ -1,8 +1,8 @@
 -- What each public call answers where it refuses, and when it does: exactly by the first row of the table that holds, with all lent memory untouched
 -- (01, Refusal numbers: "A refusal that is checked no later than 10 leaves all lent memory untouched"). Assumes nothing.
-use Prim.Native.Nat.{ℕ, zero, suc, _+_, _*_, _≤_, _<_}
-use mathlib.Core.Path.{_≡_, refl, sym, ap, ap₂, _∙_, subst}
-use mathlib.Core.Bool.{Bool, true, false, not, _&&_, true≢false}
+use Prim.Native.Nat.{ℕ, zero, suc, _≤_, _<_}
+use mathlib.Core.Path.{_≡_, refl, sym, ap, _∙_}
+use mathlib.Core.Bool.{Bool, true, false, not, _&&_}
 use mathlib.Core.List.{List}
 use mathlib.Core.Option.{Option, none, some}
 use native.Mathlib.Omega.{arith}
@@ -19,7 +19,7 @@ use Rattle.writing.specs.Writing.{text}
 use Rattle.matching.specs.Nodes.{Listing, all, deep, full, listOf, listingOf, wordsOf, roomOf}
 use Rattle.preparing.specs.declared.Verdict.{Verdict}
 use Rattle.preparing.specs.declared.Verdict.the-variants.{Accepted, Refused as VerdictRefused}
-use Rattle.preparing.specs.Prepare.{Prepared, prepared, refuses}
+use Rattle.preparing.specs.Prepare.{prepared, refuses}
 use Rattle.preparing.specs.Reads.{verdictOf, readBy, readOf}
 use Rattle.preparing.specs.laws.Loads.{some-none}
 use Rattle.gurkenmond.specs.declared.Outcome.{Outcome}
@@ -28,11 +28,10 @@ use Rattle.gurkenmond.specs.declared.Way.{Way}
 use Rattle.gurkenmond.specs.declared.Way.the-variants.{Not, ByRule, ByWater, BySkip, Refused as WayRefused}
 use Rattle.gurkenmond.specs.declared.Written.{Written}
 use Rattle.gurkenmond.specs.declared.Written.the-variants.{Bytes, Refused as WrittenRefused}
-use Rattle.gurkenmond.specs.Calls.{noSets, setsBy, setsOf, lakesBy, cannotSkipOf, cellsNeeded, refusesInput, Matching, matching, listingBy, matchBy, filled, matchAfter, matchOf, isLakeAt, wayOf, LakeAnswer, lakeAfter, lakeOf, Writing, writeAfter, writeOwnOf, writePlainOf}
+use Rattle.gurkenmond.specs.Calls.{noSets, setsBy, setsOf, lakesBy, cannotSkipOf, cellsNeeded, refusesInput, matching, listingBy, matchBy, filled, matchAfter, matchOf, isLakeAt, wayOf, lakeAfter, lakeOf, writeAfter, writeOwnOf, writePlainOf}
 use Rattle.asking.specs.Asking.{wayIn}
 use Rattle.sets.specs.Analysis.{altOf}
 use Rattle.demands.specs.Rows.{Rows, MatchRows, LakeRows, SetsRows, WriteRows, Tells, FirstRow, NoRow}
-use Rattle.demands.specs.laws.Chain.{Level}
 use Rattle.demands.specs.laws.Refusals.{one-to-eight, match-chain, lake-chain, sets-chain, write-chain}
 
 -- ── a refusal in an answer ──
