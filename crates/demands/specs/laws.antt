@@ -10,6 +10,7 @@ pub mod Refusals
 pub mod Refused
 pub mod Checks
 pub mod Loops
+pub mod Sets
 pub mod Unique
 pub mod Meets
 pub mod MeetsLake

@@ -37,7 +37,7 @@ made-plain true w o ss = refl
 made-plain false w o ss = refl
 
 -- a right side, or none, for each symbol
-rights-many : (rs : List Rule) → length (numbered rs .names) ≡ length (numbered rs .rights)
+pub rights-many : (rs : List Rule) → length (numbered rs .names) ≡ length (numbered rs .rights)
 unfolding numbered symbolsOf
 rights-many rs =
     let k : length {A = Option (Exp ℕ)} (replicate (length (looseLakes rs)) none) ≡ length (looseLakes rs) = length-replicate (length (looseLakes rs)) none in
