@@ -11,6 +11,7 @@ pub mod Refused
 pub mod Checks
 pub mod Loops
 pub mod Sets
+pub mod Skips
 pub mod Unique
 pub mod Meets
 pub mod MeetsLake

@@ -2,7 +2,7 @@
 -- the least that satisfy the rules of BEGINNING, SUCCEED and ALT, and the first round whose next is equal (01, Lakes made plain: "All are least"; "The reported
 -- count is the first k whose next round is equal"). Assumes nothing.
 use Prim.Native.Nat.{ℕ}
-use mathlib.Core.Path.{_≡_, refl, sym, ap, ap₂, _∙_}
+use mathlib.Core.Path.{_≡_, ap, ap₂}
 use mathlib.Core.Bool.{Bool, true, not}
 use mathlib.Core.List.{List}
 use mathlib.Core.Option.{Option, none}
