@@ -1,0 +1,44 @@
+-- What the symbols of a grammar text stand for, its lakes as lakes: what demand 2 holds a match to (01, Meaning of a match; 01, Lakes made plain).
+-- Assumes nothing: these are definitions.
+use Prim.Native.Nat.{ℕ}
+use mathlib.Core.Bool.{Bool, true, false}
+use mathlib.Core.List.{List, []}
+use mathlib.Core.Option.{Option, none}
+use lib.ListN.{length, getD}
+use lib.Dec.{ltb}
+use Rattle.tokens.specs.declared.Mode.{Mode}
+use Rattle.tokens.specs.Token.{name}
+use Rattle.grammar.specs.Exp.{Exp}
+use Rattle.grammar.specs.Numbers.{Grammar, isLake}
+use Rattle.sets.specs.Intermediate.{waterIn, rightOr}
+use Rattle.sets.specs.Analysis.{Analysis, altOf}
+use Rattle.plain.specs.Plain.{alternatives}
+use Rattle.meaning.specs.Meaning.{Body, rule, lake, Meant}
+use Rattle.matching.specs.Eval.{nowhere}
+use Rattle.preparing.specs.Prepare.{prepared}
+
+-- a lake is its own right side, if it has a rule, and its alternative symbols; a nonterminal is its right side, and refusal 5 sees to it that there is one
+abbrev pub standsFor : Bool → Option (Exp ℕ) → List (Exp ℕ) → Body
+standsFor true o ss = lake o ss
+standsFor false o ss = rule (rightOr o)
+
+-- the right side of symbol r, if it has a rule
+abbrev pub rightAt : Grammar → ℕ → Option (Exp ℕ)
+rightAt g r = getD (g .rights) r none
+
+-- "the s being the nonterminals of ALT(b) by number, then its terminals by number. Lakes in ALT(b) are dropped; only the s are the lake's alternative
+-- symbols, in the match too"
+abbrev pub alternativesAt : Grammar → Analysis → ℕ → List (Exp ℕ)
+alternativesAt g a r = alternatives g (altOf a r)
+
+-- a symbol that there is not matches nowhere
+abbrev pub standsIn : Bool → Grammar → Analysis → ℕ → Body
+standsIn true g a r = standsFor (isLake (getD (g .names) r (name []))) (rightAt g r) (alternativesAt g a r)
+standsIn false g a r = rule nowhere
+
+abbrev pub meantOf : Grammar → Analysis → Meant
+meantOf g a = record { body = λ (r : ℕ). standsIn (ltb r (length (g .names))) g a r; water = waterIn g }
+
+-- of a grammar text
+abbrev pub meant : Mode → List ℕ → Meant
+meant m t = meantOf (prepared m t .grammar) (prepared m t .analysis)

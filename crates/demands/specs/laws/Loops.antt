@@ -1,0 +1,54 @@
+-- Row 8 in the document's words: "a loop is a symbol that reaches itself", of a text that 1 to 6 let through, by the first calls of its plain bodies
+-- (01, Lakes made plain). Assumes nothing.
+use Prim.Native.Nat.{ℕ, _^_, _<_}
+use mathlib.Core.Path.{_≡_, sym, subst}
+use mathlib.Core.Bool.{true}
+use mathlib.Core.List.{List}
+use mathlib.Core.Logic.{_↔_}
+use mathlib.Core.Option.{none}
+use native.Mathlib.Omega.{arith}
+use lib.ListN.{length, getD}
+use Rattle.tokens.specs.declared.Mode.{Mode}
+use Rattle.grammar.specs.Numbers.{Grammar, numbered}
+use Rattle.reading.specs.Reading.{refusesText, rulesOf}
+use Rattle.sets.specs.Analysis.{terminalIn}
+use Rattle.sets.specs.Proper.{SoundAll}
+use Rattle.accepted.specs.laws.Dot.{dot-in}
+use Rattle.plain.specs.Calls.{callsOf, holds, reach}
+use Rattle.plain.specs.laws.Loops.{Reaches, reach-is, Smallest}
+use Rattle.translation.specs.laws.Proper.{plain-proper}
+use Rattle.running.specs.laws.Full.{calls-small}
+use Rattle.preparing.specs.Prepare.{prepared, preparedBy}
+use Rattle.preparing.specs.laws.Reads.{is-good}
+use Rattle.demands.specs.laws.Meant.{bodies-many}
+
+-- p is the smallest symbol that reaches itself, one first call after the other
+pub record OnLoop (calls : List ℕ) (p : ℕ) : Type 0 where
+  pub within : p < length calls
+  pub loops : Reaches calls p p
+  pub smallest : (y : ℕ) → y < p → Reaches calls y y → ⊥
+
+module _ (m : Mode) (t : List ℕ) (ok : refusesText m t ≡ none) where
+  abbrev calls : List ℕ
+  calls = callsOf (prepared m t .bodies)
+
+  small : (r : ℕ) → getD calls r 0 < 2 ^ length calls
+  unfolding prepared preparedBy
+  small =
+      let g : Grammar = numbered (rulesOf m t) in
+      let w = is-good m t ok in
+      calls-small (terminalIn g) (length (g .terminals)) (prepared m t .bodies)
+      (subst (λ (n : ℕ). SoundAll (terminalIn g) n (length (g .terminals)) (prepared m t .bodies)) (sym (bodies-many m t))
+      (plain-proper g (w .proper) (w .once) (w .none-empty) (omega (arith, dot-in (rulesOf m t)))))
+
+  pub reaches-is : (x : ℕ) → (holds (reach calls x) x ≡ true) ↔ Reaches calls x x
+  reaches-is x = reach-is calls x small x
+
+  pub smallest-loop : (p : ℕ) → Smallest calls (length calls) 0 p ↔ OnLoop calls p
+  smallest-loop p = (there, back)
+    where
+      there : Smallest calls (length calls) 0 p → OnLoop calls p
+      there s = record { within = omega (arith, s .high); loops = reaches-is p .0 (s .loops); smallest = λ y l r. s .before y (omega arith) l (reaches-is y .1 r) }
+
+      back : OnLoop calls p → Smallest calls (length calls) 0 p
+      back s = record { low = omega arith; high = omega (arith, s .within); loops = reaches-is p .1 (s .loops); before = λ y k l h. s .smallest y l (reaches-is y .0 h) }

@@ -1,0 +1,74 @@
+-- The lake question meets what the rules of the meaning and the table of refusals say of it, and nothing else does: answer and cells
+-- (01, What the promises have to nail). Assumes nothing.
+use Prim.Native.Nat.{ℕ, _≤_}
+use mathlib.Core.Path.{_≡_, refl, sym, ap₂, _∙_, subst}
+use mathlib.Core.Bool.{Bool, true, false, not, _&&_, true≢false}
+use mathlib.Core.List.{List, []}
+use mathlib.Core.Logic.{inl, inr}
+use mathlib.Core.Option.{Option, none, some}
+use lib.ListN.{length}
+use lib.Dec.{leb}
+use borrow.Author.Tests.{le-leb, leb-true}
+use Rattle.tokens.specs.declared.Mode.{Mode}
+use Rattle.grammar.specs.Exp.{Exp}
+use Rattle.grammar.specs.Refusal.{Refusal, refuseIf, _▸_}
+use Rattle.preparing.specs.Prepare.{prepared, refuses}
+use Rattle.gurkenmond.specs.declared.Way.{Way}
+use Rattle.gurkenmond.specs.Calls.{LakeAnswer, refusesInput, filled, isLakeAt, lakeOf}
+use Rattle.demands.specs.Meant.{meant, rightAt, alternativesAt}
+use Rattle.demands.specs.Rows.{MatchRows, LakeRows, NoRow}
+use Rattle.demands.specs.Ways.{Ways}
+use Rattle.demands.specs.Meets.{Tabled, MeetsLake, lake-refused, lake-answered}
+use Rattle.demands.specs.laws.Cells.{cells-filled}
+use Rattle.demands.specs.laws.Lakes.{lake-only, lake-meant, lake-cells}
+use Rattle.demands.specs.laws.Refusals.{lake-chain}
+use Rattle.demands.specs.laws.Refused.{match-passes}
+use Rattle.demands.specs.laws.Refused.{lake-refused as lake-refused-is}
+use Rattle.demands.specs.laws.Meets.{tabled-one, table}
+
+module _ (m : Mode) (t s cs : List ℕ) (l q : ℕ) where
+  abbrev own : Option (Exp ℕ)
+  own = rightAt (prepared m t .grammar) l
+
+  abbrev others : List (Exp ℕ)
+  others = alternativesAt (prepared m t .grammar) (prepared m t .analysis) l
+
+  module _ (z : NoRow (LakeRows m t s cs l q)) where
+    no-match-row : NoRow (MatchRows m t s cs)
+    no-match-row j p r = z j p (inl r)
+
+    there : (isLakeAt (prepared m t) l ≡ true) × (q ≤ length s)
+    there = go (isLakeAt (prepared m t) l) (leb q (length s)) refl refl
+      where
+        go : (a b : Bool) → isLakeAt (prepared m t) l ≡ a → leb q (length s) ≡ b → (isLakeAt (prepared m t) l ≡ true) × (q ≤ length s)
+        go true true e f = (e, leb-true q (length s) f)
+        go true false e f = absurd (z 14 0 (inr (refl, refl, λ h. true≢false (sym (le-leb q (length s) (h .1)) ∙ f))))
+        go false b e f = absurd (z 14 0 (inr (refl, refl, λ h. true≢false (sym (h .0) ∙ e))))
+
+    way-is : Ways (meant m t) s 0 own others q (lakeOf m t s cs l q .way)
+    way-is = let w = match-passes m t s cs [] no-match-row in lake-meant m t s cs l q (w .0) (w .1) (w .2) (there .0) (there .1) 0
+
+    way-only : {w : Way} → Ways (meant m t) s 0 own others q w → lakeOf m t s cs l q .way ≡ w
+    way-only h = let w = match-passes m t s cs [] no-match-row in lake-only m t s cs l q (w .0) (w .1) (w .2) (there .0) (there .1) h
+
+    cells-are : lakeOf m t s cs l q .cells ≡ filled (prepared m t) s cs
+    cells-are =
+        let w = match-passes m t s cs [] no-match-row in
+        lake-cells m t s cs l q (w .0) (w .1) (w .2) (there .0) (there .1) [] ∙ cells-filled m t s cs [] (w .0) (w .1) (w .2)
+
+    cells-tabled : Tabled m t s cs (lakeOf m t s cs l q .cells)
+    cells-tabled = subst (Tabled m t s cs) (sym cells-are) (table m t s cs [] no-match-row)
+
+  pub lake-meets : MeetsLake m t s cs l q (lakeOf m t s cs l q)
+  lake-meets = go (refuses m t ▸ (refusesInput (prepared m t) s cs ▸ refuseIf (not (isLakeAt (prepared m t) l && leb q (length s))) 14 0)) refl
+    where
+      go : (o : Option Refusal) → (refuses m t ▸ (refusesInput (prepared m t) s cs ▸ refuseIf (not (isLakeAt (prepared m t) l && leb q (length s))) 14 0)) ≡ o → MeetsLake m t s cs l q (lakeOf m t s cs l q)
+      go none e = let z = lake-chain m t s cs l q .tells .silent e in lake-answered z (cells-tabled z) (way-is z)
+      go (some r) e =
+          let f = lake-chain m t s cs l q .tells .says r e in
+          subst (MeetsLake m t s cs l q) (sym (lake-refused-is m t s cs l q {k = r .number} {p = r .place} f)) (lake-refused f)
+
+  pub lake-meets-only : {x : LakeAnswer} → MeetsLake m t s cs l q x → x ≡ lakeOf m t s cs l q
+  lake-meets-only (lake-refused f) = sym (lake-refused-is m t s cs l q f)
+  lake-meets-only (lake-answered {w = w} {c = c} z a h) =
+      ap₂ (λ (v : Way) (e : List ℕ). record { way = v; cells = e }) (sym (way-only z h)) (tabled-one m t s cs c (lakeOf m t s cs l q .cells) a (cells-tabled z))
