@@ -2,12 +2,12 @@
 -- Assumes nothing: these are definitions.
 use Prim.Native.Nat.{ℕ, zero, suc, _+_, _-_, _*_}
 use mathlib.Core.Bool.{Bool, false, not, _&&_}
-use mathlib.Core.List.{List, [], _∷_, _++_}
+use mathlib.Core.List.{List, [], _++_}
 use mathlib.Core.Option.{Option, none, some}
 use lib.ListN.{length, getD, drop}
 use lib.Dec.{leb, ltb}
 use Rattle.tokens.specs.declared.Mode.{Mode}
-use Rattle.tokens.specs.Token.{Symbol, name}
+use Rattle.tokens.specs.Token.{name}
 use Rattle.tokens.specs.Bounds.{inputBound}
 use Rattle.grammar.specs.Exp.{Exp}
 use Rattle.grammar.specs.Numbers.{isLake}

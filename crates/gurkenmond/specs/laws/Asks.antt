@@ -1,12 +1,12 @@
 -- The lake question, from what its parts answer. Assumes nothing.
 use Prim.Native.Nat.{ℕ, zero, suc, _+_, _*_, _≤_, _<_}
-use mathlib.Core.Path.{_≡_, refl, sym, ap, ap₂, _∙_, subst}
+use mathlib.Core.Path.{_≡_, refl, sym, ap, ap₂, _∙_}
 use mathlib.Core.Bool.{Bool, true, false, not, _&&_, true≢false}
 use mathlib.Core.List.{List, []}
 use mathlib.Core.Option.{Option, none, some}
 use native.Mathlib.Omega.{arith}
 use lib.ListN.{length, getD}
-use lib.Dec.{ltb, leb}
+use lib.Dec.{leb}
 use borrow.Author.Tests.{lt-ltb, le-ltb, lt-leb, le-leb}
 use Rattle.tokens.specs.Token.{name}
 use Rattle.tokens.specs.declared.Mode.{Mode}
@@ -28,13 +28,12 @@ use Rattle.asking.specs.Asking.{wayIn}
 use Rattle.asking.specs.laws.Tables.{way-is}
 use Rattle.preparing.specs.declared.Counted.{Counted}
 use Rattle.preparing.specs.declared.Verdict.{Verdict}
-use Rattle.preparing.specs.declared.Verdict.the-variants.{Accepted, Refused as VerdictRefused}
-use Rattle.preparing.specs.Prepare.{Prepared, prepared, preparedBy, refuses}
+use Rattle.preparing.specs.declared.Verdict.the-variants.{Refused as VerdictRefused}
+use Rattle.preparing.specs.Prepare.{Prepared, prepared, preparedBy}
 use Rattle.preparing.specs.Reads.{verdictOf, isRefused, readOf}
 use Rattle.preparing.specs.Loads.{Stands}
 use Rattle.preparing.specs.laws.Reads.{clear-good, clear-loop}
 use Rattle.gurkenmond.specs.declared.Way.{Way}
-use Rattle.gurkenmond.specs.declared.Way.the-variants.{Refused as WayRefused}
 use Rattle.gurkenmond.specs.Calls.{LakeAnswer, refusesInput, filled, isLakeAt, wayOf, lakeAfter, lakeOf}
 use Rattle.gurkenmond.specs.Asks.{notAsked, Standing, SaysWay, Asked}
 use Rattle.gurkenmond.specs.Runs.{Loopless}

@@ -1,5 +1,5 @@
 -- A match, from what its parts answer. Assumes nothing.
-use Prim.Native.Nat.{ℕ, zero, suc, _+_, _-_, _*_, _≤_, _<_}
+use Prim.Native.Nat.{ℕ, suc, _+_, _-_, _*_, _≤_, _<_}
 use mathlib.Core.Path.{_≡_, refl, sym, ap, ap₂, _∙_, subst}
 use mathlib.Core.Bool.{Bool, true, false}
 use mathlib.Core.List.{List}
@@ -18,7 +18,6 @@ use Rattle.grammar.specs.Table.{symbolCount}
 use Rattle.grammar.specs.Holds.{Holds}
 use Rattle.reading.specs.Reading.{rulesOf}
 use Rattle.lakes.specs.Made.{withBodies}
-use Rattle.plain.specs.Calls.{loop, order}
 use Rattle.translation.specs.Stepped.{plainOf}
 use Rattle.filling.specs.Trees.{bodiesOf}
 use Rattle.loops.specs.laws.Trees.{bodies-are}
@@ -33,12 +32,12 @@ use Rattle.listing.specs.Turns.{Ready, said}
 use Rattle.asking.specs.laws.Tables.{body-small}
 use Rattle.preparing.specs.declared.Counted.{Counted}
 use Rattle.preparing.specs.declared.Verdict.{Verdict}
-use Rattle.preparing.specs.declared.Verdict.the-variants.{Accepted, Refused as VerdictRefused}
+use Rattle.preparing.specs.declared.Verdict.the-variants.{Refused as VerdictRefused}
 use Rattle.preparing.specs.Prepare.{Prepared, prepared, preparedBy, refuses}
 use Rattle.preparing.specs.Reads.{verdictOf, isRefused, readOf}
 use Rattle.preparing.specs.laws.Reads.{clear-sound, clear-loop}
 use Rattle.gurkenmond.specs.declared.Match.{Match}
-use Rattle.gurkenmond.specs.declared.Outcome.the-variants.{Matched, NoMatch, Refused as OutcomeRefused}
+use Rattle.gurkenmond.specs.declared.Outcome.the-variants.{NoMatch}
 use Rattle.gurkenmond.specs.Calls.{Matching, matching, cellsNeeded, refusesInput, listingBy, matchBy, filled, matchAfter, matchOf}
 use Rattle.gurkenmond.specs.Runs.{Loopless, Says, Ran, outcome, listedMatch, notMatched}
 use Rattle.gurkenmond.specs.laws.Verdicts.{handed}

@@ -1,11 +1,11 @@
 -- The answers of `sets` and `cannot_skip`, from what a prepared grammar holds. Assumes nothing.
-use Prim.Native.Nat.{ℕ, suc, _≤_, _<_}
-use mathlib.Core.Path.{_≡_, refl, sym, ap, _∙_, subst}
-use mathlib.Core.Bool.{Bool, true, false, not, _&&_, true≢false}
+use Prim.Native.Nat.{ℕ, _≤_, _<_}
+use mathlib.Core.Path.{_≡_, sym, ap, _∙_}
+use mathlib.Core.Bool.{Bool, true, false, not, _&&_}
 use mathlib.Core.List.{List}
-use mathlib.Core.Option.{Option, none, some}
+use mathlib.Core.Option.{Option, none}
 use native.Mathlib.Omega.{arith}
-use lib.ListN.{length, take}
+use lib.ListN.{length}
 use lib.Dec.{leb}
 use borrow.Author.Tests.{le-leb, lt-leb}
 use Rattle.tokens.specs.declared.Mode.{Mode}
@@ -13,12 +13,12 @@ use Rattle.grammar.specs.Numbers.{Grammar, numbered}
 use Rattle.grammar.specs.Parts.{Part, partsAll}
 use Rattle.grammar.specs.Table.{partIn, partsIn, symbolCount, expressionCount}
 use Rattle.grammar.specs.Holds.{Holds}
-use Rattle.grammar.specs.Refusal.{Refusal, refusal, refuseIf, _▸_}
+use Rattle.grammar.specs.Refusal.{Refusal, refuseIf, _▸_}
 use Rattle.reading.specs.Reading.{rulesOf}
 use Rattle.sets.specs.declared.Sets.{Sets}
 use Rattle.sets.specs.Intermediate.{intermediate}
 use Rattle.sets.specs.Beginning.{marked, marksOf, beginnings}
-use Rattle.sets.specs.Analysis.{Analysis, analysis, analysed, terminalIn, setsAt, isExpression, cannotSkip}
+use Rattle.sets.specs.Analysis.{Analysis, analysis, analysed, terminalIn, setsAt, isExpression}
 use Rattle.sets.specs.Proper.{middle}
 use Rattle.sets.specs.laws.Begins.{begins-long}
 use Rattle.sets.specs.laws.Parts.{present-some}
@@ -26,12 +26,11 @@ use Rattle.analysis.specs.Lent.{SetsOf as SetsPromise, CannotSkip}
 use Rattle.preparing.specs.declared.Counted.{Counted}
 use Rattle.preparing.specs.declared.Verdict.{Verdict}
 use Rattle.preparing.specs.declared.Verdict.the-variants.{Accepted, Refused as VerdictRefused}
-use Rattle.preparing.specs.Prepare.{Prepared, prepared, preparedBy, refuses}
-use Rattle.preparing.specs.Reads.{verdictOf, isRefused, readBy, readOf}
+use Rattle.preparing.specs.Prepare.{prepared, preparedBy, refuses}
+use Rattle.preparing.specs.Reads.{verdictOf, isRefused, readOf}
 use Rattle.preparing.specs.Loads.{Stands}
 use Rattle.preparing.specs.laws.Reads.{clear-good}
 use Rattle.gurkenmond.specs.declared.SetsOf.{SetsOf}
-use Rattle.gurkenmond.specs.declared.Lakes.{Lakes}
 use Rattle.gurkenmond.specs.laws.Verdicts.{handed}
 use Rattle.gurkenmond.specs.Calls.{noSets, setsBy, setsOf, lakesBy, cannotSkipOf}
 

@@ -4,18 +4,16 @@ use mathlib.Core.Path.{_≡_, refl, sym, ap, ap₂, _∙_}
 use mathlib.Core.Bool.{Bool, true, false}
 use mathlib.Core.List.{List}
 use mathlib.Core.Option.{Option, none, some}
-use native.Mathlib.Omega.{arith}
 use lib.ListN.{length}
 use Rattle.tokens.specs.declared.Mode.{Mode}
 use Rattle.tokens.specs.laws.Bytes.{Bytes}
 use Rattle.grammar.specs.Numbers.{numbered}
 use Rattle.grammar.specs.Holds.{Holds}
-use Rattle.grammar.specs.Refusal.{Refusal, refusal, refuseIf, _▸_}
-use Rattle.reading.specs.Reading.{tooMany, refusesText, rulesOf}
+use Rattle.grammar.specs.Refusal.{Refusal, refusal, refuseIf}
+use Rattle.reading.specs.Reading.{rulesOf}
 use Rattle.sets.specs.Analysis.{analysis}
 use Rattle.lakes.specs.Made.{withBodies}
-use Rattle.plain.specs.Plain.{plainRules, tooLarge}
-use Rattle.plain.specs.Calls.{looping}
+use Rattle.plain.specs.Plain.{plainRules}
 use Rattle.translation.specs.Stepped.{plainOf}
 use Rattle.writing.specs.Writing.{text}
 use Rattle.texts.specs.Texts.{textOf, Paged}
@@ -25,8 +23,8 @@ use Rattle.gurkenmond.specs.declared.Written.the-variants.{Bytes as Byte
 use Rattle.preparing.specs.declared.Counted.{Counted}
 use Rattle.preparing.specs.declared.Verdict.{Verdict}
 use Rattle.preparing.specs.Reads.{verdictOf, isRefused, readOf}
-use Rattle.preparing.specs.Prepare.{Prepared, prepared, preparedBy, refuses}
-use Rattle.preparing.specs.laws.Reads.{split, grammar-read, clear-text}
+use Rattle.preparing.specs.Prepare.{prepared, preparedBy, refuses}
+use Rattle.preparing.specs.laws.Reads.{grammar-read, clear-text}
 use Rattle.gurkenmond.specs.Calls.{Writing, writeAfter, writeBy, writeOwnOf, writePlainOf}
 use Rattle.gurkenmond.specs.Puts.{notWritten, answerBy, PutText}
 use Rattle.gurkenmond.specs.laws.Verdicts.{handed}

@@ -1,5 +1,5 @@
 -- A text that refusals 1 to 5 let through is a grammar, whose counts decide on 6. Assumes nothing.
-use Prim.Native.Nat.{ℕ, zero, suc, _+_, _*_, _≤_, _<_}
+use Prim.Native.Nat.{ℕ, _*_, _≤_, _<_}
 use mathlib.Core.Path.{_≡_, refl, sym, ap, _∙_, subst}
 use mathlib.Core.Bool.{Bool, true, false, cond}
 use mathlib.Core.List.{List, []}
@@ -22,8 +22,8 @@ use Rattle.grammar.specs.Holds.{Holds}
 use Rattle.grammar.specs.Table.{tableWords}
 use Rattle.grammar.specs.Refusal.{Refusal, refusal, refuseIf, refuseAt, _▸_}
 use Rattle.reading.specs.Machine.{Judged, fine, syntax, wide, judge, start}
-use Rattle.reading.specs.Reader.{Res, ok, rulesP}
-use Rattle.reading.specs.Reading.{tooLong, offence, second, unruled, leftsIn, tooMany, rulesBy, rulesIn, rulesOf, refusesText}
+use Rattle.reading.specs.Reader.{ok, rulesP}
+use Rattle.reading.specs.Reading.{offence, second, unruled, leftsIn, tooMany, rulesBy, rulesIn, rulesOf, refusesText}
 use Rattle.reading.specs.laws.Bounds.{Says, judged}
 use Rattle.reading.specs.laws.Reads.{reads-back, cost-enough}
 use Rattle.scanning.specs.declared.syntax.Found.{Found}
@@ -35,7 +35,7 @@ use Rattle.building.specs.Promises.{Sound, Built}
 use Rattle.building.specs.declared.Counts.{Counts}
 use Rattle.preparing.specs.declared.Counted.{Counted}
 use Rattle.preparing.specs.declared.Verdict.the-variants.{Accepted, Refused as VerdictRefused}
-use Rattle.preparing.specs.Prepare.{Prepared, prepared, preparedBy}
+use Rattle.preparing.specs.Prepare.{prepared, preparedBy}
 use Rattle.preparing.specs.Reads.{verdictOf}
 use Rattle.preparing.specs.Reads.{readBy}
 use Rattle.preparing.specs.Loads.{readUpTo6, Loads}

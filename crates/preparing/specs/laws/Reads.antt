@@ -1,5 +1,5 @@
 -- Refusals 1 to 6, then 7, then 8: the answer of `read`. Assumes nothing.
-use Prim.Native.Nat.{ℕ, _+_, _≤_, _<_}
+use Prim.Native.Nat.{ℕ, _≤_, _<_}
 use mathlib.Core.Path.{_≡_, refl, sym, ap, _∙_, subst}
 use mathlib.Core.Bool.{Bool, true, false, true≢false}
 use mathlib.Core.List.{List}
@@ -35,13 +35,11 @@ use Rattle.plain.specs.laws.Loops.{Found, found as loop-found}
 use Rattle.translation.specs.Stepped.{plainOf}
 use Rattle.preparing.specs.declared.Counted.{Counted}
 use Rattle.preparing.specs.declared.Prepared.{Prepared as Worth}
-use Rattle.preparing.specs.declared.Verdict.{Verdict}
-use Rattle.preparing.specs.declared.Verdict.the-variants.{Accepted, Refused as VerdictRefused}
 use Rattle.preparing.specs.Prepare.{Prepared, prepared, preparedBy, refuses}
 use Rattle.preparing.specs.Reads.{verdictOf, isRefused}
 use Rattle.preparing.specs.Reads.{readBy, readOf}
-use Rattle.preparing.specs.Loads.{readUpTo6, Good, Loads, Worked, Translated, Stands, Ready}
-use Rattle.preparing.specs.laws.Loads.{refused, Clean, clean, grammar-of, some-none}
+use Rattle.preparing.specs.Loads.{readUpTo6, Good, Loads, Worked, Translated, Ready}
+use Rattle.preparing.specs.laws.Loads.{refused, clean, grammar-of, some-none}
 use Rattle.preparing.specs.laws.Translates.{good}
 
 pub split : (a b : Option Refusal) → (a ▸ b) ≡ none → (a ≡ none) × (b ≡ none)

@@ -1,9 +1,8 @@
 -- Steps 1 and 2 with the sets between them decide on refusal 7. Assumes nothing.
 use Prim.Native.Nat.{ℕ, _≤_, _<_, min}
-use mathlib.Core.Path.{_≡_, refl, sym, ap, _∙_}
+use mathlib.Core.Path.{_≡_}
 use mathlib.Core.Bool.{Bool}
 use mathlib.Core.List.{List}
-use mathlib.Core.Option.{none, some}
 use native.Mathlib.Omega.{arith}
 use Rattle.tokens.specs.declared.Mode.{Mode}
 use Rattle.grammar.specs.Syntax.{Rules}
@@ -13,13 +12,11 @@ use Rattle.grammar.specs.Holds.{Holds}
 use Rattle.grammar.specs.Refusal.{refusal}
 use Rattle.building.specs.Promises.{Sound}
 use Rattle.sets.specs.Analysis.{analysis}
-use Rattle.sets.specs.Intermediate.{intermediate}
-use Rattle.sets.specs.Proper.{Proper, middle}
+use Rattle.sets.specs.Proper.{middle}
 use Rattle.sets.specs.laws.Parts.{total}
 use Rattle.analysis.specs.Lent.{Fronted}
 use Rattle.lakes.specs.Made.{SteppedOne, withBodies}
-use Rattle.plain.specs.Plain.{tooLarge}
-use Rattle.translation.specs.Stepped.{Ready, SteppedTwo, plainOf}
+use Rattle.translation.specs.Stepped.{SteppedTwo, plainOf}
 use Rattle.translation.specs.laws.Once.{once-numbered}
 use Rattle.translation.specs.laws.Refused.{refused, let-through, refused-early}
 use Rattle.accepted.specs.laws.Short.{short}

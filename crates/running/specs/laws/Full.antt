@@ -3,12 +3,12 @@ use Prim.Native.Nat.{ℕ, zero, suc, _+_, _^_, _≤_, _<_}
 use mathlib.Core.Path.{_≡_, refl, sym, ap, _∙_, subst}
 use mathlib.Core.Bool.{Bool, true, false, cond}
 use mathlib.Core.List.{List, [], _∷_, _++_, map}
-use mathlib.Core.Logic.{_⊎_, inl, inr, ⊎-elim}
+use mathlib.Core.Logic.{_⊎_, ⊎-elim}
 use mathlib.Core.Option.{none}
 use native.Mathlib.Omega.{arith}
 use native.Mathlib.Nat.{eq-or-lt-of-le}
-use lib.ListN.{length, getD, length-append, length-map, List·getD-append, List·getD-eq-default}
-use lib.Bits.{bitOr, or-lt}
+use lib.ListN.{length, getD, length-append, length-map}
+use lib.Bits.{or-lt}
 use lib.Dec.{eqb, ltb}
 use lib.Pow.{pow-pos}
 use borrow.Author.Tests.{eqb-true, eqb-false, ltb-true, ltb-false, lt-ltb, le-ltb}
@@ -16,12 +16,11 @@ use Rattle.tokens.specs.Token.{Leaf}
 use Rattle.grammar.specs.Exp.{Exp, seq, alt, opt, star, plus, ahead, never}
 use Rattle.grammar.specs.Exp.{sym as uses, ter}
 use Rattle.grammar.specs.Empty.{hasEmpty}
-use Rattle.grammar.specs.Table.{upTo}
 use Rattle.grammar.specs.laws.Lists.{up-length, up-at}
 use Rattle.words.specs.Set.{ones}
 use Rattle.sets.specs.Beginning.{marked, marksOf}
 use Rattle.sets.specs.Proper.{Sound, SoundAll}
-use Rattle.plain.specs.Calls.{firstCalls, callsOf, reach, loopFrom, loop, ranksOf, ofRank, orderFrom, order}
+use Rattle.plain.specs.Calls.{firstCalls, callsOf, reach, loop, ranksOf, ofRank, orderFrom, order}
 use Rattle.running.specs.laws.Order.{pow-below, rank-small}
 
 -- ── how many of a list are below a number ──

@@ -1,15 +1,14 @@
 -- Where there is no loop, filling by rank puts first-called symbols first: the order of `plain` is one that `matching` can rely on. Assumes nothing.
-use Prim.Native.Nat.{ℕ, zero, suc, _+_, _*_, _/_, _%_, _^_, _≤_, _<_, max}
+use Prim.Native.Nat.{ℕ, zero, suc, _+_, _*_, _^_, _≤_, _<_}
 use mathlib.Core.Path.{_≡_, refl, ap, _∙_, subst}
 use mathlib.Core.Path.{sym as flip}
-use mathlib.Core.Bool.{Bool, true, false, cond, true≢false, false≢true}
+use mathlib.Core.Bool.{Bool, true, false, cond}
 use mathlib.Core.Logic.{_⊎_, inl, inr, ⊎-elim}
 use mathlib.Core.List.{List, [], _∷_, _++_, map}
 use mathlib.Core.Option.{Option, none, some}
 use native.Mathlib.Omega.{arith}
 use native.Mathlib.Nat.{eq-or-lt-of-le, pow-suc}
-use native.Mathlib.Decide.{ℕ-discrete}
-use lib.ListN.{length, getD, length-map, List·getD-map}
+use lib.ListN.{length, getD, length-map}
 use lib.Bits.{bitOr, or-lt}
 use lib.Dec.{eqb}
 use lib.Pow.{pow-pos, pow-mono}
@@ -19,14 +18,14 @@ use Rattle.grammar.specs.Empty.{hasEmpty}
 use Rattle.grammar.specs.Table.{upTo}
 use Rattle.grammar.specs.laws.Lists.{up-length, up-at}
 use Rattle.words.specs.Set.{bit, ones}
-use Rattle.words.specs.laws.Members.{bit-or, bit-lt, bit-pow-same}
-use Rattle.words.specs.laws.Order.{Sub, ones-le, ones-strict, sub-or-l, sub-or-r}
+use Rattle.words.specs.laws.Members.{bit-lt, bit-pow-same}
+use Rattle.words.specs.laws.Order.{ones-le, ones-strict, sub-or-l, sub-or-r}
 use Rattle.fixpoint.specs.laws.Fix.{lt-or-ge}
 use Rattle.sets.specs.Beginning.{marked, marksOf}
 use Rattle.plain.specs.Calls.{firstCalls, callsOf, holds, reach, loopFrom, loop, ranksOf, ofRank, orderFrom, order}
 use Rattle.plain.specs.laws.Ranks.{member, falls, reach-small}
 use Rattle.plain.specs.laws.Loops.{Found, found}
-use Rattle.matching.specs.Eval.{nowhere, bodyOf}
+use Rattle.matching.specs.Eval.{bodyOf}
 use Rattle.matching.specs.First.{Calls, In, Ordered}
 
 -- ── first calls as a relation and as a word ──

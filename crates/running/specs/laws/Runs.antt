@@ -1,37 +1,33 @@
 -- The order and the cells that code makes are those of the bodies that a table holds, and the cells are right. Assumes nothing.
 use Prim.Native.Nat.{ℕ, zero, suc, _+_, _*_, _≤_, _<_}
 use mathlib.Core.Path.{_≡_, refl, sym, ap, ap₂, _∙_, subst}
-use mathlib.Core.Bool.{Bool, true}
+use mathlib.Core.Bool.{Bool}
 use mathlib.Core.List.{List, [], _∷_, _++_}
-use mathlib.Core.Logic.{⊎-elim}
 use mathlib.Core.Option.{none}
 use native.Mathlib.Omega.{arith}
-use native.Mathlib.Nat.{eq-or-lt-of-le}
 use lib.ListN.{length, getD, drop, replicate}
 use lib.Seq.{getD-drop}
 use Rattle.tokens.specs.Token.{any}
 use Rattle.grammar.specs.Exp.{Exp, ter}
 use Rattle.grammar.specs.Numbers.{Grammar}
 use Rattle.grammar.specs.Empty.{hasEmpty}
-use Rattle.grammar.specs.Table.{upTo, wordsFrom, symbolCount, symbolWord, nameIn}
-use Rattle.grammar.specs.Holds.{Holds}
+use Rattle.grammar.specs.Table.{wordsFrom, symbolCount, symbolWord, nameIn}
 use Rattle.sets.specs.Analysis.{terminalIn}
 use Rattle.sets.specs.Beginning.{marked, marksOf}
 use Rattle.sets.specs.Proper.{SoundAll}
 use Rattle.sets.specs.laws.Lists.{is-upTo, upTo-long, getD-any}
 use Rattle.analysis.specs.laws.Marks.{marks-least}
-use Rattle.lakes.specs.Made.{withBodies}
 use Rattle.plain.specs.Calls.{callsOf, loop, ranksOf, orderFrom, order}
 use Rattle.filling.specs.Trees.{treeOf, bodiesOf}
 use Rattle.calls.specs.Firsts.{AllFirsts}
 use Rattle.loops.specs.Marks.{AllMarks}
 use Rattle.loops.specs.laws.Trees.{bodies-are, trees-are}
 use Rattle.loops.specs.laws.Loops.{calls-are}
-use Rattle.matching.specs.Eval.{nowhere, bodyOf}
+use Rattle.matching.specs.Eval.{nowhere}
 use Rattle.matching.specs.Cells.{cells, fillOf}
 use Rattle.matching.specs.First.{Markings, Ordered}
 use Rattle.matching.specs.laws.Agrees.{Right}
-use Rattle.matching.specs.laws.Filled.{Room, filled-right}
+use Rattle.matching.specs.laws.Filled.{filled-right}
 use Rattle.running.specs.Runs.{Plain, OrderedIn, Fills}
 use Rattle.running.specs.laws.Order.{ordered}
 use Rattle.running.specs.laws.Full.{All, order-all, order-full, calls-small}

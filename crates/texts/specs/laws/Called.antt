@@ -13,7 +13,7 @@ use Rattle.grammar.specs.Table.{symbolsAt, symbolWords, symbolWord, symbolBy, w
 use Rattle.grammar.specs.Holds.{Holds}
 use Rattle.sets.specs.Proper.{Sound}
 use Rattle.printing.specs.Printed.{low, lowLeaf, calledBy, called, toned}
-use Rattle.texts.specs.laws.Rights.{name-is}
+use Rattle.loops.specs.laws.Rights.{name-is}
 
 pub low-bytes : (w : List ℕ) → Bytes w → map low w ≡ w
 low-bytes [] h = refl

@@ -30,7 +30,7 @@ use Rattle.writing.specs.Writing.{text}
 use Rattle.writing.specs.laws.Terminals.{FineLeaf}
 use Rattle.writing.specs.laws.Lengths.{Short, Brief, Bounded, BoundedAll, not-too-long}
 use Rattle.writing.specs.laws.Within.{bounded}
-use Rattle.texts.specs.laws.Rights.{names-are, expressions-are}
+use Rattle.loops.specs.laws.Rights.{names-are, expressions-are}
 use Rattle.texts.specs.laws.Fit.{FitName, FitLeaf, fit-name, fit-leaf, fine-rules, narrow-rules}
 use Rattle.texts.specs.laws.Own.{lefts-long}
 use Rattle.texts.specs.laws.Plain.{plainNames, plain-sound, bodies-long}
