@@ -9,7 +9,7 @@ ghost use Rattle.matching.specs.Cells.{bodyAt, rowOf, fillOf};
 ghost use Rattle.matching.specs.Eval.{leafAt, cellAt, ev, rep};
 ghost use Rattle.filling.specs.Trees.{treeOf, below, bodiesOf};
 // What any byte takes.
-fn any_at(s: &[u8], p: usize) -> usize
+pub fn any_at(s: &[u8], p: usize) -> usize
     ensures { λ r. ⌜ r ≡ leafAt (now (s .entry)) any p ⌝ }
 {
     if p < s.len() {
