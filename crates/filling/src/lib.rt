@@ -1,15 +1,13 @@
-// Evaluation of a table's expressions over work cells, and the filling of the cells (01, Meaning of a match).
+// Evaluation of a table's expressions over work cells (01, Meaning of a match).
 ghost use mathlib.Core.Path.{_≡_};
-ghost use mathlib.Core.Bool.{Bool};
-ghost use Prim.Native.Nat.{ℕ, _+_, _*_, _-_, _<_, _≤_};
-ghost use lib.ListN.{getD, length, set};
+ghost use Prim.Native.Nat.{ℕ, _<_, _≤_};
+ghost use lib.ListN.{length};
 ghost use Rattle.tokens.specs.Token.{any, literal, class};
-ghost use Rattle.grammar.specs.Table.{wordsFrom, marksFrom, leafIn, symbolCount};
-ghost use Rattle.matching.specs.Cells.{bodyAt, rowOf, fillOf};
+ghost use Rattle.grammar.specs.Table.{wordsFrom, marksFrom, leafIn};
 ghost use Rattle.matching.specs.Eval.{leafAt, cellAt, ev, rep};
-ghost use Rattle.filling.specs.Trees.{treeOf, below, bodiesOf};
+ghost use Rattle.filling.specs.Trees.{treeOf, below};
 // What any byte takes.
-fn any_at(s: &[u8], p: usize) -> usize
+pub fn any_at(s: &[u8], p: usize) -> usize
     ensures { λ r. ⌜ r ≡ leafAt (now (s .entry)) any p ⌝ }
 {
     if p < s.len() {
@@ -186,39 +184,4 @@ pub fn many(t: &[u32], s: &[u8], cells: &[u32], n: usize, x: usize, p: usize) ->
         k -= 1;
     }
     q - p
-}
-
-// Fills the cell of symbol r at p.
-fn store(t: &[u32], s: &[u8], cells: &mut [u32], n: usize, r: usize, p: usize)
-    requires { ⌜ (n ≡ symbolCount (now t)) × (n ≤ 64) × (r < n) × (length (now s) ≤ 65535) × (p ≤ length (now s)) ⌝ }
-    ensures { λ _. ⌜ now (cells .exit) ≡ set (now (cells .entry)) (p * length (bodiesOf (now (t .entry))) + r) (bodyAt (bodiesOf (now (t .entry))) (now (s .entry)) (now (cells .entry)) r p) ⌝ }
-{
-    let b = words::word(t, 8 + 42 * r + 1);
-    let v = eval(t, s, cells, n, b, p);
-    words::put(cells, p * n + r, v);
-}
-
-// Fills the cells of all symbols at p, in an order that puts first-called symbols first.
-fn row(t: &[u32], s: &[u8], cells: &mut [u32], order: &[u32], n: usize, p: usize)
-    requires { ⌜ (n ≡ symbolCount (now t)) × (n ≤ 64) × ((j : ℕ) → j < n → getD (now order) j 0 < n) × (length (now s) ≤ 65535) × (p ≤ length (now s)) ⌝ }
-    ensures { λ _. ⌜ now (cells .exit) ≡ rowOf (bodiesOf (now (t .entry))) (now (s .entry)) p (wordsFrom (now (order .entry)) 0 n) (now (cells .entry)) ⌝ }
-{
-    let mut j: usize = 0;
-    while j < n {
-        let r = words::word(order, j);
-        store(t, s, cells, n, r, p);
-        j += 1;
-    }
-}
-
-// Fills the cells of the places below k, the last first (01: "for p from 0 to n").
-pub fn fill(t: &[u32], s: &[u8], cells: &mut [u32], order: &[u32], n: usize, k: usize)
-    requires { ⌜ (n ≡ symbolCount (now t)) × (n ≤ 64) × ((j : ℕ) → j < n → getD (now order) j 0 < n) × (length (now s) ≤ 65535) × (k ≤ length (now s) + 1) ⌝ }
-    ensures { λ _. ⌜ now (cells .exit) ≡ fillOf (bodiesOf (now (t .entry))) (now (s .entry)) k (wordsFrom (now (order .entry)) 0 n) (now (cells .entry)) ⌝ }
-{
-    let mut i = k;
-    while 0 < i {
-        i -= 1;
-        row(t, s, cells, order, n, i);
-    }
 }

@@ -66,5 +66,5 @@ pub fn fill(t: &[u32], s: &[u8], cells: &mut [u32])
         &mut ranks,
         &mut order,
     );
-    filling::fill(t, s, cells, &order, n, s.len() + 1);
+    remembering::fill(t, s, cells, &order, n, s.len() + 1);
 }

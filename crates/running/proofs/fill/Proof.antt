@@ -8,7 +8,7 @@ use Rattle.running.proofs.fill.Statement.{statement}
 use Rattle.running.proofs.fill.Tie as tie
 use Rattle.running.proofs.fill.Reads as reads
 use Rattle.running.proofs.fill.Lts as lts
-use Rattle.filling.proofs.fill.Reads as fill-reads
+use Rattle.remembering.proofs.fill.Reads as fill-reads
 use Rattle.running.proofs.order_front.Reads as order-front-reads
 use Rattle.words.proofs.word.Reads as word-reads
 
