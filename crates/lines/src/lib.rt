@@ -3,8 +3,9 @@ pub mod buffers;
 
 ghost use Prim.Native.Nat.{_+_, _≤_, _<_};
 ghost use mathlib.Core.Path.{_≡_};
-ghost use lib.ListN.{length};
+ghost use lib.ListN.{length, drop};
 ghost use Rattle.io.specs.Counts.{Counts};
+ghost use Rattle.lines.specs.Fields.{untilOf, afterOf, begins, shiftedBy, decimalOf, isDigit, bytesOf};
 
 // The value of a hexadecimal digit; 16 for any other byte.
 fn digit(b: u8) -> u8
@@ -25,8 +26,29 @@ fn digit(b: u8) -> u8
     16
 }
 
+// Whether a byte is a hexadecimal digit.
+fn is_digit(b: u8) -> bool
+    ensures { λ r. ⌜ r ≡ isDigit b ⌝ }
+{
+    if b < 48 {
+        return false;
+    }
+    if b < 58 {
+        return true;
+    }
+    if b < 97 {
+        return false;
+    }
+    if b < 103 {
+        return true;
+    }
+    false
+}
+
 // Where the field that begins at `at` ends: at the next space or the line's end. A field past the line's end is empty.
-pub fn until(s: &[u8], at: usize) -> usize {
+pub fn until(s: &[u8], at: usize) -> usize
+    ensures { λ r. ⌜ r ≡ untilOf (now (s .entry)) at ⌝ }
+{
     let mut i = at;
     while i < s.len() {
         if s[i] == 32 {
@@ -38,7 +60,9 @@ pub fn until(s: &[u8], at: usize) -> usize {
 }
 
 // Where the field behind the one at `at` begins.
-pub fn after(s: &[u8], at: usize) -> usize {
+pub fn after(s: &[u8], at: usize) -> usize
+    ensures { λ r. ⌜ r ≡ afterOf (now (s .entry)) at ⌝ }
+{
     let to = until(s, at);
     if to < s.len() {
         return to + 1;
@@ -47,7 +71,12 @@ pub fn after(s: &[u8], at: usize) -> usize {
 }
 
 // Whether the word stands in the line from `at` on.
-pub fn stands(s: &[u8], at: usize, word: &[u8]) -> bool {
+pub fn stands(s: &[u8], at: usize, word: &[u8]) -> bool
+    ensures { λ r. ⌜ r ≡ begins (now (word .entry)) (drop at (now (s .entry))) ⌝ }
+{
+    if word.len() == 0 {
+        return true;
+    }
     if s.len() < word.len() {
         return false;
     }
@@ -65,7 +94,9 @@ pub fn stands(s: &[u8], at: usize, word: &[u8]) -> bool {
 }
 
 // Whether the field is bytes in hexadecimal, or `-` for none, and there are at most so many.
-pub fn is_bytes(s: &[u8], from: usize, to: usize, most: usize) -> bool {
+pub fn is_bytes(s: &[u8], from: usize, to: usize, most: usize) -> bool
+    ensures { λ r. ⌜ r ≡ bytesOf (now (s .entry)) from to most ⌝ }
+{
     if s.len() < to {
         return false;
     }
@@ -83,7 +114,7 @@ pub fn is_bytes(s: &[u8], from: usize, to: usize, most: usize) -> bool {
     }
     let mut i = from;
     while i < to {
-        if digit(s[i]) == 16 {
+        if !is_digit(s[i]) {
             return false;
         }
         i += 1;
@@ -122,7 +153,9 @@ pub fn decode(s: &[u8], from: usize, to: usize, out: &mut [u8]) -> usize
 }
 
 // The decimal number of a field; 4,294,967,296 where it is none, or not below that.
-pub fn decimal(s: &[u8], from: usize, to: usize) -> usize {
+pub fn decimal(s: &[u8], from: usize, to: usize) -> usize
+    ensures { λ r. ⌜ r ≡ decimalOf (now (s .entry)) from to ⌝ }
+{
     if s.len() < to {
         return 4294967296;
     }
@@ -140,7 +173,7 @@ pub fn decimal(s: &[u8], from: usize, to: usize) -> usize {
 
 // One digit more.
 fn shifted(v: usize, b: u8) -> usize
-    ensures { λ r. ⌜ r ≤ 4294967296 ⌝ }
+    ensures { λ r. ⌜ (r ≡ shiftedBy v b) × (r ≤ 4294967296) ⌝ }
 {
     if b < 48 {
         return 4294967296;

@@ -1,9 +1,11 @@
 -- `lines::decimal` meets its contract. Assumes nothing.
-use Prim.Native.Nat.{ℕ, _+_, _-_, _*_, _≤_, _<_}
+use Prim.Native.Nat.{ℕ, _+_, _-_, _*_, _/_, _%_, _≤_, _<_}
 use mathlib.Core.Path.{_≡_, refl, sym, ap, _∙_}
+use mathlib.Core.Bool.{Bool, true, false}
 use native.Mathlib.Omega.{arith}
-use lib.ListN.{length, length-set}
-use lib.Seq.{length-take-le}
+use lib.ListN.{length, getD, drop}
+use Rattle.lines.specs.Fields.{field, numberFrom}
+use Rattle.lines.specs.laws.Fields.{number-more, decimal-past, decimal-none, decimal-is}
 use borrow.Author.Needs.{needs}
 use Rattle.lines.proofs.decimal.Statement.{statement}
 use Rattle.lines.proofs.decimal.Tie as tie
@@ -12,19 +14,19 @@ use Rattle.lines.proofs.decimal.Lts as lts
 use Rattle.lines.proofs.shifted.Reads as shifted-reads
 
 abbrev Inv-loop : tie.InvT-loop
-Inv-loop s from to v₀ i₀ v i = from ≤ i
+Inv-loop s from to v₀ i₀ v i = (from ≤ i) × (numberFrom v (field s i to) ≡ numberFrom 0 (field s from to))
 
 abbrev μ-loop : tie.MeasureT-loop
 μ-loop s from to v₀ i₀ v i = to - i
 
 returns : tie.Need-returns Inv-loop μ-loop
-returns c = search needs
+returns c = decimal-past (c .before .before .args .s .now) (c .before .before .args .from) (c .before .before .args .to) (c .if1 .taken)
 
 returns-2 : tie.Need-returns-2 Inv-loop μ-loop
-returns-2 c = search needs
+returns-2 c = decimal-none (c .before .before .before .args .s .now) (c .before .before .before .args .from) (c .before .before .before .args .to) (omega (arith, c .before .if1 .left)) (c .if2 .taken)
 
 loop-holds : tie.Need-loop-holds Inv-loop μ-loop
-loop-holds c = search needs
+loop-holds c = (omega arith, refl)
 
 shared-slice-read-shifted : tie.Need-shared-slice-read-shifted Inv-loop μ-loop
 shared-slice-read-shifted c = search needs
@@ -39,10 +41,10 @@ loop-less : tie.Need-loop-less Inv-loop μ-loop
 loop-less c = search needs
 
 loop-again : tie.Need-loop-again Inv-loop μ-loop
-loop-again c = search needs
+loop-again c = (omega (arith, c .before .before .before .loop .inv .0), number-more (c .before .before .before .before .before .before .before .args .s .now) (c .before .before .before .loop .i) (c .before .before .before .before .before .before .before .args .to) (c .before .before .before .loop .v) (c .shifted .result) (c .before .before .loop-test .taken) (omega (arith, c .before .before .before .before .before .if1 .left)) (c .shifted .ensures .0) ∙ c .before .before .before .loop .inv .1)
 
 returns-3 : tie.Need-returns-3 Inv-loop μ-loop
-returns-3 c = search needs
+returns-3 c = decimal-is (c .before .before .before .before .before .args .s .now) (c .before .before .before .before .before .args .from) (c .before .before .before .before .before .args .to) (omega (arith, c .before .before .before .if1 .left)) (omega (arith, c .before .before .if2 .left)) (c .before .loop .i) (c .before .loop .v) (omega (arith, c .loop-test .left)) (c .before .loop .inv .1)
 
 pub decimal-spec : {M : Type 1} → statement M
 decimal-spec =
