@@ -146,8 +146,8 @@ pub fn eval(t: &[u32], s: &[u8], cells: &[u32], n: usize, x: usize, p: usize) ->
         5 => many(t, s, cells, n, y, p) + 1,
         6 => {
             let a = eval(t, s, cells, n, y, p);
-            if a == 0 {
-                return 0;
+            if a <= 1 {
+                return a;
             }
             a + many(t, s, cells, n, y, p + (a - 1))
         }

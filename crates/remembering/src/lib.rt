@@ -93,8 +93,8 @@ fn eval(
         5 => many(t, s, cells, ends, n, w, y, p) + 1,
         6 => {
             let a = eval(t, s, cells, ends, n, w, y, p);
-            if a == 0 {
-                return 0;
+            if a <= 1 {
+                return a;
             }
             a + many(t, s, cells, ends, n, w, y, p + (a - 1))
         }

@@ -149,6 +149,13 @@ rep-ends f (suc j) q zero h l = rw (← h)
 rep-ends f (suc j) q (suc zero) h l = rw (← h)
 rep-ends f (suc j) q (suc (suc a)) h l = absurd (omega arith)
 
+-- a first round of `+` that fails or takes nothing is all that it takes: it need not be asked again at its place
+pub plus-ends : (f : ℕ → ℕ) (j p a : ℕ) → a ≡ f p → a ≤ 1 → a ≡ plusOf (f p) (λ m. rep j f (p + m))
+unfolding plusOf
+plus-ends f j p zero h l = rw (← h)
+plus-ends f j p (suc zero) h l = rw (← h) (omega (arith, rep-ends f j (p + 0) 1 (h ∙ ap f (omega arith)) l))
+plus-ends f j p (suc (suc a)) h l = absurd (omega arith)
+
 pub rep-none : (f : ℕ → ℕ) (j q : ℕ) → j ≤ 0 → 0 ≡ rep j f q
 unfolding rep
 rep-none f zero q h = refl
