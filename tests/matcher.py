@@ -338,20 +338,26 @@ class Matcher:
 
     def symbol(self, name, p):
         if (name, p) not in self.known:
-            self.known[name, p] = self.lake(name, p) if name.startswith("<") else self.match(self.grammar.bodies[name], p)
+            self.known[name, p] = self.lake(name, p)[1] if name.startswith("<") else self.match(self.grammar.bodies[name], p)
         return self.known[name, p]
 
     def lake(self, name, p):
-        """By its rule, by water, or by one skipped byte where no alternative symbol matches."""
-        for body in (self.grammar.rules.get(name), self.grammar.water):
+        """1 by its rule, 2 by water, 3 by one skipped byte where no alternative symbol matches, 0 not; and the answer."""
+        for way, body in enumerate((self.grammar.rules.get(name), self.grammar.water), start=1):
             answer = self.match(body, p) if body else None
             if answer:
-                return answer
+                return way, answer
         if p < len(self.text) and not any(self.match(stop, p) for stop in self.grammar.stops(name)):
-            return p + 1, []
-        return None
+            return 3, (p + 1, [])
+        return 0, None
 
     def match(self, exp, p):
+        """Each occurrence is asked once at a place, so that no nesting takes long."""
+        if (exp, p) not in self.known:
+            self.known[exp, p] = self.ask(exp, p)
+        return self.known[exp, p]
+
+    def ask(self, exp, p):
         if exp.op == "any":
             return (p + 1, []) if p < len(self.text) else None
         if exp.op == "literal":
