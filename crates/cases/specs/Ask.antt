@@ -6,13 +6,13 @@ use mathlib.Core.Bool.{Bool}
 use mathlib.Core.List.{List, [], _∷_}
 use mathlib.Core.Option.{Option, none, some}
 use lib.ListN.{length, take, replicate}
-use Rattle.tokens.specs.declared.Mode.{Mode}
-use Rattle.tokens.specs.Bounds.{nodeWords}
+use Rattle.read_tokens.specs.declared.Mode.{Mode}
+use Rattle.read_tokens.specs.Bounds.{nodeWords}
 use Rattle.grammar.specs.Refusal.{Refusal}
-use Rattle.sets.specs.declared.Sets.{Sets}
-use Rattle.plain.specs.Plain.{plainRules}
-use Rattle.writing.specs.Writing.{text}
-use Rattle.preparing.specs.Prepare.{Prepared, prepared, refuses}
+use Rattle.lake_sets.specs.declared.Sets.{Sets}
+use Rattle.lake_step_two.specs.Plain.{plainRules}
+use Rattle.write_rules.specs.Writing.{text}
+use Rattle.prepare.specs.Prepare.{Prepared, prepared, refuses}
 use Rattle.gurkenmond.specs.Answers.{Says, refused, nomatch, value, outcomeSays, waySays}
 use Rattle.gurkenmond.specs.Calls.{Matching, matchOf, lakeOf, setsOf, cannotSkipOf}
 

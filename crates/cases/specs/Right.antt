@@ -1,10 +1,10 @@
 -- THE theorem: the definitions answer every case of the table as it says. It is computed. Assumes nothing.
 use mathlib.Core.Path.{_≡_, refl}
 use mathlib.Core.List.{List, map}
-use Rattle.kinds.specs.Kinds.{oneOf, ranges, kindAt}
-use Rattle.tokens.specs.Bounds.{textBound, nameBound, openBound, expressionBound, symbolBound, terminalBound, literalBound, plainBound, inputBound, depthBound, firstOctal, rawFrom, nodeWords}
-use Rattle.tokens.specs.Chars.{octals, letters, four, char, single, dashed, listed, body}
-use Rattle.tokens.specs.Tokens.{skip, nameSpan, less, literalBy, among, table, someTrue, marksOf as tokens-marksOf, classBy, bracket, byKind, tokenFrom, tokenAt, lexemesFrom, lexemes, toksOf, toks}
+use Rattle.read_tokens.specs.Kinds.{oneOf, ranges, kindAt}
+use Rattle.read_tokens.specs.Bounds.{textBound, nameBound, openBound, expressionBound, symbolBound, terminalBound, literalBound, plainBound, inputBound, depthBound, firstOctal, rawFrom, nodeWords}
+use Rattle.read_tokens.specs.Chars.{octals, letters, four, char, single, dashed, listed, body}
+use Rattle.read_tokens.specs.Tokens.{skip, nameSpan, less, literalBy, among, table, someTrue, marksOf as tokens-marksOf, classBy, bracket, byKind, tokenFrom, tokenAt, lexemesFrom, lexemes, toksOf, toks}
 use Rattle.grammar.specs.Empty.{emptyLeaf, hasEmpty}
 use Rattle.grammar.specs.Exp.{size, rename, symbolsIn, leavesIn}
 use Rattle.grammar.specs.Lakes.{waterOf, stepOne, choiceOf, skipOf, stepTwo, plainName}
@@ -12,27 +12,27 @@ use Rattle.grammar.specs.Numbers.{leftSides, usesOf, onlyLakes, looseLakes, sym
 use Rattle.grammar.specs.Parts.{partsOf, partsAll, rootsOf}
 use Rattle.grammar.specs.Same.{sameBytes, sameMarks, sameSymbol, sameLeaf, isIn, indexOf, newIn}
 use Rattle.grammar.specs.Syntax.{tokens, choiceToks, seqToks, prefToks, sufToks, primToks}
-use Rattle.grammar.specs.Table.{upTo}
+use Rattle.grammar_table.specs.Table.{upTo}
 use Rattle.grammar.specs.Trees.{trees, treeC, treeS, treeP, treeF, treeQ}
-use Rattle.reading.specs.Machine.{close, newRule, after, step, accepting, runs as reading-runs, offendsFrom, finish, over as reading-over, judge, placeOf}
-use Rattle.reading.specs.Reader.{closeBy, primBy, sufBy, prefBy, choiceBy, arrowBy, ruleBy, rulesR, rulesP, choiceP, choiceR, seqP, seqR, prefP, primP}
-use Rattle.reading.specs.Reading.{begins, reserved, second, leftsIn, unruled, tooMany, rulesIn, refusesText, rulesOf}
-use Rattle.fixpoint.specs.Rounds.{settle}
-use Rattle.sets.specs.Analysis.{analysed, analysis, setsAt, blockedBy, cannotSkipBelow, cannotSkip}
-use Rattle.sets.specs.Beginning.{markRound, marksOf as sets-marksOf, beginningsFrom, beginnings}
-use Rattle.sets.specs.Flows.{over as sets-over, given, leastBy}
-use Rattle.sets.specs.Intermediate.{waterIn, bodiesBy, intermediate}
-use Rattle.plain.specs.Calls.{firstCalls, callsOf, calledBy, reach, loopFrom, loop, ranksOf, ofRank, orderFrom, order}
-use Rattle.plain.specs.Plain.{nonterminalsIn, terminalsIn, alternatives, plainFrom, plainBodies, sizes, rulesBy, plainRules}
-use Rattle.matching.specs.Cells.{bodyAt, rowOf, fillOf, cells}
-use Rattle.matching.specs.Eval.{stands, leafAt, cellAt, joinOf, seqOf, altOf, stepOf, rep, plusOf, optOf, aheadOf, neverOf, ev}
-use Rattle.matching.specs.Nodes.{seqN, altN, optN, stepN, repN, walkOf, nodeIf, nodesOf, levels, listOf, listingOf, putNode, written, wordsOf, roomOf, nodeAt, nodesAt, soundAt, nodeText}
-use Rattle.writing.specs.Writing.{byteText, litChar, classChar, litChars, runs as writing-runs, runText, runsText, leafText, symbolText, exprText, ruleText, text}
+use Rattle.read_syntax.specs.Machine.{close, newRule, after, step, accepting, runs as reading-runs, offendsFrom, finish, over as reading-over, judge, placeOf}
+use Rattle.read_syntax.specs.Reader.{closeBy, primBy, sufBy, prefBy, choiceBy, arrowBy, ruleBy, rulesR, rulesP, choiceP, choiceR, seqP, seqR, prefP, primP}
+use Rattle.read_syntax.specs.Reading.{begins, reserved, second, leftsIn, unruled, tooMany, rulesIn, refusesText, rulesOf}
+use Rattle.base_rounds.specs.Rounds.{settle}
+use Rattle.lake_sets.specs.Analysis.{analysed, analysis, setsAt, blockedBy, cannotSkipBelow, cannotSkip}
+use Rattle.lake_sets.specs.Beginning.{markRound, marksOf as sets-marksOf, beginningsFrom, beginnings}
+use Rattle.lake_sets.specs.Flows.{over as sets-over, given, leastBy}
+use Rattle.lake_step_one.specs.Intermediate.{waterIn, bodiesBy, intermediate}
+use Rattle.lake_calls.specs.Calls.{firstCalls, callsOf, calledBy, reach, loopFrom, loop, ranksOf, ofRank, orderFrom, order}
+use Rattle.lake_step_two.specs.Plain.{nonterminalsIn, terminalsIn, alternatives, plainFrom, plainBodies, sizes, rulesBy, plainRules}
+use Rattle.match_cells.specs.Cells.{bodyAt, rowOf, fillOf, cells}
+use Rattle.match_cells.specs.Eval.{stands, leafAt, cellAt, joinOf, seqOf, altOf, stepOf, rep, plusOf, optOf, aheadOf, neverOf, ev}
+use Rattle.match_nodes.specs.Nodes.{seqN, altN, optN, stepN, repN, walkOf, nodeIf, nodesOf, levels, listOf, listingOf, putNode, written, wordsOf, roomOf, nodeAt, nodesAt, soundAt, nodeText}
+use Rattle.write_rules.specs.Writing.{byteText, litChar, classChar, litChars, runs as writing-runs, runText, runsText, leafText, symbolText, exprText, ruleText, text}
 use Rattle.gurkenmond.specs.Answers.{verdictSays, outcomeSays, waySays, writtenSays}
-use Rattle.preparing.specs.Reads.{verdictOf, readOf}
-use Rattle.asking.specs.Asking.{noneMatches, wayNumber, wayIn}
+use Rattle.prepare.specs.Reads.{verdictOf, readOf}
+use Rattle.match_lake.specs.Asking.{noneMatches, wayNumber, wayIn}
 use Rattle.gurkenmond.specs.Calls.{setsOf, cannotSkipOf, matchOf, lakeOf, writeOwnOf, writePlainOf}
-use Rattle.preparing.specs.Prepare.{preparedBy, prepared, refuses}
+use Rattle.prepare.specs.Prepare.{preparedBy, prepared, refuses}
 use Rattle.cases.specs.Ask.{Said, Case, bytes as text-bytes, answered}
 use Rattle.cases.specs.Table.{cases}
 

@@ -3,7 +3,7 @@ use Prim.Native.Nat.{ℕ}
 use Prim.Native.String.{String}
 use mathlib.Core.Bool.{true, false}
 use mathlib.Core.List.{List, [], _∷_}
-use Rattle.tokens.specs.declared.Mode.the-variants.{Lake, Plain}
+use Rattle.read_tokens.specs.declared.Mode.the-variants.{Lake, Plain}
 use Rattle.gurkenmond.specs.Answers.{Says, refused, nomatch, value}
 use Rattle.cases.specs.Ask.{Asked, Said, Case, bytes, reads, rounds, skips, own, plain, alt, sets, matches, lakes, says, words, three, written, listed}
 

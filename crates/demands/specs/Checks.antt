@@ -6,16 +6,16 @@ use mathlib.Core.List.{List, [], _∷_, _++_}
 use mathlib.Core.Option.{Option, none, some}
 use lib.ListN.{length}
 use lib.Dec.{ltb, leb}
-use Rattle.tokens.specs.declared.Mode.{Mode}
-use Rattle.tokens.specs.Bounds.{inputBound}
-use Rattle.tokens.specs.Tokens.{lexemes}
+use Rattle.read_tokens.specs.declared.Mode.{Mode}
+use Rattle.read_tokens.specs.Bounds.{inputBound}
+use Rattle.read_tokens.specs.Tokens.{lexemes}
 use Rattle.grammar.specs.Refusal.{Refusal, refuseIf, refuseAt, _▸_}
-use Rattle.reading.specs.Machine.{start, judge}
-use Rattle.reading.specs.Reading.{tooLong, offence, second, unruled, leftsIn, tooMany, rulesOf}
-use Rattle.sets.specs.Analysis.{isExpression}
-use Rattle.plain.specs.Plain.{tooLarge}
-use Rattle.plain.specs.Calls.{looping}
-use Rattle.preparing.specs.Prepare.{prepared}
+use Rattle.read_syntax.specs.Machine.{start, judge}
+use Rattle.read_syntax.specs.Reading.{tooLong, offence, second, unruled, leftsIn, tooMany, rulesOf}
+use Rattle.lake_sets.specs.Analysis.{isExpression}
+use Rattle.lake_step_two.specs.Plain.{tooLarge}
+use Rattle.lake_calls.specs.Calls.{looping}
+use Rattle.prepare.specs.Prepare.{prepared}
 use Rattle.gurkenmond.specs.Calls.{cellsNeeded, isLakeAt}
 
 -- 1; 2 and 3; 4; 5; 6; 7; 8. Each in the table's words: Row1 to Row8 of Rows.antt

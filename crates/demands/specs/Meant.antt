@@ -6,16 +6,16 @@ use mathlib.Core.List.{List, []}
 use mathlib.Core.Option.{Option, none}
 use lib.ListN.{length, getD}
 use lib.Dec.{ltb}
-use Rattle.tokens.specs.declared.Mode.{Mode}
-use Rattle.tokens.specs.Token.{name}
+use Rattle.read_tokens.specs.declared.Mode.{Mode}
+use Rattle.read_tokens.specs.Token.{name}
 use Rattle.grammar.specs.Exp.{Exp}
 use Rattle.grammar.specs.Numbers.{Grammar, isLake}
-use Rattle.sets.specs.Intermediate.{waterIn, rightOr}
-use Rattle.sets.specs.Analysis.{Analysis, altOf}
-use Rattle.plain.specs.Plain.{alternatives}
-use Rattle.meaning.specs.Meaning.{Body, rule, lake, Meant}
-use Rattle.matching.specs.Eval.{nowhere}
-use Rattle.preparing.specs.Prepare.{prepared}
+use Rattle.lake_step_one.specs.Intermediate.{waterIn, rightOr}
+use Rattle.lake_sets.specs.Analysis.{Analysis, altOf}
+use Rattle.lake_step_two.specs.Plain.{alternatives}
+use Rattle.match_meaning.specs.Meaning.{Body, rule, lake, Meant}
+use Rattle.match_cells.specs.Eval.{nowhere}
+use Rattle.prepare.specs.Prepare.{prepared}
 
 -- a lake is its own right side, if it has a rule, and its alternative symbols; a nonterminal is its right side, and refusal 5 sees to it that there is one
 abbrev pub standsFor : Bool → Option (Exp ℕ) → List (Exp ℕ) → Body

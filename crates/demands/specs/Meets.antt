@@ -4,12 +4,12 @@ use Prim.Native.Nat.{ℕ, suc, _+_, _*_, _≤_, _<_}
 use mathlib.Core.Path.{_≡_}
 use mathlib.Core.List.{List}
 use lib.ListN.{length, getD}
-use Rattle.tokens.specs.declared.Mode.{Mode}
-use Rattle.tokens.specs.Bounds.{nodeWords}
+use Rattle.read_tokens.specs.declared.Mode.{Mode}
+use Rattle.read_tokens.specs.Bounds.{nodeWords}
 use Rattle.grammar.specs.Exp.{sym}
-use Rattle.meaning.specs.Meaning.{Node, Derives}
-use Rattle.matching.specs.Nodes.{roomOf, nodesAt}
-use Rattle.preparing.specs.Prepare.{prepared}
+use Rattle.match_meaning.specs.Meaning.{Node, Derives}
+use Rattle.match_nodes.specs.Nodes.{roomOf, nodesAt}
+use Rattle.prepare.specs.Prepare.{prepared}
 use Rattle.gurkenmond.specs.declared.Outcome.the-variants.{Matched, NoMatch, Refused as OutcomeRefused}
 use Rattle.gurkenmond.specs.declared.Way.{Way}
 use Rattle.gurkenmond.specs.declared.Way.the-variants.{Refused as WayRefused}

@@ -4,8 +4,8 @@ use Prim.Native.Nat.{ℕ, _≤_, _<_}
 use mathlib.Core.Path.{_≡_}
 use mathlib.Core.List.{List, [], _∷_, _++_}
 use lib.ListN.{length}
-use Rattle.tokens.specs.Bounds.{depthBound}
-use Rattle.meaning.specs.Meaning.{Node}
+use Rattle.read_tokens.specs.Bounds.{depthBound}
+use Rattle.match_meaning.specs.Meaning.{Node}
 
 -- "Depth: 255": no node is deeper
 abbrev pub Shallow : List Node → Type 0

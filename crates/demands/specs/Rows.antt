@@ -7,21 +7,21 @@ use mathlib.Core.List.{List, _∷_}
 use mathlib.Core.Logic.{_⊎_}
 use mathlib.Core.Option.{Option, none, some}
 use lib.ListN.{length}
-use Rattle.tokens.specs.declared.Mode.{Mode}
-use Rattle.tokens.specs.Token.{Symbol, Lexeme, name, symbol}
-use Rattle.tokens.specs.Tokens.{lexemes}
-use Rattle.tokens.specs.Bounds.{textBound, symbolBound, terminalBound, expressionBound, plainBound, inputBound}
+use Rattle.read_tokens.specs.declared.Mode.{Mode}
+use Rattle.read_tokens.specs.Token.{Symbol, Lexeme, name, symbol}
+use Rattle.read_tokens.specs.Tokens.{lexemes}
+use Rattle.read_tokens.specs.Bounds.{textBound, symbolBound, terminalBound, expressionBound, plainBound, inputBound}
 use Rattle.grammar.specs.Exp.{Rule}
 use Rattle.grammar.specs.Numbers.{symbolsOf, terminalsOf, expressionsOf}
 use Rattle.grammar.specs.Refusal.{Refusal}
-use Rattle.reading.specs.Machine.{syntax, wide, placeOf}
-use Rattle.reading.specs.Reading.{before, reserved, rulesOf}
-use Rattle.reading.specs.laws.Bounds.{Says}
-use Rattle.sets.specs.Analysis.{isExpression}
-use Rattle.plain.specs.Plain.{sizes}
-use Rattle.plain.specs.Calls.{callsOf}
-use Rattle.plain.specs.laws.Loops.{Smallest}
-use Rattle.preparing.specs.Prepare.{prepared}
+use Rattle.read_syntax.specs.Machine.{syntax, wide, placeOf}
+use Rattle.read_syntax.specs.Reading.{before, reserved, rulesOf}
+use Rattle.read_syntax.specs.laws.Bounds.{Says}
+use Rattle.lake_sets.specs.Analysis.{isExpression}
+use Rattle.lake_step_two.specs.Plain.{sizes}
+use Rattle.lake_calls.specs.Calls.{callsOf}
+use Rattle.lake_calls.specs.laws.Reaches.{Smallest}
+use Rattle.prepare.specs.Prepare.{prepared}
 use Rattle.gurkenmond.specs.Calls.{cellsNeeded, isLakeAt}
 
 -- ── the tokens that 4 and 5 speak of ──

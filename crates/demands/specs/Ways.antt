@@ -5,7 +5,7 @@ use mathlib.Core.List.{List}
 use mathlib.Core.Option.{Option}
 use lib.ListN.{length}
 use Rattle.grammar.specs.Exp.{Exp}
-use Rattle.meaning.specs.Meaning.{Meant, Node, own, wet, some-of, Tries}
+use Rattle.match_meaning.specs.Meaning.{Meant, Node, own, wet, some-of, Tries}
 use Rattle.gurkenmond.specs.declared.Way.{Way}
 use Rattle.gurkenmond.specs.declared.Way.the-variants.{Not, ByRule, ByWater, BySkip}
 

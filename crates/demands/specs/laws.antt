@@ -15,3 +15,4 @@ pub mod Skips
 pub mod Unique
 pub mod Meets
 pub mod MeetsLake
+pub mod Back

@@ -2,7 +2,7 @@
 -- Assumes nothing: these are definitions.
 use Prim.Native.Nat.{ℕ, suc, _+_}
 use mathlib.Core.List.{List, [], _∷_, _++_}
-use Rattle.tokens.specs.Token.{Symbol, Leaf}
+use Rattle.read_tokens.specs.Token.{Symbol, Leaf}
 
 pub data Exp (S : Type 0) : Type 0 where
   sym : S → Exp S

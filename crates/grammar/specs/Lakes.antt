@@ -2,7 +2,7 @@
 use Prim.Native.Nat.{ℕ}
 use mathlib.Core.Option.{Option, none, some}
 use mathlib.Core.List.{List, [], _∷_}
-use Rattle.tokens.specs.Token.{Symbol, name, lake, any}
+use Rattle.read_tokens.specs.Token.{Symbol, name, lake, any}
 use Rattle.grammar.specs.Exp.{Exp, ter, seq, alt, never}
 
 -- w: "a copy of the right side of `water`, or `!.` where there is no such rule"

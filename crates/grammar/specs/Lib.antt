@@ -7,6 +7,4 @@ pub mod Lakes
 pub mod Empty
 pub mod Parts
 pub mod Refusal
-pub mod Table
-pub mod Holds
 pub mod laws

@@ -5,7 +5,7 @@ use mathlib.Core.Bool.{Bool, true, false}
 use mathlib.Core.List.{List, [], _∷_, _++_, map}
 use mathlib.Core.Option.{Option, none, some}
 use lib.ListN.{length, getD, replicate}
-use Rattle.tokens.specs.Token.{Symbol, Leaf, name, lake, any}
+use Rattle.read_tokens.specs.Token.{Symbol, Leaf, name, lake, any}
 use Rattle.grammar.specs.Exp.{Exp, Rule, size, rename, symbolsIn, leavesIn}
 use Rattle.grammar.specs.Same.{sameSymbol, sameLeaf, newIn, indexOf}
 
@@ -59,3 +59,7 @@ unfoldable pub numbered : List Rule → Grammar
 numbered rs =
     let names : List Symbol = symbolsOf rs in
     record { names = names; rights = map (rightBy names) rs ++ replicate (length (looseLakes rs)) none; terminals = terminalsOf rs }
+
+-- the number of a terminal
+abbrev pub terminalIn : Grammar → Leaf → ℕ
+terminalIn g x = indexOf sameLeaf x (g .terminals)

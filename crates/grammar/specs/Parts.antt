@@ -2,7 +2,7 @@
 -- Here they run from 0; the call that answers sets speaks from 1. Assumes nothing: these are definitions.
 use Prim.Native.Nat.{ℕ, _+_, _-_}
 use mathlib.Core.List.{List, [], _∷_, _++_}
-use Rattle.tokens.specs.Token.{Leaf}
+use Rattle.read_tokens.specs.Token.{Leaf}
 use Rattle.grammar.specs.Exp.{Exp, sym, ter, seq, alt, opt, star, plus, ahead, never, size}
 
 -- an expression with its parts by number: a terminal, a symbol's use, a sequence, a choice, and under `?`, `*`, `+`, `&`, `!`

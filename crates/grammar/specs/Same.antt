@@ -4,7 +4,7 @@ use Prim.Native.Nat.{ℕ, zero, suc}
 use mathlib.Core.Bool.{Bool, true, false, cond, _&&_, _||_}
 use mathlib.Core.List.{List, [], _∷_}
 use lib.Dec.{eqb}
-use Rattle.tokens.specs.Token.{Symbol, Leaf, name, lake, any, literal, class}
+use Rattle.read_tokens.specs.Token.{Symbol, Leaf, name, lake, any, literal, class}
 
 unfoldable pub sameBytes : List ℕ → List ℕ → Bool
 sameBytes [] [] = true

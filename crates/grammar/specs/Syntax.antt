@@ -4,7 +4,7 @@ use Prim.Native.Nat.{ℕ, suc, _≤_, _<_}
 use mathlib.Core.Path.{_≡_}
 use mathlib.Core.List.{List, [], _∷_, _++_}
 use lib.ListN.{length, take}
-use Rattle.tokens.specs.Token.{Symbol, Leaf, Prefix, Suffix, Tok, symbol, leaf, pre, suf, arrow, slash, opens, closes}
+use Rattle.read_tokens.specs.Token.{Symbol, Leaf, Prefix, Suffix, Tok, symbol, leaf, pre, suf, arrow, slash, opens, closes}
 
 -- "Loosest to tightest: choice, sequence, one prefix, one suffix, primary", with every parenthesis that is written.
 -- "Choice and sequence associate to the left"

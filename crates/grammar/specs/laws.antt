@@ -1,2 +1,2 @@
 -- Laws of the definitions beside this file.
-pub mod Lists
+pub mod Same

@@ -6,21 +6,21 @@ use mathlib.Core.List.{List, [], _++_}
 use mathlib.Core.Option.{Option, none, some}
 use lib.ListN.{length, getD, drop}
 use lib.Dec.{leb, ltb}
-use Rattle.tokens.specs.declared.Mode.{Mode}
-use Rattle.tokens.specs.Token.{name}
-use Rattle.tokens.specs.Bounds.{inputBound}
+use Rattle.read_tokens.specs.declared.Mode.{Mode}
+use Rattle.read_tokens.specs.Token.{name}
+use Rattle.read_tokens.specs.Bounds.{inputBound}
 use Rattle.grammar.specs.Exp.{Exp}
 use Rattle.grammar.specs.Numbers.{isLake}
 use Rattle.grammar.specs.Refusal.{Refusal, refusal, refuseIf, _▸_}
-use Rattle.words.specs.Set.{empty}
-use Rattle.sets.specs.declared.Sets.{Sets}
-use Rattle.sets.specs.Analysis.{Analysis, setsAt, isExpression, altOf, cannotSkip}
-use Rattle.plain.specs.Plain.{plainRules}
-use Rattle.plain.specs.Calls.{order}
-use Rattle.asking.specs.Asking.{wayIn}
-use Rattle.matching.specs.Cells.{cells}
-use Rattle.matching.specs.Nodes.{Listing, all, deep, full, listOf, listingOf, wordsOf, roomOf}
-use Rattle.writing.specs.Writing.{text}
+use Rattle.base_words.specs.Set.{empty}
+use Rattle.lake_sets.specs.declared.Sets.{Sets}
+use Rattle.lake_sets.specs.Analysis.{Analysis, setsAt, isExpression, altOf, cannotSkip}
+use Rattle.lake_step_two.specs.Plain.{plainRules}
+use Rattle.lake_calls.specs.Calls.{order}
+use Rattle.match_lake.specs.Asking.{wayIn}
+use Rattle.match_cells.specs.Cells.{cells}
+use Rattle.match_nodes.specs.Nodes.{Listing, all, deep, full, listOf, listingOf, wordsOf, roomOf}
+use Rattle.write_rules.specs.Writing.{text}
 use Rattle.gurkenmond.specs.declared.SetsOf.{SetsOf}
 use Rattle.gurkenmond.specs.declared.Lakes.{Lakes}
 use Rattle.gurkenmond.specs.declared.Match.{Match}
@@ -30,8 +30,8 @@ use Rattle.gurkenmond.specs.declared.Way.{Way}
 use Rattle.gurkenmond.specs.declared.Way.the-variants.{Not, ByRule, ByWater, BySkip, Refused as WayRefused}
 use Rattle.gurkenmond.specs.declared.Written.{Written}
 use Rattle.gurkenmond.specs.declared.Written.the-variants.{Bytes, Refused as WrittenRefused}
-use Rattle.preparing.specs.Prepare.{Prepared, prepared, refuses}
-use Rattle.preparing.specs.Reads.{verdictOf}
+use Rattle.prepare.specs.Prepare.{Prepared, prepared, refuses}
+use Rattle.prepare.specs.Reads.{verdictOf}
 
 -- in the words of the table: m the mode, t the grammar text, s the input, cs the work cells, ws the node words, out the output room
 

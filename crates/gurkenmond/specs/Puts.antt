@@ -3,9 +3,9 @@ use Prim.Native.Nat.{ℕ}
 use mathlib.Core.Path.{_≡_}
 use mathlib.Core.Bool.{Bool, true, false}
 use mathlib.Core.List.{List}
-use Rattle.preparing.specs.declared.Verdict.{Verdict}
-use Rattle.preparing.specs.declared.Verdict.the-variants.{Accepted, Refused as VerdictRefused}
-use Rattle.texts.specs.Texts.{textOf, Paged}
+use Rattle.prepare.specs.declared.Verdict.{Verdict}
+use Rattle.prepare.specs.declared.Verdict.the-variants.{Accepted, Refused as VerdictRefused}
+use Rattle.write_text.specs.Texts.{textOf, Paged}
 use Rattle.gurkenmond.specs.declared.Written.{Written}
 use Rattle.gurkenmond.specs.declared.Written.the-variants.{Bytes, Refused as WrittenRefused}
 

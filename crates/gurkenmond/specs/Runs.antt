@@ -5,13 +5,13 @@ use mathlib.Core.List.{List}
 use mathlib.Core.Option.{none}
 use Rattle.grammar.specs.Exp.{Exp}
 use Rattle.grammar.specs.Numbers.{Grammar}
-use Rattle.plain.specs.Calls.{loop}
-use Rattle.listing.specs.declared.Listed.{Listed}
-use Rattle.listing.specs.declared.Listed.the-variants.{All, Deep, Full}
-use Rattle.running.specs.Runs.{Plain}
-use Rattle.preparing.specs.Prepare.{Prepared}
-use Rattle.preparing.specs.declared.Verdict.{Verdict}
-use Rattle.preparing.specs.declared.Verdict.the-variants.{Accepted, Refused as VerdictRefused}
+use Rattle.lake_calls.specs.Calls.{loop}
+use Rattle.match_nodes.specs.declared.Listed.{Listed}
+use Rattle.match_nodes.specs.declared.Listed.the-variants.{All, Deep, Full}
+use Rattle.match_cells.specs.Runs.{Plain}
+use Rattle.prepare.specs.Prepare.{Prepared}
+use Rattle.prepare.specs.declared.Verdict.{Verdict}
+use Rattle.prepare.specs.declared.Verdict.the-variants.{Accepted, Refused as VerdictRefused}
 use Rattle.gurkenmond.specs.declared.Match.{Match}
 use Rattle.gurkenmond.specs.declared.Outcome.{Outcome}
 use Rattle.gurkenmond.specs.declared.Outcome.the-variants.{Matched, NoMatch, Refused as OutcomeRefused}

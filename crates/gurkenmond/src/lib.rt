@@ -1,20 +1,20 @@
 // The public calls (01). Every one checks for itself: none has a `requires`. Their answers (01, "An answer carries its kind with the numbers of that kind")
 // are counts beside an enum. What each case says in document 01's numbers is in specs/Answers.antt, what each call answers in specs/Calls.antt.
 ghost use mathlib.Core.Path.{_≡_};
-ghost use Rattle.preparing.specs.Reads.{readOf};
+ghost use Rattle.prepare.specs.Reads.{readOf};
 ghost use Rattle.gurkenmond.specs.Calls.{noSets, setsOf, cannotSkipOf, matchOf, lakeOf, wayOf, writeOwnOf, writePlainOf};
-ghost use Rattle.matching.specs.Nodes.{soundAt, nodeText};
-ghost use Rattle.preparing.specs.declared.Verdict.the-variants.{Refused as VerdictRefused};
+ghost use Rattle.match_nodes.specs.Nodes.{soundAt, nodeText};
+ghost use Rattle.prepare.specs.declared.Verdict.the-variants.{Refused as VerdictRefused};
 ghost use Rattle.gurkenmond.specs.Runs.{Loopless, Says, Ran, listedMatch, notMatched};
 ghost use Rattle.gurkenmond.specs.Asks.{notAsked, Standing, Asked};
 ghost use Rattle.gurkenmond.specs.Puts.{notWritten, PutText};
-use grammar::Table;
-pub use preparing::Counted;
-pub use preparing::Verdict;
-use tokens::Mode;
+use grammar_table::Table;
+pub use prepare::Counted;
+pub use prepare::Verdict;
+use read_tokens::Mode;
 
 pub struct SetsOf {
-    pub sets: sets::Sets,
+    pub sets: lake_sets::Sets,
     pub rounds: usize,
     pub verdict: Verdict,
 }
@@ -56,16 +56,16 @@ pub enum Written {
 pub fn read(mode: Mode, text: &[u8]) -> Counted
     ensures { λ r. ⌜ r ≡ readOf mode (now (text .entry)) ⌝ }
 {
-    let mut t: Table = [0; 22280];
-    let mut out: Table = [0; 22280];
-    preparing::plainly(mode, text, &mut t, &mut out)
+    let mut t: Table = [0; grammar_table::WORDS];
+    let mut out: Table = [0; grammar_table::WORDS];
+    prepare::plainly(mode, text, &mut t, &mut out)
 }
 
 fn no_sets(v: Verdict) -> SetsOf
     ensures { λ r. ⌜ r ≡ record { sets = noSets; rounds = 0; verdict = v } ⌝ }
 {
     SetsOf {
-        sets: sets::Sets {
+        sets: lake_sets::Sets {
             begin: [0, 0],
             succeed: [0, 0],
             alt: [0, 0],
@@ -80,15 +80,15 @@ fn no_sets(v: Verdict) -> SetsOf
 pub fn sets(mode: Mode, text: &[u8], e: usize) -> SetsOf
     ensures { λ r. ⌜ r ≡ setsOf mode (now (text .entry)) e ⌝ }
 {
-    let mut t: Table = [0; 22280];
-    let mut mid: Table = [0; 22280];
-    let mut out: Table = [0; 22280];
+    let mut t: Table = [0; grammar_table::WORDS];
+    let mut mid: Table = [0; grammar_table::WORDS];
+    let mut out: Table = [0; grammar_table::WORDS];
     let mut marks = [false; 64];
     let mut sets: [[u64; 2]; 1024] = [[0, 0]; 1024];
     let mut eps = [false; 1024];
     let mut succ: [[u64; 2]; 1024] = [[0, 0]; 1024];
     let mut alts: [[u64; 2]; 1024] = [[0, 0]; 1024];
-    let p = preparing::prepare(
+    let p = prepare::prepare(
         mode,
         text,
         &mut t,
@@ -102,10 +102,10 @@ pub fn sets(mode: Mode, text: &[u8], e: usize) -> SetsOf
     );
     let c = p.counted;
     let v = c.verdict;
-    if preparing::is_refused(v) {
+    if prepare::is_refused(v) {
         return no_sets(v);
     }
-    let n = preparing::expressions(&mid);
+    let n = prepare::expressions(&mid);
     if e == 0 {
         return no_sets(Verdict::Refused {
             number: 14,
@@ -118,7 +118,7 @@ pub fn sets(mode: Mode, text: &[u8], e: usize) -> SetsOf
             place: 0,
         });
     }
-    let s = analysis::sets_at(&sets, &eps, &succ, &alts, e);
+    let s = lake_analysis::sets_at(&sets, &eps, &succ, &alts, e);
     SetsOf {
         sets: s,
         rounds: p.rounds,
@@ -130,15 +130,15 @@ pub fn sets(mode: Mode, text: &[u8], e: usize) -> SetsOf
 pub fn cannot_skip(mode: Mode, text: &[u8]) -> Lakes
     ensures { λ r. ⌜ r ≡ cannotSkipOf mode (now (text .entry)) ⌝ }
 {
-    let mut t: Table = [0; 22280];
-    let mut mid: Table = [0; 22280];
-    let mut out: Table = [0; 22280];
+    let mut t: Table = [0; grammar_table::WORDS];
+    let mut mid: Table = [0; grammar_table::WORDS];
+    let mut out: Table = [0; grammar_table::WORDS];
     let mut marks = [false; 64];
     let mut sets: [[u64; 2]; 1024] = [[0, 0]; 1024];
     let mut eps = [false; 1024];
     let mut succ: [[u64; 2]; 1024] = [[0, 0]; 1024];
     let mut alts: [[u64; 2]; 1024] = [[0, 0]; 1024];
-    let p = preparing::prepare(
+    let p = prepare::prepare(
         mode,
         text,
         &mut t,
@@ -152,13 +152,13 @@ pub fn cannot_skip(mode: Mode, text: &[u8]) -> Lakes
     );
     let c = p.counted;
     let v = c.verdict;
-    if preparing::is_refused(v) {
+    if prepare::is_refused(v) {
         return Lakes {
             word: 0,
             verdict: v,
         };
     }
-    let w = analysis::cannot_skip(&mid, &marks, &alts);
+    let w = lake_analysis::cannot_skip(&mid, &marks, &alts);
     Lakes {
         word: w,
         verdict: Verdict::Accepted,
@@ -169,7 +169,7 @@ pub fn cannot_skip(mode: Mode, text: &[u8]) -> Lakes
 fn put_text(t: &Table, out: &mut [u8], plain: bool) -> Written
     ensures { λ r. ⌜ PutText plain (now (t .entry)) (now (out .entry)) (now (out .exit)) r ⌝ }
 {
-    let p = texts::write(t, out, plain);
+    let p = write_text::texts::write(t, out, plain);
     if p.fits {
         return Written::Bytes(p.bytes);
     }
@@ -199,11 +199,11 @@ fn not_written(v: Verdict) -> Written
 pub fn write_own(mode: Mode, text: &[u8], out: &mut [u8]) -> Written
     ensures { λ r. ⌜ (r ≡ writeOwnOf mode (now (text .entry)) (now (out .entry)) .answer) × (now (out .exit) ≡ writeOwnOf mode (now (text .entry)) (now (out .entry)) .out) ⌝ }
 {
-    let mut t: Table = [0; 22280];
-    let mut plain: Table = [0; 22280];
-    let c = preparing::plainly(mode, text, &mut t, &mut plain);
+    let mut t: Table = [0; grammar_table::WORDS];
+    let mut plain: Table = [0; grammar_table::WORDS];
+    let c = prepare::plainly(mode, text, &mut t, &mut plain);
     let v = c.verdict;
-    if preparing::is_refused(v) {
+    if prepare::is_refused(v) {
         return not_written(v);
     }
     put_text(&t, out, false)
@@ -213,11 +213,11 @@ pub fn write_own(mode: Mode, text: &[u8], out: &mut [u8]) -> Written
 pub fn write_plain(mode: Mode, text: &[u8], out: &mut [u8]) -> Written
     ensures { λ r. ⌜ (r ≡ writePlainOf mode (now (text .entry)) (now (out .entry)) .answer) × (now (out .exit) ≡ writePlainOf mode (now (text .entry)) (now (out .entry)) .out) ⌝ }
 {
-    let mut t: Table = [0; 22280];
-    let mut plain: Table = [0; 22280];
-    let c = preparing::plainly(mode, text, &mut t, &mut plain);
+    let mut t: Table = [0; grammar_table::WORDS];
+    let mut plain: Table = [0; grammar_table::WORDS];
+    let c = prepare::plainly(mode, text, &mut t, &mut plain);
     let v = c.verdict;
-    if preparing::is_refused(v) {
+    if prepare::is_refused(v) {
         return not_written(v);
     }
     put_text(&plain, out, true)
@@ -257,22 +257,22 @@ fn refused_match(number: usize, place: usize) -> Match
     }
 }
 
-fn listed_match(taken: usize, l: listing::Listed) -> Match
+fn listed_match(taken: usize, l: match_nodes::Listed) -> Match
     ensures { λ r. ⌜ r ≡ listedMatch taken l ⌝ }
 {
     match l {
-        listing::Listed::All(k) => Match {
+        match_nodes::Listed::All(k) => Match {
             nodes: k,
             outcome: Outcome::Matched(taken),
         },
-        listing::Listed::Deep(k) => Match {
+        match_nodes::Listed::Deep(k) => Match {
             nodes: 0,
             outcome: Outcome::Refused {
                 number: 11,
                 place: k,
             },
         },
-        listing::Listed::Full(k) => Match {
+        match_nodes::Listed::Full(k) => Match {
             nodes: 0,
             outcome: Outcome::Refused {
                 number: 12,
@@ -290,20 +290,20 @@ fn run(t: &Table, input: &[u8], cells: &mut [u32], nodes: &mut [u32]) -> Match
     if 65535 < input.len() {
         return refused_match(9, 65535);
     }
-    let n = preparing::symbols(t);
+    let n = prepare::symbols(t);
     let need = n * (input.len() + 1);
     if cells.len() < need {
         return refused_match(10, need);
     }
-    running::fill(t, input, cells);
-    let c = words::word(cells, 0);
+    match_cells::running::fill(t, input, cells);
+    let c = base_words::word(cells, 0);
     if c == 0 {
         return Match {
             nodes: 0,
             outcome: Outcome::NoMatch,
         };
     }
-    let l = listing::list(t, input, cells, n, nodes);
+    let l = match_nodes::list(t, input, cells, n, nodes);
     listed_match(c - 1, l)
 }
 
@@ -317,11 +317,11 @@ pub fn match_input(
 ) -> Match
     ensures { λ r. ⌜ Says r (now (cells .exit)) (now (nodes .exit)) (matchOf mode (now (text .entry)) (now (input .entry)) (now (cells .entry)) (now (nodes .entry))) ⌝ }
 {
-    let mut t: Table = [0; 22280];
-    let mut plain: Table = [0; 22280];
-    let c = preparing::plainly(mode, text, &mut t, &mut plain);
+    let mut t: Table = [0; grammar_table::WORDS];
+    let mut plain: Table = [0; grammar_table::WORDS];
+    let c = prepare::plainly(mode, text, &mut t, &mut plain);
     let v = c.verdict;
-    if preparing::is_refused(v) {
+    if prepare::is_refused(v) {
         return not_matched(v);
     }
     run(&plain, input, cells, nodes)
@@ -331,14 +331,14 @@ pub fn match_input(
 pub fn node_sound(nodes: &[u32], k: usize, n: usize) -> bool
     ensures { λ r. ⌜ r ≡ soundAt (now (nodes .entry)) k n ⌝ }
 {
-    listing::nodes::sound(nodes, k, n)
+    match_nodes::nodes::sound(nodes, k, n)
 }
 
 // The text of a node, as that part of the lent input; for an unsound node the empty part at 0.
 pub fn node_text<'a>(input: &'a [u8], nodes: &[u32], k: usize) -> &'a [u8]
     ensures { λ r. ⌜ now r ≡ nodeText (now (input .entry)) (now (nodes .entry)) k ⌝ }
 {
-    listing::nodes::text(input, nodes, k)
+    match_nodes::nodes::text(input, nodes, k)
 }
 
 fn refused_way(number: usize, place: usize) -> Way
@@ -394,7 +394,7 @@ fn ask(
     if 65535 < input.len() {
         return refused_way(9, 65535);
     }
-    let n = preparing::symbols(plain);
+    let n = prepare::symbols(plain);
     let need = n * (input.len() + 1);
     if cells.len() < need {
         return refused_way(10, need);
@@ -402,15 +402,15 @@ fn ask(
     if n <= lake {
         return refused_way(14, 0);
     }
-    if !analysis::is_lake(mid, lake) {
+    if !lake_analysis::is_lake(mid, lake) {
         return refused_way(14, 0);
     }
     if input.len() < place {
         return refused_way(14, 0);
     }
-    running::fill(plain, input, cells);
-    let a = analysis::alt_of(mid, alts, lake);
-    let w = asking::way(t, input, cells, n, a, lake, place);
+    match_cells::running::fill(plain, input, cells);
+    let a = lake_analysis::alt_of(mid, alts, lake);
+    let w = match_lake::way(t, input, cells, n, a, lake, place);
     way_of(w)
 }
 
@@ -425,15 +425,15 @@ pub fn lake_at(
 ) -> Way
     ensures { λ r. ⌜ (r ≡ lakeOf mode (now (text .entry)) (now (input .entry)) (now (cells .entry)) lake place .way) × (now (cells .exit) ≡ lakeOf mode (now (text .entry)) (now (input .entry)) (now (cells .entry)) lake place .cells) ⌝ }
 {
-    let mut t: Table = [0; 22280];
-    let mut mid: Table = [0; 22280];
-    let mut plain: Table = [0; 22280];
+    let mut t: Table = [0; grammar_table::WORDS];
+    let mut mid: Table = [0; grammar_table::WORDS];
+    let mut plain: Table = [0; grammar_table::WORDS];
     let mut marks = [false; 64];
     let mut sets: [[u64; 2]; 1024] = [[0, 0]; 1024];
     let mut eps = [false; 1024];
     let mut succ: [[u64; 2]; 1024] = [[0, 0]; 1024];
     let mut alts: [[u64; 2]; 1024] = [[0, 0]; 1024];
-    let p = preparing::prepare(
+    let p = prepare::prepare(
         mode,
         text,
         &mut t,
@@ -447,7 +447,7 @@ pub fn lake_at(
     );
     let c = p.counted;
     let v = c.verdict;
-    if preparing::is_refused(v) {
+    if prepare::is_refused(v) {
         return not_asked(v);
     }
     ask(&t, &mid, &alts, &plain, input, cells, lake, place)

@@ -1,6 +1,6 @@
 // Writes the plain text of the lake grammar in the file `grammar.peg` (01, Writing), or refused NUMBER PLACE, or unreadable if the file cannot be opened.
 use gurkenmond::Written;
-use tokens::Mode;
+use read_tokens::Mode;
 
 fn answer(text: &[u8]) {
     let mut out = io::large_buffer();

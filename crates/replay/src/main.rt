@@ -15,7 +15,7 @@ ghost use lib.ListN.{length};
 mod says;
 
 use gurkenmond::Verdict;
-use tokens::Mode;
+use read_tokens::Mode;
 
 fn answer_read(mode: Mode, text: &[u8]) {
     let r = gurkenmond::read(mode, text);
@@ -108,8 +108,8 @@ fn number_at(line: &[u8], at: usize, most: usize) -> usize
     requires { ⌜ most < 4294967296 ⌝ }
     ensures { λ r. ⌜ r ≤ most + 1 ⌝ }
 {
-    let to = lines::until(line, at);
-    let n = lines::decimal(line, at, to);
+    let to = replay_lines::until(line, at);
+    let n = replay_lines::decimal(line, at, to);
     if most < n {
         return most + 1;
     }
@@ -131,7 +131,7 @@ fn ask_text(kind: u8, mode: Mode, text: &[u8], line: &[u8], at: usize) {
         console::unreadable();
         return;
     }
-    let mut out = lines::buffers::room();
+    let mut out = replay_lines::buffers::room();
     if kind == 5 {
         answer_own(mode, text, &mut out[..n]);
     } else {
@@ -141,7 +141,7 @@ fn ask_text(kind: u8, mode: Mode, text: &[u8], line: &[u8], at: usize) {
 
 fn ask_match(mode: Mode, text: &[u8], input: &[u8], line: &[u8], at: usize) {
     let c = number_at(line, at, 131072);
-    let then = lines::after(line, at);
+    let then = replay_lines::after(line, at);
     let k = number_at(line, then, 65536);
     if c == 131073 {
         console::unreadable();
@@ -151,16 +151,16 @@ fn ask_match(mode: Mode, text: &[u8], input: &[u8], line: &[u8], at: usize) {
         console::unreadable();
         return;
     }
-    let mut cells = lines::buffers::cells();
-    let mut nodes = lines::buffers::nodes();
+    let mut cells = replay_lines::buffers::cells();
+    let mut nodes = replay_lines::buffers::nodes();
     answer_match(mode, text, input, &mut cells[..c], &mut nodes[..k]);
 }
 
 fn ask_lake(mode: Mode, text: &[u8], input: &[u8], line: &[u8], at: usize) {
     let c = number_at(line, at, 131072);
-    let then = lines::after(line, at);
+    let then = replay_lines::after(line, at);
     let lake = number_at(line, then, 4294967295);
-    let last = lines::after(line, then);
+    let last = replay_lines::after(line, then);
     let place = number_at(line, last, 4294967295);
     if c == 131073 {
         console::unreadable();
@@ -174,20 +174,20 @@ fn ask_lake(mode: Mode, text: &[u8], input: &[u8], line: &[u8], at: usize) {
         console::unreadable();
         return;
     }
-    let mut cells = lines::buffers::cells();
+    let mut cells = replay_lines::buffers::cells();
     answer_lake(mode, text, input, &mut cells[..c], lake, place);
 }
 
 // A question with an input, whose field begins at `at`.
 fn ask_input(kind: u8, mode: Mode, text: &[u8], line: &[u8], at: usize) {
-    let to = lines::until(line, at);
-    if !lines::is_bytes(line, at, to, 65600) {
+    let to = replay_lines::until(line, at);
+    if !replay_lines::is_bytes(line, at, to, 65600) {
         console::unreadable();
         return;
     }
-    let mut input = lines::buffers::input();
-    let n = lines::decode(line, at, to, &mut input);
-    let then = lines::after(line, at);
+    let mut input = replay_lines::buffers::input();
+    let n = replay_lines::decode(line, at, to, &mut input);
+    let then = replay_lines::after(line, at);
     if kind == 3 {
         ask_match(mode, text, &input[..n], line, then);
     } else {
@@ -209,14 +209,14 @@ fn ask(kind: u8, mode: Mode, text: &[u8], line: &[u8], at: usize) {
 
 // The grammar's field begins at `at`.
 fn grammar_at(kind: u8, mode: Mode, line: &[u8], at: usize) {
-    let to = lines::until(line, at);
-    if !lines::is_bytes(line, at, to, 1048640) {
+    let to = replay_lines::until(line, at);
+    if !replay_lines::is_bytes(line, at, to, 1048640) {
         console::unreadable();
         return;
     }
-    let mut text = lines::buffers::text();
-    let n = lines::decode(line, at, to, &mut text);
-    let then = lines::after(line, at);
+    let mut text = replay_lines::buffers::text();
+    let n = replay_lines::decode(line, at, to, &mut text);
+    let then = replay_lines::after(line, at);
     ask(kind, mode, &text[..n], line, then);
 }
 
@@ -224,11 +224,11 @@ fn grammar_at(kind: u8, mode: Mode, line: &[u8], at: usize) {
 fn mode_at(kind: u8, line: &[u8], at: usize)
     requires { ⌜ at ≤ 16 ⌝ }
 {
-    if lines::stands(line, at, b"lake ") {
+    if replay_lines::stands(line, at, b"lake ") {
         grammar_at(kind, Mode::Lake, line, at + 5);
         return;
     }
-    if lines::stands(line, at, b"plain ") {
+    if replay_lines::stands(line, at, b"plain ") {
         grammar_at(kind, Mode::Plain, line, at + 6);
         return;
     }
@@ -236,31 +236,31 @@ fn mode_at(kind: u8, line: &[u8], at: usize)
 }
 
 fn answer(line: &[u8]) {
-    if lines::stands(line, 0, b"read ") {
+    if replay_lines::stands(line, 0, b"read ") {
         mode_at(0, line, 5);
         return;
     }
-    if lines::stands(line, 0, b"sets ") {
+    if replay_lines::stands(line, 0, b"sets ") {
         mode_at(1, line, 5);
         return;
     }
-    if lines::stands(line, 0, b"skip ") {
+    if replay_lines::stands(line, 0, b"skip ") {
         mode_at(2, line, 5);
         return;
     }
-    if lines::stands(line, 0, b"match ") {
+    if replay_lines::stands(line, 0, b"match ") {
         mode_at(3, line, 6);
         return;
     }
-    if lines::stands(line, 0, b"lake ") {
+    if replay_lines::stands(line, 0, b"lake ") {
         mode_at(4, line, 5);
         return;
     }
-    if lines::stands(line, 0, b"own ") {
+    if replay_lines::stands(line, 0, b"own ") {
         mode_at(5, line, 4);
         return;
     }
-    if lines::stands(line, 0, b"plain ") {
+    if replay_lines::stands(line, 0, b"plain ") {
         mode_at(6, line, 6);
         return;
     }
@@ -319,6 +319,6 @@ fn answer_all(chunk: &mut [u8], line: &mut [u8]) {
 
 fn main() {
     let mut chunk = io::large_buffer();
-    let mut line = lines::buffers::line();
+    let mut line = replay_lines::buffers::line();
     answer_all(&mut chunk, &mut line);
 }

@@ -50,7 +50,7 @@ pub fn bytes(out: &[u8], n: usize) {
     }
 }
 
-pub fn sets(s: sets::Sets) {
+pub fn sets(s: lake_sets::Sets) {
     number(s.begin[0]);
     number(s.begin[1]);
     number(s.succeed[0]);

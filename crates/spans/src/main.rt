@@ -3,9 +3,9 @@
 ghost use mathlib.Core.Path.{_≡_};
 ghost use Prim.Native.Nat.{_<_};
 ghost use lib.ListN.{length};
-use grammar::Table;
+use grammar_table::Table;
 use gurkenmond::Outcome;
-use tokens::Mode;
+use read_tokens::Mode;
 
 fn cell_room() -> [u32; 16384]
     ensures { λ r. ⌜ 16384 ≡ length r ⌝ }
@@ -24,7 +24,7 @@ fn print_name(t: &Table, r: usize)
     requires { ⌜ r < 4294967296 ⌝ }
 {
     let mut room = [0u8; 64];
-    let n = printing::leaves::symbol(t, &mut room, true, false, 0, r);
+    let n = write_text::leaves::symbol(t, &mut room, true, false, 0, r);
     console::print_front(&room, n);
 }
 
@@ -32,10 +32,10 @@ fn print_name(t: &Table, r: usize)
 fn print_node(t: &Table, nodes: &[u32; 4096], k: usize)
     requires { ⌜ k < 1024 ⌝ }
 {
-    let r = words::word(nodes, 4 * k);
-    let start = words::word(nodes, 4 * k + 1);
-    let end = words::word(nodes, 4 * k + 2);
-    let depth = words::word(nodes, 4 * k + 3);
+    let r = base_words::word(nodes, 4 * k);
+    let start = base_words::word(nodes, 4 * k + 1);
+    let end = base_words::word(nodes, 4 * k + 2);
+    let depth = base_words::word(nodes, 4 * k + 3);
     io::print_decimal(1, start as u64);
     console::number(end);
     console::number(depth);
@@ -60,9 +60,9 @@ fn print_match(text: &[u8], taken: usize, nodes: &[u32; 4096], count: usize) {
     io::write_all(1, b"match");
     console::number(taken);
     console::line_end();
-    let mut t: Table = [0; 22280];
-    let mut plain: Table = [0; 22280];
-    preparing::plainly(Mode::Lake, text, &mut t, &mut plain);
+    let mut t: Table = [0; grammar_table::WORDS];
+    let mut plain: Table = [0; grammar_table::WORDS];
+    prepare::plainly(Mode::Lake, text, &mut t, &mut plain);
     print_nodes(&t, nodes, count);
 }
 

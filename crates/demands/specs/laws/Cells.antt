@@ -10,32 +10,32 @@ use native.Mathlib.Omega.{arith}
 use native.Mathlib.Nat.{mul-comm}
 use lib.ListN.{length, getD}
 use borrow.Author.Tests.{le-ltb}
-use Rattle.tokens.specs.Bounds.{inputBound}
-use Rattle.tokens.specs.declared.Mode.{Mode}
+use Rattle.read_tokens.specs.Bounds.{inputBound}
+use Rattle.read_tokens.specs.declared.Mode.{Mode}
 use Rattle.grammar.specs.Exp.{Exp, sym, ter}
-use Rattle.tokens.specs.Token.{any}
+use Rattle.read_tokens.specs.Token.{any}
 use Rattle.grammar.specs.Empty.{hasEmpty}
 use Rattle.grammar.specs.Numbers.{Grammar, numbered}
 use Rattle.grammar.specs.Refusal.{Refusal, refuseIf, _▸_}
-use Rattle.reading.specs.Reading.{rulesOf}
-use Rattle.sets.specs.Analysis.{terminalIn}
-use Rattle.sets.specs.Beginning.{marked, marksOf}
-use Rattle.sets.specs.Proper.{SoundAll}
-use Rattle.sets.specs.laws.Lists.{getD-any}
-use Rattle.analysis.specs.laws.Marks.{marks-least}
-use Rattle.plain.specs.Calls.{order, loop}
-use Rattle.meaning.specs.Meaning.{Node, Derives}
-use Rattle.meaning.specs.laws.One.{one}
-use Rattle.matching.specs.Eval.{nowhere}
-use Rattle.matching.specs.First.{Markings, Ordered}
-use Rattle.matching.specs.laws.Agrees.{Right}
-use Rattle.matching.specs.laws.Filled.{filled-right, filled-behind, filled-length}
-use Rattle.running.specs.laws.Order.{ordered}
-use Rattle.running.specs.laws.Full.{calls-small}
-use Rattle.preparing.specs.Prepare.{prepared, preparedBy, refuses}
-use Rattle.preparing.specs.laws.Reads.{clear-sound, clear-loop}
+use Rattle.read_syntax.specs.Reading.{rulesOf}
+use Rattle.grammar.specs.Numbers.{terminalIn}
+use Rattle.lake_sets.specs.Beginning.{marked, marksOf}
+use Rattle.lake_step_one.specs.Proper.{SoundAll}
+use Rattle.grammar_table.specs.laws.Places.{getD-any}
+use Rattle.lake_analysis.specs.laws.Marks.{marks-least}
+use Rattle.lake_calls.specs.Calls.{order, loop}
+use Rattle.match_meaning.specs.Meaning.{Node, Derives}
+use Rattle.match_meaning.specs.laws.One.{one}
+use Rattle.match_cells.specs.Eval.{nowhere}
+use Rattle.match_cells.specs.First.{Markings, Ordered}
+use Rattle.match_cells.specs.laws.Agrees.{Right}
+use Rattle.match_cells.specs.laws.Filled.{filled-right, filled-behind, filled-length}
+use Rattle.match_cells.specs.laws.Order.{ordered}
+use Rattle.match_cells.specs.laws.Full.{calls-small}
+use Rattle.prepare.specs.Prepare.{prepared, preparedBy, refuses}
+use Rattle.prepare.specs.laws.Reads.{clear-sound, clear-loop}
 use Rattle.gurkenmond.specs.Calls.{Matching, cellsNeeded, refusesInput, listingBy, matchBy, filled, matchAfter, matchOf}
-use Rattle.matching.specs.Nodes.{Listing, all, deep, full, listingOf, listOf, wordsOf, roomOf}
+use Rattle.match_nodes.specs.Nodes.{Listing, all, deep, full, listingOf, listOf, wordsOf, roomOf}
 use Rattle.demands.specs.Meant.{meant}
 use Rattle.demands.specs.laws.Meant.{bodies-many, from-plain}
 

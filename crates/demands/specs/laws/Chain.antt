@@ -8,7 +8,7 @@ use native.Mathlib.Omega.{arith}
 use lib.Dec.{ltb}
 use borrow.Author.Tests.{ltb-true, lt-ltb}
 use Rattle.grammar.specs.Refusal.{Refusal, refusal, refuseIf, refuseAt, _▸_}
-use Rattle.preparing.specs.laws.Loads.{some-none}
+use Rattle.prepare.specs.laws.Loads.{some-none}
 use Rattle.demands.specs.Rows.{Over, Tells}
 
 pub same-refusal : {r q : Refusal} → some r ≡ some q → r ≡ q

@@ -7,20 +7,20 @@ use mathlib.Core.Logic.{_↔_}
 use mathlib.Core.Option.{Option, none, some}
 use lib.ListN.{length}
 use lib.Dec.{ltb, leb}
-use Rattle.tokens.specs.declared.Mode.{Mode}
-use Rattle.tokens.specs.Bounds.{inputBound}
-use Rattle.tokens.specs.Tokens.{lexemes}
+use Rattle.read_tokens.specs.declared.Mode.{Mode}
+use Rattle.read_tokens.specs.Bounds.{inputBound}
+use Rattle.read_tokens.specs.Tokens.{lexemes}
 use Rattle.grammar.specs.Refusal.{Refusal, refuseIf, refuseAt, _▸_}
-use Rattle.reading.specs.Machine.{start, judge}
-use Rattle.reading.specs.Reading.{tooLong, offence, second, unruled, leftsIn, tooMany, rulesOf}
-use Rattle.scanning.specs.laws.Chain.{assoc}
-use Rattle.sets.specs.Analysis.{isExpression}
-use Rattle.plain.specs.Calls.{looping}
-use Rattle.plain.specs.Plain.{plainRules, tooLarge}
-use Rattle.writing.specs.Writing.{text}
-use Rattle.preparing.specs.Prepare.{prepared, refuses}
-use Rattle.preparing.specs.Reads.{readBy, readOf}
-use Rattle.preparing.specs.laws.Loads.{some-none}
+use Rattle.read_syntax.specs.Machine.{start, judge}
+use Rattle.read_syntax.specs.Reading.{tooLong, offence, second, unruled, leftsIn, tooMany, rulesOf}
+use Rattle.prepare.specs.laws.Chain.{assoc}
+use Rattle.lake_sets.specs.Analysis.{isExpression}
+use Rattle.lake_calls.specs.Calls.{looping}
+use Rattle.lake_step_two.specs.Plain.{plainRules, tooLarge}
+use Rattle.write_rules.specs.Writing.{text}
+use Rattle.prepare.specs.Prepare.{prepared, refuses}
+use Rattle.prepare.specs.Reads.{readBy, readOf}
+use Rattle.prepare.specs.laws.Loads.{some-none}
 use Rattle.gurkenmond.specs.Calls.{setsBy, setsOf, lakesBy, cannotSkipOf, cellsNeeded, refusesInput, matchAfter, matchOf, isLakeAt, lakeAfter, lakeOf, writeAfter, writeOwnOf, writePlainOf}
 use Rattle.demands.specs.Checks.{checksOf, matchChecks, lakeChecks, setsChecks, writeChecks, firstOf, AllPass, Refuses}
 use Rattle.demands.specs.laws.Chain.{same-refusal}

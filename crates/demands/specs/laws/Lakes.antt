@@ -9,20 +9,21 @@ use native.Mathlib.Omega.{arith}
 use lib.ListN.{length, getD}
 use lib.Dec.{ltb, leb, eqb}
 use borrow.Author.Tests.{ltb-true, ltb-false, lt-ltb, le-ltb, le-leb, ne-eqb}
-use Rattle.tokens.specs.Token.{name}
-use Rattle.tokens.specs.Bounds.{inputBound}
-use Rattle.tokens.specs.declared.Mode.{Mode}
+use Rattle.base_facts.specs.Bools.{and-parts}
+use Rattle.read_tokens.specs.Token.{name}
+use Rattle.read_tokens.specs.Bounds.{inputBound}
+use Rattle.read_tokens.specs.declared.Mode.{Mode}
 use Rattle.grammar.specs.Exp.{Exp}
 use Rattle.grammar.specs.Lakes.{waterOf}
 use Rattle.grammar.specs.Numbers.{isLake}
 use Rattle.grammar.specs.Refusal.{Refusal, refuseIf, _▸_}
-use Rattle.meaning.specs.Meaning.{lake, Meant, Node, own, wet, some-of, Tries, own-none, own-is, dry-end, dry, wet-is, none-of, this-one, later-one, Derives}
-use Rattle.meaning.specs.laws.One.{one}
-use Rattle.matching.specs.Eval.{leafAt, neverOf, ev}
-use Rattle.matching.specs.laws.Agrees.{Right}
-use Rattle.matching.specs.laws.Whole.{Holds, evaluated}
-use Rattle.asking.specs.Asking.{noneMatches, ownTakes, wayNumber, wayIn}
-use Rattle.preparing.specs.Prepare.{prepared, refuses}
+use Rattle.match_meaning.specs.Meaning.{lake, Meant, Node, own, wet, some-of, Tries, own-none, own-is, dry-end, dry, wet-is, none-of, this-one, later-one, Derives}
+use Rattle.match_meaning.specs.laws.One.{one}
+use Rattle.match_cells.specs.Eval.{leafAt, neverOf, ev}
+use Rattle.match_cells.specs.laws.Agrees.{Right}
+use Rattle.match_nodes.specs.laws.Whole.{Holds, evaluated}
+use Rattle.match_lake.specs.Asking.{noneMatches, ownTakes, wayNumber, wayIn}
+use Rattle.prepare.specs.Prepare.{prepared, refuses}
 use Rattle.gurkenmond.specs.declared.Way.{Way}
 use Rattle.gurkenmond.specs.declared.Way.the-variants.{Not, ByRule, ByWater, BySkip}
 use Rattle.gurkenmond.specs.Calls.{LakeAnswer, cellsNeeded, refusesInput, filled, isLakeAt, wayOf, lakeAfter, lakeOf, matchOf}
@@ -160,13 +161,8 @@ module _ (m : Mode) (t s cs : List ℕ) (l q : ℕ) (ok : refuses m t ≡ none) 
   -- they are what the lake stands for
   pub lake-stands : meant m t .body l ≡ lake right-side alternative-symbols
   lake-stands =
-      let w = both (ltb l (length (prepared m t .grammar .names))) (isLake (getD (prepared m t .grammar .names) l (name []))) is-lake in
+      let w = and-parts (ltb l (length (prepared m t .grammar .names))) (isLake (getD (prepared m t .grammar .names) l (name []))) is-lake in
       ap (λ (b : Bool). standsIn b (prepared m t .grammar) (prepared m t .analysis) l) (w .0) ∙ ap (λ (b : Bool). standsFor b right-side alternative-symbols) (w .1)
-    where
-      both : (a b : Bool) → (a && b) ≡ true → (a ≡ true) × (b ≡ true)
-      both true true e = (refl, refl)
-      both true false e = absurd (true≢false (flip e))
-      both false b e = absurd (true≢false (flip e))
 
   way-is : lakeOf m t s cs l q .way ≡ wayOf (wayNumber s (filled (prepared m t) s cs) (length (prepared m t .bodies)) right-side (meant m t .water) alternative-symbols q)
   unfolding wayIn

@@ -8,18 +8,18 @@ use mathlib.Core.Logic.{_↔_}
 use mathlib.Core.Option.{none}
 use native.Mathlib.Omega.{arith}
 use lib.ListN.{length, getD}
-use Rattle.tokens.specs.declared.Mode.{Mode}
+use Rattle.read_tokens.specs.declared.Mode.{Mode}
 use Rattle.grammar.specs.Numbers.{Grammar, numbered}
-use Rattle.reading.specs.Reading.{refusesText, rulesOf}
-use Rattle.sets.specs.Analysis.{terminalIn}
-use Rattle.sets.specs.Proper.{SoundAll}
-use Rattle.accepted.specs.laws.Dot.{dot-in}
-use Rattle.plain.specs.Calls.{callsOf, holds, reach}
-use Rattle.plain.specs.laws.Loops.{Reaches, reach-is, Smallest}
-use Rattle.translation.specs.laws.Proper.{plain-proper}
-use Rattle.running.specs.laws.Full.{calls-small}
-use Rattle.preparing.specs.Prepare.{prepared, preparedBy}
-use Rattle.preparing.specs.laws.Reads.{is-good}
+use Rattle.read_syntax.specs.Reading.{refusesText, rulesOf}
+use Rattle.grammar.specs.Numbers.{terminalIn}
+use Rattle.lake_step_one.specs.Proper.{SoundAll}
+use Rattle.prepare.specs.laws.Dot.{dot-in}
+use Rattle.lake_calls.specs.Calls.{callsOf, holds, reach}
+use Rattle.lake_calls.specs.laws.Reaches.{Reaches, reach-is, Smallest}
+use Rattle.lake_step_two.specs.laws.Proper.{plain-proper}
+use Rattle.match_cells.specs.laws.Full.{calls-small}
+use Rattle.prepare.specs.Prepare.{prepared, preparedBy}
+use Rattle.prepare.specs.laws.Reads.{is-good}
 use Rattle.demands.specs.laws.Meant.{bodies-many}
 
 -- p is the smallest symbol that reaches itself, one first call after the other

@@ -9,22 +9,22 @@ use mathlib.Core.Logic.{inl, inr}
 use mathlib.Core.Option.{none}
 use native.Mathlib.Omega.{arith}
 use lib.ListN.{length, getD, length-append}
-use Rattle.tokens.specs.Bounds.{inputBound, nodeWords}
-use Rattle.tokens.specs.declared.Mode.{Mode}
+use Rattle.read_tokens.specs.Bounds.{inputBound, nodeWords}
+use Rattle.read_tokens.specs.declared.Mode.{Mode}
 use Rattle.grammar.specs.Exp.{Rule, sym}
 use Rattle.grammar.specs.Syntax.{Rules, rule, more}
 use Rattle.grammar.specs.Trees.{trees, treeC, ruled}
 use Rattle.grammar.specs.Numbers.{leftSides, looseLakes, symbolsOf, numbered}
-use Rattle.reading.specs.Reading.{rulesOf}
-use Rattle.texts.specs.laws.Own.{lefts-long}
-use Rattle.meaning.specs.Meaning.{Node, Derives}
-use Rattle.meaning.specs.laws.One.{one}
-use Rattle.matching.specs.Nodes.{Listing, deep, full, listingOf, wordsOf, roomOf, nodesAt, soundAt, nodeText, partOf}
-use Rattle.matching.specs.laws.Cut.{IsAll}
-use Rattle.matching.specs.laws.Words.{words-length, words-behind, words-refused, words-back, match-sound, match-text}
-use Rattle.matching.specs.laws.Whole.{listed}
-use Rattle.preparing.specs.Prepare.{prepared, preparedBy, refuses}
-use Rattle.preparing.specs.laws.Reads.{grammar-read, clear-text}
+use Rattle.read_syntax.specs.Reading.{rulesOf}
+use Rattle.write_text.specs.laws.Own.{lefts-long}
+use Rattle.match_meaning.specs.Meaning.{Node, Derives}
+use Rattle.match_meaning.specs.laws.One.{one}
+use Rattle.match_nodes.specs.Nodes.{Listing, deep, full, listingOf, wordsOf, roomOf, nodesAt, soundAt, nodeText, partOf}
+use Rattle.match_nodes.specs.laws.Cut.{IsAll}
+use Rattle.match_nodes.specs.laws.Words.{words-length, words-behind, words-refused, words-back, match-sound, match-text}
+use Rattle.match_nodes.specs.laws.Whole.{listed}
+use Rattle.prepare.specs.Prepare.{prepared, preparedBy, refuses}
+use Rattle.prepare.specs.laws.Reads.{grammar-read, clear-text}
 use Rattle.gurkenmond.specs.declared.Match.{Match}
 use Rattle.gurkenmond.specs.declared.Outcome.{Outcome}
 use Rattle.gurkenmond.specs.declared.Outcome.the-variants.{Matched, NoMatch, Refused as OutcomeRefused}

@@ -9,25 +9,25 @@ use native.Mathlib.Omega.{arith}
 use lib.ListN.{length, getD, replicate, length-map, length-append, length-replicate, List·getD-eq-default}
 use lib.Dec.{ltb}
 use borrow.Author.Tests.{ltb-true, ltb-false}
-use Rattle.tokens.specs.declared.Mode.{Mode}
-use Rattle.tokens.specs.Token.{name, any}
+use Rattle.read_tokens.specs.declared.Mode.{Mode}
+use Rattle.read_tokens.specs.Token.{name, any}
 use Rattle.grammar.specs.Exp.{Exp, Rule, ter}
 use Rattle.grammar.specs.Numbers.{Grammar, isLake, leftSides, looseLakes, symbolsOf, rightBy, numbered}
-use Rattle.reading.specs.Reading.{rulesOf}
-use Rattle.sets.specs.Intermediate.{waterIn, bodyBy, intermediate}
-use Rattle.sets.specs.Analysis.{Analysis, analysis, altOf}
-use Rattle.sets.specs.laws.Lists.{getD-any}
-use Rattle.lakes.specs.laws.Next.{bodies-at, bodies-long as middle-long}
-use Rattle.plain.specs.Plain.{alternatives, plainBy, plainBodies}
-use Rattle.translation.specs.laws.Bodies.{plain-at}
-use Rattle.texts.specs.laws.Own.{lefts-long}
-use Rattle.texts.specs.laws.Plain.{bodies-long}
-use Rattle.meaning.specs.Meaning.{Body, rule, Meant, Node, Derives, plainBody, plainOf}
-use Rattle.meaning.specs.laws.LakesPlain.{lakes-are-plain}
-use Rattle.matching.specs.Eval.{nowhere, bodyOf}
-use Rattle.matching.specs.laws.Sound.{plainly}
-use Rattle.matching.specs.laws.Whole.{Holds}
-use Rattle.preparing.specs.Prepare.{prepared, preparedBy}
+use Rattle.read_syntax.specs.Reading.{rulesOf}
+use Rattle.lake_step_one.specs.Intermediate.{waterIn, bodyBy, intermediate}
+use Rattle.lake_sets.specs.Analysis.{Analysis, analysis, altOf}
+use Rattle.grammar_table.specs.laws.Places.{getD-any}
+use Rattle.lake_step_one.specs.laws.Next.{bodies-at, bodies-long as middle-long}
+use Rattle.lake_step_two.specs.Plain.{alternatives, plainBy, plainBodies}
+use Rattle.lake_step_two.specs.laws.Bodies.{plain-at}
+use Rattle.write_text.specs.laws.Own.{lefts-long}
+use Rattle.write_text.specs.laws.Plain.{bodies-long}
+use Rattle.match_meaning.specs.Meaning.{Body, rule, Meant, Node, Derives, plainBody, plainOf}
+use Rattle.match_meaning.specs.laws.LakesPlain.{lakes-are-plain}
+use Rattle.match_cells.specs.Eval.{nowhere, bodyOf}
+use Rattle.match_cells.specs.laws.Sound.{plainly}
+use Rattle.match_nodes.specs.laws.Whole.{Holds}
+use Rattle.prepare.specs.Prepare.{prepared, preparedBy}
 use Rattle.demands.specs.Meant.{standsFor, standsIn, meantOf, meant}
 
 -- one symbol, made plain by steps 1 and 2

@@ -13,16 +13,16 @@ use lib.ListN.{length, getD}
 use lib.Seq.{ext-getD}
 use lib.Dec.{ltb}
 use borrow.Author.Tests.{ltb-true, ltb-false}
-use Rattle.tokens.specs.declared.Mode.{Mode}
-use Rattle.tokens.specs.Bounds.{inputBound, nodeWords}
+use Rattle.read_tokens.specs.declared.Mode.{Mode}
+use Rattle.read_tokens.specs.Bounds.{inputBound, nodeWords}
 use Rattle.grammar.specs.Exp.{sym}
 use Rattle.grammar.specs.Refusal.{Refusal, _▸_}
-use Rattle.meaning.specs.Meaning.{Node, Derives}
-use Rattle.meaning.specs.laws.One.{one}
-use Rattle.plain.specs.Calls.{order}
-use Rattle.matching.specs.Nodes.{roomOf, wordsOf, nodeAt, nodesAt}
-use Rattle.matching.specs.laws.Filled.{filled-length}
-use Rattle.preparing.specs.Prepare.{prepared, refuses}
+use Rattle.match_meaning.specs.Meaning.{Node, Derives}
+use Rattle.match_meaning.specs.laws.One.{one}
+use Rattle.lake_calls.specs.Calls.{order}
+use Rattle.match_nodes.specs.Nodes.{roomOf, wordsOf, nodeAt, nodesAt}
+use Rattle.match_cells.specs.laws.Filled.{filled-length}
+use Rattle.prepare.specs.Prepare.{prepared, refuses}
 use Rattle.gurkenmond.specs.declared.Outcome.the-variants.{Matched, NoMatch, Refused as OutcomeRefused}
 use Rattle.gurkenmond.specs.Calls.{Matching, matching, cellsNeeded, refusesInput, filled, matchOf}
 use Rattle.demands.specs.Meant.{meant}

@@ -9,10 +9,10 @@ use mathlib.Core.Option.{Option, none, some}
 use lib.ListN.{length}
 use lib.Dec.{leb}
 use borrow.Author.Tests.{le-leb, leb-true}
-use Rattle.tokens.specs.declared.Mode.{Mode}
+use Rattle.read_tokens.specs.declared.Mode.{Mode}
 use Rattle.grammar.specs.Exp.{Exp}
 use Rattle.grammar.specs.Refusal.{Refusal, refuseIf, _▸_}
-use Rattle.preparing.specs.Prepare.{prepared, refuses}
+use Rattle.prepare.specs.Prepare.{prepared, refuses}
 use Rattle.gurkenmond.specs.declared.Way.{Way}
 use Rattle.gurkenmond.specs.Calls.{LakeAnswer, refusesInput, filled, isLakeAt, lakeOf}
 use Rattle.demands.specs.Meant.{meant, rightAt, alternativesAt}

@@ -8,10 +8,10 @@ use native.Mathlib.Omega.{arith}
 use lib.ListN.{length, length-append}
 use lib.Dec.{ltb}
 use borrow.Author.Tests.{ltb-true, ltb-false}
-use Rattle.tokens.specs.Bounds.{depthBound}
-use Rattle.meaning.specs.Meaning.{Node}
-use Rattle.matching.specs.Nodes.{all, deep, full, listingOf}
-use Rattle.matching.specs.laws.Cut.{listing-deep, listing-full, listing-next}
+use Rattle.read_tokens.specs.Bounds.{depthBound}
+use Rattle.match_meaning.specs.Meaning.{Node}
+use Rattle.match_nodes.specs.Nodes.{all, deep, full, listingOf}
+use Rattle.match_nodes.specs.laws.Cut.{listing-deep, listing-full, listing-next}
 use Rattle.demands.specs.Offends.{Shallow, Fits, Reaches, TooDeep, NoRoom}
 
 -- nodes that do not offend are passed over

@@ -10,24 +10,25 @@ use native.Mathlib.Omega.{arith}
 use lib.ListN.{length}
 use lib.Dec.{ltb, leb}
 use borrow.Author.Tests.{ltb-true, ltb-false, lt-ltb, le-ltb, le-leb, leb-true}
-use Rattle.tokens.specs.declared.Mode.{Mode}
-use Rattle.tokens.specs.Token.{Lexeme}
-use Rattle.tokens.specs.Tokens.{lexemes}
-use Rattle.tokens.specs.Bounds.{textBound, symbolBound, terminalBound, expressionBound, plainBound, inputBound}
+use Rattle.base_facts.specs.Bools.{and-parts}
+use Rattle.read_tokens.specs.declared.Mode.{Mode}
+use Rattle.read_tokens.specs.Token.{Lexeme}
+use Rattle.read_tokens.specs.Tokens.{lexemes}
+use Rattle.read_tokens.specs.Bounds.{textBound, symbolBound, terminalBound, expressionBound, plainBound, inputBound}
 use Rattle.grammar.specs.Exp.{Exp, Rule}
 use Rattle.grammar.specs.Numbers.{symbolsOf, terminalsOf, expressionsOf}
 use Rattle.grammar.specs.Refusal.{Refusal, refusal, refuseIf, refuseAt, _▸_}
-use Rattle.reading.specs.Machine.{start, Judged, fine, syntax, wide, judge, placeOf}
-use Rattle.reading.specs.Reading.{tooLong, offence, second, unruled, leftsIn, tooMany, refusesText, rulesOf}
-use Rattle.reading.specs.laws.Bounds.{Says, judged, one-answer}
-use Rattle.scanning.specs.laws.Chain.{assoc}
-use Rattle.plain.specs.Plain.{sizes, tooLarge}
-use Rattle.plain.specs.Calls.{callsOf, loop, loopFrom, looping}
-use Rattle.plain.specs.laws.Loops.{Smallest, Found, found}
-use Rattle.preparing.specs.Prepare.{prepared, refuses}
-use Rattle.preparing.specs.laws.Loads.{some-none}
+use Rattle.read_syntax.specs.Machine.{start, Judged, fine, syntax, wide, judge, placeOf}
+use Rattle.read_syntax.specs.Reading.{tooLong, offence, second, unruled, leftsIn, tooMany, refusesText, rulesOf}
+use Rattle.read_syntax.specs.laws.Bounds.{Says, judged, one-answer}
+use Rattle.prepare.specs.laws.Chain.{assoc}
+use Rattle.lake_step_two.specs.Plain.{sizes, tooLarge}
+use Rattle.lake_calls.specs.Calls.{callsOf, loop, loopFrom, looping}
+use Rattle.lake_calls.specs.laws.Reaches.{Smallest, Found, found}
+use Rattle.prepare.specs.Prepare.{prepared, refuses}
+use Rattle.prepare.specs.laws.Loads.{some-none}
 use Rattle.gurkenmond.specs.Calls.{cellsNeeded, refusesInput, isLakeAt}
-use Rattle.sets.specs.Analysis.{isExpression}
+use Rattle.lake_sets.specs.Analysis.{isExpression}
 use Rattle.demands.specs.Rows.{FirstToken, Doubled, Ruleless, TooMany, symbols, terminals, expressions, Row2, Row3, Row4, Row5, Rows, MatchRows, LakeRows, SetsRows, WriteRows}
 use Rattle.demands.specs.laws.Chain.{Level, level, widen, join, over, found-at, missing, same-refusal}
 use Rattle.demands.specs.laws.Tokens.{finds-so, finds-it, finds-doubled, finds-ruleless}
@@ -184,14 +185,8 @@ module _ (m : Mode) (t : List ℕ) where
       join (refuses m t) _ (omega arith) (omega arith) one-to-eight
       (join (refuseIf (ltb inputBound (length s)) 9 inputBound) (refuseIf (ltb (length cs) need) 10 need) (omega arith) (omega arith) (over 9 inputBound inputBound (length s)) (over 10 need (length cs) need))
 
-  -- "the lake question 9, 10, then 14"
-  and-both : (a b : Bool) → (a && b) ≡ true → (a ≡ true) × (b ≡ true)
-  and-both true true e = (refl, refl)
-  and-both true false e = absurd (true≢false (sym e))
-  and-both false b e = absurd (true≢false (sym e))
-
   lake-there : (s : List ℕ) (l q : ℕ) → (isLakeAt (prepared m t) l && leb q (length s)) ≡ true → (isLakeAt (prepared m t) l ≡ true) × (q ≤ length s)
-  lake-there s l q e = let w = and-both (isLakeAt (prepared m t) l) (leb q (length s)) e in (w .0, leb-true q (length s) (w .1))
+  lake-there s l q e = let w = and-parts (isLakeAt (prepared m t) l) (leb q (length s)) e in (w .0, leb-true q (length s) (w .1))
 
   there-lake : (s : List ℕ) (l q : ℕ) → (isLakeAt (prepared m t) l ≡ true) × (q ≤ length s) → (isLakeAt (prepared m t) l && leb q (length s)) ≡ true
   there-lake s l q h = ap₂ _&&_ (h .0) (le-leb q (length s) (h .1))

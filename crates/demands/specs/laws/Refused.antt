@@ -9,19 +9,19 @@ use native.Mathlib.Omega.{arith}
 use lib.ListN.{length, getD}
 use lib.Dec.{ltb, leb}
 use borrow.Author.Tests.{ltb-false}
-use Rattle.tokens.specs.declared.Mode.{Mode}
-use Rattle.tokens.specs.Bounds.{inputBound}
+use Rattle.read_tokens.specs.declared.Mode.{Mode}
+use Rattle.read_tokens.specs.Bounds.{inputBound}
 use Rattle.grammar.specs.Exp.{Exp}
 use Rattle.grammar.specs.Refusal.{Refusal, refusal, refuseIf, _▸_}
-use Rattle.sets.specs.Analysis.{isExpression}
-use Rattle.plain.specs.Plain.{plainRules}
-use Rattle.writing.specs.Writing.{text}
-use Rattle.matching.specs.Nodes.{Listing, all, deep, full, listOf, listingOf, wordsOf, roomOf}
-use Rattle.preparing.specs.declared.Verdict.{Verdict}
-use Rattle.preparing.specs.declared.Verdict.the-variants.{Accepted, Refused as VerdictRefused}
-use Rattle.preparing.specs.Prepare.{prepared, refuses}
-use Rattle.preparing.specs.Reads.{verdictOf, readBy, readOf}
-use Rattle.preparing.specs.laws.Loads.{some-none}
+use Rattle.lake_sets.specs.Analysis.{isExpression}
+use Rattle.lake_step_two.specs.Plain.{plainRules}
+use Rattle.write_rules.specs.Writing.{text}
+use Rattle.match_nodes.specs.Nodes.{Listing, all, deep, full, listOf, listingOf, wordsOf, roomOf}
+use Rattle.prepare.specs.declared.Verdict.{Verdict}
+use Rattle.prepare.specs.declared.Verdict.the-variants.{Accepted, Refused as VerdictRefused}
+use Rattle.prepare.specs.Prepare.{prepared, refuses}
+use Rattle.prepare.specs.Reads.{verdictOf, readBy, readOf}
+use Rattle.prepare.specs.laws.Loads.{some-none}
 use Rattle.gurkenmond.specs.declared.Outcome.{Outcome}
 use Rattle.gurkenmond.specs.declared.Outcome.the-variants.{Matched, NoMatch, Refused as OutcomeRefused}
 use Rattle.gurkenmond.specs.declared.Way.{Way}
@@ -29,8 +29,8 @@ use Rattle.gurkenmond.specs.declared.Way.the-variants.{Not, ByRule, ByWater, By
 use Rattle.gurkenmond.specs.declared.Written.{Written}
 use Rattle.gurkenmond.specs.declared.Written.the-variants.{Bytes, Refused as WrittenRefused}
 use Rattle.gurkenmond.specs.Calls.{noSets, setsBy, setsOf, lakesBy, cannotSkipOf, cellsNeeded, refusesInput, matching, listingBy, matchBy, filled, matchAfter, matchOf, isLakeAt, wayOf, lakeAfter, lakeOf, writeAfter, writeOwnOf, writePlainOf}
-use Rattle.asking.specs.Asking.{wayIn}
-use Rattle.sets.specs.Analysis.{altOf}
+use Rattle.match_lake.specs.Asking.{wayIn}
+use Rattle.lake_sets.specs.Analysis.{altOf}
 use Rattle.demands.specs.Rows.{Rows, MatchRows, LakeRows, SetsRows, WriteRows, Tells, FirstRow, NoRow}
 use Rattle.demands.specs.laws.Refusals.{one-to-eight, match-chain, lake-chain, sets-chain, write-chain}
 

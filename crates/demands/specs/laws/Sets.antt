@@ -7,21 +7,22 @@ use mathlib.Core.Bool.{Bool, true, not}
 use mathlib.Core.List.{List}
 use mathlib.Core.Option.{Option, none}
 use lib.ListN.{length}
-use Rattle.tokens.specs.declared.Mode.{Mode}
+use Rattle.read_tokens.specs.declared.Mode.{Mode}
 use Rattle.grammar.specs.Numbers.{Grammar, numbered}
 use Rattle.grammar.specs.Parts.{partsAll}
 use Rattle.grammar.specs.Refusal.{Refusal, refuseIf, _▸_}
-use Rattle.reading.specs.Reading.{rulesOf}
-use Rattle.sets.specs.Intermediate.{waterIn, intermediate}
-use Rattle.sets.specs.Analysis.{setsAt, isExpression, cannotSkip, terminalIn}
-use Rattle.sets.specs.Proper.{Proper}
-use Rattle.analysis.specs.Rules.{LeastMarks}
-use Rattle.analysis.specs.laws.Least.{Lawful, partOf, lawful, marks-lawful}
-use Rattle.lakes.specs.laws.Next.{bodies-long as middle-long}
-use Rattle.preparing.specs.declared.Verdict.the-variants.{Accepted}
-use Rattle.preparing.specs.Prepare.{prepared, preparedBy, refuses}
-use Rattle.preparing.specs.Reads.{verdictOf}
-use Rattle.preparing.specs.laws.Reads.{clear-good}
+use Rattle.read_syntax.specs.Reading.{rulesOf}
+use Rattle.lake_step_one.specs.Intermediate.{waterIn, intermediate}
+use Rattle.lake_sets.specs.Analysis.{setsAt, isExpression, cannotSkip}
+use Rattle.grammar.specs.Numbers.{terminalIn}
+use Rattle.lake_step_one.specs.Proper.{Proper}
+use Rattle.lake_analysis.specs.Rules.{LeastMarks}
+use Rattle.lake_analysis.specs.laws.Least.{Lawful, partOf, lawful, marks-lawful}
+use Rattle.lake_step_one.specs.laws.Next.{bodies-long as middle-long}
+use Rattle.prepare.specs.declared.Verdict.the-variants.{Accepted}
+use Rattle.prepare.specs.Prepare.{prepared, preparedBy, refuses}
+use Rattle.prepare.specs.Reads.{verdictOf}
+use Rattle.prepare.specs.laws.Reads.{clear-good}
 use Rattle.gurkenmond.specs.Calls.{setsBy, setsOf, lakesBy, cannotSkipOf}
 use Rattle.demands.specs.laws.Meant.{rights-many}
 

@@ -9,14 +9,15 @@ use mathlib.Core.Option.{none}
 use native.Mathlib.Omega.{arith}
 use native.Mathlib.Nat.{pow-suc, eq-or-lt-of-le}
 use lib.ListN.{length, getD}
-use Rattle.tokens.specs.declared.Mode.{Mode}
-use Rattle.tokens.specs.Token.{Symbol, name}
+use Rattle.base_facts.specs.Bools.{or-holds}
+use Rattle.read_tokens.specs.declared.Mode.{Mode}
+use Rattle.read_tokens.specs.Token.{Symbol, name}
 use Rattle.grammar.specs.Numbers.{Grammar, isLake}
-use Rattle.words.specs.Set.{bit, memberOf}
-use Rattle.words.specs.laws.Members.{bit-step}
-use Rattle.sets.specs.Beginning.{marked}
-use Rattle.sets.specs.Analysis.{Analysis, altOf, blockedBy, cannotSkipBelow, cannotSkip}
-use Rattle.preparing.specs.Prepare.{prepared, refuses}
+use Rattle.base_words.specs.Set.{bit, memberOf}
+use Rattle.base_words.specs.laws.Members.{bit-step}
+use Rattle.lake_sets.specs.Beginning.{marked}
+use Rattle.lake_sets.specs.Analysis.{Analysis, altOf, blockedBy, cannotSkipBelow, cannotSkip}
+use Rattle.prepare.specs.Prepare.{prepared, refuses}
 use Rattle.gurkenmond.specs.declared.Lakes.{Lakes}
 use Rattle.gurkenmond.specs.Calls.{cannotSkipOf}
 use Rattle.demands.specs.laws.Sets.{cannot-skip-answered}
@@ -68,10 +69,6 @@ module _ (names : List Symbol) (marks : List Bool) (s : List ℕ) where
       go true f z next = (n, three (suc n) n (omega arith) _ _ _ refl refl refl f)
       go false f z next = next z
 
-  or-right : (a b : Bool) → b ≡ true → (a || b) ≡ true
-  or-right true b e = refl
-  or-right false b e = e
-
   one-is : (n x : ℕ) → Blocks names marks s n x → one x ≡ true
   one-is n x w =
       ap (λ (b : Bool). b && (not (isLake (getD names x (name []))) && marked marks x)) (w .member)
@@ -84,7 +81,7 @@ module _ (names : List Symbol) (marks : List Bool) (s : List ℕ) where
     where
       go : (suc x ≡ suc n) ⊎ (suc x < suc n) → (x < n → blockedBy names marks s n ≡ true) → (one n || blockedBy names marks s n) ≡ true
       go (inl e) f = let z : x ≡ n = omega (arith, e) in ap (λ (b : Bool). b || blockedBy names marks s n) (subst (λ (y : ℕ). one y ≡ true) z (one-is (suc n) x w))
-      go (inr l) f = or-right (one n) (blockedBy names marks s n) (f (omega (arith, l)))
+      go (inr l) f = or-holds (one n) (blockedBy names marks s n) (f (omega (arith, l)))
 
 -- ── the word ──
 module _ (g : Grammar) (a : Analysis) where

@@ -6,12 +6,13 @@ use mathlib.Core.Bool.{Bool, true, false, not, _&&_, _||_, true≢false}
 use mathlib.Core.List.{List, [], _∷_}
 use mathlib.Core.Option.{Option, none, some}
 use native.Mathlib.Omega.{arith}
-use Rattle.tokens.specs.declared.Mode.{Mode}
-use Rattle.tokens.specs.Token.{Symbol, Tok, Lexeme, name, lake, symbol, leaf, pre, suf, arrow, slash, opens, closes, bad}
+use Rattle.base_facts.specs.Bools.{or-holds}
+use Rattle.read_tokens.specs.declared.Mode.{Mode}
+use Rattle.read_tokens.specs.Token.{Symbol, Tok, Lexeme, name, lake, symbol, leaf, pre, suf, arrow, slash, opens, closes, bad}
 use Rattle.grammar.specs.Same.{sameSymbol, isIn}
-use Rattle.building.specs.laws.Entries.{symbol-sound, symbol-refl}
-use Rattle.reading.specs.Machine.{placeOf}
-use Rattle.reading.specs.Reading.{before, reserved, secondBy, second, leftBy, leftsIn, lacks, unruled}
+use Rattle.read_grammar.specs.laws.Entries.{symbol-sound, symbol-refl}
+use Rattle.read_syntax.specs.Machine.{placeOf}
+use Rattle.read_syntax.specs.Reading.{before, reserved, secondBy, second, leftBy, leftsIn, lacks, unruled}
 use Rattle.demands.specs.Rows.{Named, here, there, Doubled, is-reserved, is-second, Ruleless, no-rule, FirstToken}
 
 -- ── the first token of which something holds ──
@@ -83,17 +84,13 @@ some-token : {xs : List Lexeme} {i : ℕ} {h : Symbol} {b : Bool} → Named xs i
 some-token (here e f) = tt
 some-token (there n) = tt
 
-or-true : (a b : Bool) → b ≡ true → (a || b) ≡ true
-or-true true b e = refl
-or-true false b e = e
-
 same-in : (h k : Symbol) (hs : List Symbol) → h ≡ k → isIn sameSymbol h (k ∷ hs) ≡ true
 unfolding isIn
 same-in h k hs e = ap (λ (b : Bool). b || isIn sameSymbol h hs) (subst (λ (x : Symbol). sameSymbol h x ≡ true) e (symbol-refl h))
 
 later-in : (h k : Symbol) (hs : List Symbol) → isIn sameSymbol h hs ≡ true → isIn sameSymbol h (k ∷ hs) ≡ true
 unfolding isIn
-later-in h k hs e = or-true (sameSymbol h k) (isIn sameSymbol h hs) e
+later-in h k hs e = or-holds (sameSymbol h k) (isIn sameSymbol h hs) e
 
 -- ── 4 ──
 -- the same, where some left sides came before

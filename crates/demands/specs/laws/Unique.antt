@@ -4,10 +4,10 @@ use Prim.Native.Nat.{ℕ}
 use mathlib.Core.Path.{_≡_, sym, _∙_}
 use mathlib.Core.Bool.{Bool}
 use mathlib.Core.List.{List}
-use Rattle.tokens.specs.declared.Mode.{Mode}
-use Rattle.matching.specs.Nodes.{soundAt, nodeText}
-use Rattle.preparing.specs.declared.Counted.{Counted}
-use Rattle.preparing.specs.Reads.{readOf}
+use Rattle.read_tokens.specs.declared.Mode.{Mode}
+use Rattle.match_nodes.specs.Nodes.{soundAt, nodeText}
+use Rattle.prepare.specs.declared.Counted.{Counted}
+use Rattle.prepare.specs.Reads.{readOf}
 use Rattle.gurkenmond.specs.declared.SetsOf.{SetsOf}
 use Rattle.gurkenmond.specs.declared.Lakes.{Lakes}
 use Rattle.gurkenmond.specs.declared.Match.{Match}

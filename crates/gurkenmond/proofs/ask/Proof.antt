@@ -3,20 +3,21 @@ use Prim.Native.Nat.{_+_, _*_}
 use mathlib.Core.Path.{_≡_, refl, sym, _∙_}
 use native.Mathlib.Omega.{arith}
 use lib.ListN.{length}
+use Rattle.base_facts.specs.Bools.{not-false, not-true}
 use Rattle.gurkenmond.specs.laws.Matches.{need-small}
-use Rattle.gurkenmond.specs.laws.Asks.{not-true, not-false, standing-same, standing-few, standing-terminals, asked-long, asked-few, asked-past, asked-other, asked-behind, asked-all}
+use Rattle.gurkenmond.specs.laws.Asks.{standing-same, standing-few, standing-terminals, asked-long, asked-few, asked-past, asked-other, asked-behind, asked-all}
 use borrow.Author.Needs.{needs}
 use Rattle.gurkenmond.proofs.ask.Statement.{statement}
 use Rattle.gurkenmond.proofs.ask.Tie as tie
 use Rattle.gurkenmond.proofs.ask.Reads as reads
 use Rattle.gurkenmond.proofs.ask.Lts as lts
-use Rattle.analysis.proofs.alt_of.Reads as alt-of-reads
-use Rattle.analysis.proofs.is_lake.Reads as is-lake-reads
-use Rattle.asking.proofs.way.Reads as way-reads
+use Rattle.lake_analysis.proofs.alt_of.Reads as alt-of-reads
+use Rattle.lake_analysis.proofs.is_lake.Reads as is-lake-reads
+use Rattle.match_lake.proofs.way.Reads as way-reads
 use Rattle.gurkenmond.proofs.refused_way.Reads as refused-way-reads
 use Rattle.gurkenmond.proofs.way_of.Reads as way-of-reads
-use Rattle.preparing.proofs.symbols.Reads as symbols-reads
-use Rattle.running.proofs.fill.Reads as fill-reads
+use Rattle.prepare.proofs.symbols.Reads as symbols-reads
+use Rattle.match_cells.proofs.running.fill.Reads as fill-reads
 
 refused-way-requires : tie.Need-refused-way-requires
 refused-way-requires c κs = search needs

@@ -6,9 +6,9 @@ use Rattle.gurkenmond.proofs.cannot_skip.Statement.{statement}
 use Rattle.gurkenmond.proofs.cannot_skip.Tie as tie
 use Rattle.gurkenmond.proofs.cannot_skip.Reads as reads
 use Rattle.gurkenmond.proofs.cannot_skip.Lts as lts
-use Rattle.analysis.proofs.cannot_skip.Reads as cannot-skip-reads
-use Rattle.preparing.proofs.is_refused.Reads as is-refused-reads
-use Rattle.preparing.proofs.prepare.Reads as prepare-reads
+use Rattle.lake_analysis.proofs.cannot_skip.Reads as cannot-skip-reads
+use Rattle.prepare.proofs.is_refused.Reads as is-refused-reads
+use Rattle.prepare.proofs.prepare.Reads as prepare-reads
 
 prepare-requires : tie.Need-prepare-requires
 prepare-requires c κs = search needs

@@ -8,8 +8,8 @@ use Rattle.gurkenmond.proofs.lake_at.Reads as reads
 use Rattle.gurkenmond.proofs.lake_at.Lts as lts
 use Rattle.gurkenmond.proofs.ask.Reads as ask-reads
 use Rattle.gurkenmond.proofs.not_asked.Reads as not-asked-reads
-use Rattle.preparing.proofs.is_refused.Reads as is-refused-reads
-use Rattle.preparing.proofs.prepare.Reads as prepare-reads
+use Rattle.prepare.proofs.is_refused.Reads as is-refused-reads
+use Rattle.prepare.proofs.prepare.Reads as prepare-reads
 
 prepare-requires : tie.Need-prepare-requires
 prepare-requires c κs = search needs

@@ -8,8 +8,8 @@ use Rattle.gurkenmond.proofs.match_input.Reads as reads
 use Rattle.gurkenmond.proofs.match_input.Lts as lts
 use Rattle.gurkenmond.proofs.not_matched.Reads as not-matched-reads
 use Rattle.gurkenmond.proofs.run.Reads as run-reads
-use Rattle.preparing.proofs.is_refused.Reads as is-refused-reads
-use Rattle.preparing.proofs.plainly.Reads as plainly-reads
+use Rattle.prepare.proofs.is_refused.Reads as is-refused-reads
+use Rattle.prepare.proofs.plainly.Reads as plainly-reads
 
 plainly-requires : tie.Need-plainly-requires
 plainly-requires c κs = search needs

@@ -7,7 +7,7 @@ use Rattle.gurkenmond.proofs.put_text.Statement.{statement}
 use Rattle.gurkenmond.proofs.put_text.Tie as tie
 use Rattle.gurkenmond.proofs.put_text.Reads as reads
 use Rattle.gurkenmond.proofs.put_text.Lts as lts
-use Rattle.texts.proofs.write.Reads as write-reads
+use Rattle.write_text.proofs.texts.write.Reads as write-reads
 
 write-requires : tie.Need-write-requires
 write-requires c κs = search needs

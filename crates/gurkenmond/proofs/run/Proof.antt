@@ -3,7 +3,7 @@ use Prim.Native.Nat.{_+_, _*_}
 use mathlib.Core.Path.{_≡_, refl, sym, _∙_}
 use native.Mathlib.Omega.{arith}
 use lib.ListN.{length}
-use Rattle.listing.specs.Turns.{Ready}
+use Rattle.match_nodes.specs.Turns.{Ready}
 use Rattle.gurkenmond.specs.laws.Matches.{need-small, ran-long, ran-few, ran-none, ready, ran-all}
 use borrow.Author.Needs.{needs}
 use Rattle.gurkenmond.proofs.run.Statement.{statement}
@@ -12,10 +12,10 @@ use Rattle.gurkenmond.proofs.run.Reads as reads
 use Rattle.gurkenmond.proofs.run.Lts as lts
 use Rattle.gurkenmond.proofs.listed_match.Reads as listed-match-reads
 use Rattle.gurkenmond.proofs.refused_match.Reads as refused-match-reads
-use Rattle.listing.proofs.list.Reads as list-reads
-use Rattle.preparing.proofs.symbols.Reads as symbols-reads
-use Rattle.running.proofs.fill.Reads as fill-reads
-use Rattle.words.proofs.word.Reads as word-reads
+use Rattle.match_nodes.proofs.list.Reads as list-reads
+use Rattle.prepare.proofs.symbols.Reads as symbols-reads
+use Rattle.match_cells.proofs.running.fill.Reads as fill-reads
+use Rattle.base_words.proofs.word.Reads as word-reads
 
 refused-match-requires : tie.Need-refused-match-requires
 refused-match-requires c κs = search needs

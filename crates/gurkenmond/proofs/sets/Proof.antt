@@ -7,11 +7,11 @@ use Rattle.gurkenmond.proofs.sets.Statement.{statement}
 use Rattle.gurkenmond.proofs.sets.Tie as tie
 use Rattle.gurkenmond.proofs.sets.Reads as reads
 use Rattle.gurkenmond.proofs.sets.Lts as lts
-use Rattle.analysis.proofs.sets_at.Reads as sets-at-reads
+use Rattle.lake_analysis.proofs.sets_at.Reads as sets-at-reads
 use Rattle.gurkenmond.proofs.no_sets.Reads as no-sets-reads
-use Rattle.preparing.proofs.expressions.Reads as expressions-reads
-use Rattle.preparing.proofs.is_refused.Reads as is-refused-reads
-use Rattle.preparing.proofs.prepare.Reads as prepare-reads
+use Rattle.prepare.proofs.expressions.Reads as expressions-reads
+use Rattle.prepare.proofs.is_refused.Reads as is-refused-reads
+use Rattle.prepare.proofs.prepare.Reads as prepare-reads
 
 prepare-requires : tie.Need-prepare-requires
 prepare-requires c κs = search needs

@@ -1,8 +1,8 @@
 -- `gurkenmond::write_plain` meets its contract. Assumes nothing.
 use mathlib.Core.Path.{_≡_, refl, sym, ap, _∙_}
 use native.Mathlib.Omega.{arith}
-use Rattle.tokens.specs.laws.Bytes.{bytes-of}
-use Rattle.preparing.specs.declared.Verdict.{Verdict}
+use Rattle.read_tokens.specs.laws.Bytes.{bytes-of}
+use Rattle.prepare.specs.declared.Verdict.{Verdict}
 use Rattle.gurkenmond.specs.laws.Writes.{plain-refuses, plain-puts}
 use borrow.Author.Needs.{needs}
 use Rattle.gurkenmond.proofs.write_plain.Statement.{statement}
@@ -11,8 +11,8 @@ use Rattle.gurkenmond.proofs.write_plain.Reads as reads
 use Rattle.gurkenmond.proofs.write_plain.Lts as lts
 use Rattle.gurkenmond.proofs.not_written.Reads as not-written-reads
 use Rattle.gurkenmond.proofs.put_text.Reads as put-text-reads
-use Rattle.preparing.proofs.is_refused.Reads as is-refused-reads
-use Rattle.preparing.proofs.plainly.Reads as plainly-reads
+use Rattle.prepare.proofs.is_refused.Reads as is-refused-reads
+use Rattle.prepare.proofs.plainly.Reads as plainly-reads
 
 plainly-requires : tie.Need-plainly-requires
 plainly-requires c κs = search needs

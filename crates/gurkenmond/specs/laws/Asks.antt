@@ -8,31 +8,32 @@ use native.Mathlib.Omega.{arith}
 use lib.ListN.{length, getD}
 use lib.Dec.{leb}
 use borrow.Author.Tests.{lt-ltb, le-ltb, lt-leb, le-leb}
-use Rattle.tokens.specs.Token.{name}
-use Rattle.tokens.specs.declared.Mode.{Mode}
+use Rattle.base_facts.specs.Bools.{not-false, not-true}
+use Rattle.read_tokens.specs.Token.{name}
+use Rattle.read_tokens.specs.declared.Mode.{Mode}
 use Rattle.grammar.specs.Numbers.{Grammar, numbered, isLake}
 use Rattle.grammar.specs.Refusal.{Refusal, refusal, refuseIf, _▸_}
-use Rattle.grammar.specs.Table.{symbolCount, terminalCount, nameIn, grammarIn}
-use Rattle.grammar.specs.Holds.{Holds}
-use Rattle.grammar.specs.laws.Lists.{up-length}
-use Rattle.reading.specs.Reading.{rulesOf}
-use Rattle.words.specs.Set.{empty}
-use Rattle.sets.specs.Analysis.{analysis, altOf}
-use Rattle.sets.specs.Steps.{rootIn}
-use Rattle.analysis.specs.Lent.{lakeIn}
-use Rattle.analysis.specs.laws.Skip.{lake-is, alt-is}
-use Rattle.translation.specs.Stepped.{plainOf}
-use Rattle.loops.specs.laws.Trees.{bodies-are}
-use Rattle.running.specs.Runs.{Plain, Fills}
-use Rattle.asking.specs.Asking.{wayIn}
-use Rattle.asking.specs.laws.Tables.{way-is}
-use Rattle.preparing.specs.declared.Counted.{Counted}
-use Rattle.preparing.specs.declared.Verdict.{Verdict}
-use Rattle.preparing.specs.declared.Verdict.the-variants.{Refused as VerdictRefused}
-use Rattle.preparing.specs.Prepare.{Prepared, prepared, preparedBy}
-use Rattle.preparing.specs.Reads.{verdictOf, isRefused, readOf}
-use Rattle.preparing.specs.Loads.{Stands}
-use Rattle.preparing.specs.laws.Reads.{clear-good, clear-loop}
+use Rattle.grammar_table.specs.Table.{symbolCount, terminalCount, nameIn, grammarIn}
+use Rattle.grammar_table.specs.Holds.{Holds}
+use Rattle.grammar_table.specs.laws.Lists.{up-length}
+use Rattle.read_syntax.specs.Reading.{rulesOf}
+use Rattle.base_words.specs.Set.{empty}
+use Rattle.lake_sets.specs.Analysis.{analysis, altOf}
+use Rattle.lake_sets.specs.Steps.{rootIn}
+use Rattle.lake_analysis.specs.Lent.{lakeIn}
+use Rattle.lake_analysis.specs.laws.Skip.{lake-is, alt-is}
+use Rattle.lake_step_two.specs.Stepped.{plainOf}
+use Rattle.lake_calls.specs.laws.Trees.{bodies-are}
+use Rattle.match_cells.specs.Runs.{Plain, Fills}
+use Rattle.match_lake.specs.Asking.{wayIn}
+use Rattle.match_lake.specs.laws.Tables.{way-is}
+use Rattle.prepare.specs.declared.Counted.{Counted}
+use Rattle.prepare.specs.declared.Verdict.{Verdict}
+use Rattle.prepare.specs.declared.Verdict.the-variants.{Refused as VerdictRefused}
+use Rattle.prepare.specs.Prepare.{Prepared, prepared, preparedBy}
+use Rattle.prepare.specs.Reads.{verdictOf, isRefused, readOf}
+use Rattle.prepare.specs.Loads.{Stands}
+use Rattle.prepare.specs.laws.Reads.{clear-good, clear-loop}
 use Rattle.gurkenmond.specs.declared.Way.{Way}
 use Rattle.gurkenmond.specs.Calls.{LakeAnswer, refusesInput, filled, isLakeAt, wayOf, lakeAfter, lakeOf}
 use Rattle.gurkenmond.specs.Asks.{notAsked, Standing, SaysWay, Asked}
@@ -197,11 +198,3 @@ way-rest zero f g h = absurd (f refl)
 way-rest (suc zero) f g h = absurd (g refl)
 way-rest (suc (suc zero)) f g h = absurd (h refl)
 way-rest (suc (suc (suc k))) f g h = refl
-
-pub not-true : (b : Bool) → not b ≡ true → b ≡ false
-not-true true e = absurd (true≢false (sym e))
-not-true false e = refl
-
-pub not-false : (b : Bool) → not b ≡ false → b ≡ true
-not-false true e = refl
-not-false false e = absurd (true≢false e)

@@ -9,33 +9,33 @@ use native.Mathlib.Nat.{mul-comm, mul-le-mul-right}
 use lib.ListN.{length, getD}
 use lib.Dec.{ltb}
 use borrow.Author.Tests.{lt-ltb, le-ltb}
-use Rattle.tokens.specs.Bounds.{inputBound}
-use Rattle.tokens.specs.declared.Mode.{Mode}
+use Rattle.read_tokens.specs.Bounds.{inputBound}
+use Rattle.read_tokens.specs.declared.Mode.{Mode}
 use Rattle.grammar.specs.Exp.{Exp}
 use Rattle.grammar.specs.Numbers.{Grammar, numbered}
 use Rattle.grammar.specs.Refusal.{Refusal, refusal, refuseIf, _▸_}
-use Rattle.grammar.specs.Table.{symbolCount}
-use Rattle.grammar.specs.Holds.{Holds}
-use Rattle.reading.specs.Reading.{rulesOf}
-use Rattle.lakes.specs.Made.{withBodies}
-use Rattle.translation.specs.Stepped.{plainOf}
-use Rattle.filling.specs.Trees.{bodiesOf}
-use Rattle.loops.specs.laws.Trees.{bodies-are}
-use Rattle.matching.specs.Cells.{cells}
-use Rattle.matching.specs.Nodes.{Listing, listOf, listingOf, wordsOf, roomOf}
-use Rattle.matching.specs.laws.Agrees.{Right}
-use Rattle.running.specs.Runs.{Plain, Fills}
-use Rattle.running.specs.laws.Runs.{bodies-of, cells-right}
-use Rattle.listing.specs.declared.Listed.{Listed}
-use Rattle.listing.specs.declared.Listed.the-variants.{All, Deep, Full}
-use Rattle.listing.specs.Turns.{Ready, said}
-use Rattle.asking.specs.laws.Tables.{body-small}
-use Rattle.preparing.specs.declared.Counted.{Counted}
-use Rattle.preparing.specs.declared.Verdict.{Verdict}
-use Rattle.preparing.specs.declared.Verdict.the-variants.{Refused as VerdictRefused}
-use Rattle.preparing.specs.Prepare.{Prepared, prepared, preparedBy, refuses}
-use Rattle.preparing.specs.Reads.{verdictOf, isRefused, readOf}
-use Rattle.preparing.specs.laws.Reads.{clear-sound, clear-loop}
+use Rattle.grammar_table.specs.Table.{symbolCount}
+use Rattle.grammar_table.specs.Holds.{Holds}
+use Rattle.read_syntax.specs.Reading.{rulesOf}
+use Rattle.lake_step_one.specs.Made.{withBodies}
+use Rattle.lake_step_two.specs.Stepped.{plainOf}
+use Rattle.grammar_table.specs.Trees.{bodiesOf}
+use Rattle.lake_calls.specs.laws.Trees.{bodies-are}
+use Rattle.match_cells.specs.Cells.{cells}
+use Rattle.match_nodes.specs.Nodes.{Listing, listOf, listingOf, wordsOf, roomOf}
+use Rattle.match_cells.specs.laws.Agrees.{Right}
+use Rattle.match_cells.specs.Runs.{Plain, Fills}
+use Rattle.match_cells.specs.laws.Runs.{bodies-of, cells-right}
+use Rattle.match_nodes.specs.declared.Listed.{Listed}
+use Rattle.match_nodes.specs.declared.Listed.the-variants.{All, Deep, Full}
+use Rattle.match_nodes.specs.Turns.{Ready, said}
+use Rattle.match_lake.specs.laws.Tables.{body-small}
+use Rattle.prepare.specs.declared.Counted.{Counted}
+use Rattle.prepare.specs.declared.Verdict.{Verdict}
+use Rattle.prepare.specs.declared.Verdict.the-variants.{Refused as VerdictRefused}
+use Rattle.prepare.specs.Prepare.{Prepared, prepared, preparedBy, refuses}
+use Rattle.prepare.specs.Reads.{verdictOf, isRefused, readOf}
+use Rattle.prepare.specs.laws.Reads.{clear-sound, clear-loop}
 use Rattle.gurkenmond.specs.declared.Match.{Match}
 use Rattle.gurkenmond.specs.declared.Outcome.the-variants.{NoMatch}
 use Rattle.gurkenmond.specs.Calls.{Matching, matching, cellsNeeded, refusesInput, listingBy, matchBy, filled, matchAfter, matchOf}

@@ -8,28 +8,29 @@ use native.Mathlib.Omega.{arith}
 use lib.ListN.{length}
 use lib.Dec.{leb}
 use borrow.Author.Tests.{le-leb, lt-leb}
-use Rattle.tokens.specs.declared.Mode.{Mode}
+use Rattle.read_tokens.specs.declared.Mode.{Mode}
 use Rattle.grammar.specs.Numbers.{Grammar, numbered}
 use Rattle.grammar.specs.Parts.{Part, partsAll}
-use Rattle.grammar.specs.Table.{partIn, partsIn, symbolCount, expressionCount}
-use Rattle.grammar.specs.Holds.{Holds}
+use Rattle.grammar_table.specs.Table.{partIn, partsIn, symbolCount, expressionCount}
+use Rattle.grammar_table.specs.Holds.{Holds}
 use Rattle.grammar.specs.Refusal.{Refusal, refuseIf, _▸_}
-use Rattle.reading.specs.Reading.{rulesOf}
-use Rattle.sets.specs.declared.Sets.{Sets}
-use Rattle.sets.specs.Intermediate.{intermediate}
-use Rattle.sets.specs.Beginning.{marked, marksOf, beginnings}
-use Rattle.sets.specs.Analysis.{Analysis, analysis, analysed, terminalIn, setsAt, isExpression}
-use Rattle.sets.specs.Proper.{middle}
-use Rattle.sets.specs.laws.Begins.{begins-long}
-use Rattle.sets.specs.laws.Parts.{present-some}
-use Rattle.analysis.specs.Lent.{SetsOf as SetsPromise, CannotSkip}
-use Rattle.preparing.specs.declared.Counted.{Counted}
-use Rattle.preparing.specs.declared.Verdict.{Verdict}
-use Rattle.preparing.specs.declared.Verdict.the-variants.{Accepted, Refused as VerdictRefused}
-use Rattle.preparing.specs.Prepare.{prepared, preparedBy, refuses}
-use Rattle.preparing.specs.Reads.{verdictOf, isRefused, readOf}
-use Rattle.preparing.specs.Loads.{Stands}
-use Rattle.preparing.specs.laws.Reads.{clear-good}
+use Rattle.read_syntax.specs.Reading.{rulesOf}
+use Rattle.lake_sets.specs.declared.Sets.{Sets}
+use Rattle.lake_step_one.specs.Intermediate.{intermediate}
+use Rattle.lake_sets.specs.Beginning.{marked, marksOf, beginnings}
+use Rattle.lake_sets.specs.Analysis.{Analysis, analysis, analysed, setsAt, isExpression}
+use Rattle.grammar.specs.Numbers.{terminalIn}
+use Rattle.lake_step_one.specs.Proper.{middle}
+use Rattle.lake_sets.specs.laws.Begins.{begins-long}
+use Rattle.grammar_table.specs.laws.Parts.{present-some}
+use Rattle.lake_analysis.specs.Lent.{SetsOf as SetsPromise, CannotSkip}
+use Rattle.prepare.specs.declared.Counted.{Counted}
+use Rattle.prepare.specs.declared.Verdict.{Verdict}
+use Rattle.prepare.specs.declared.Verdict.the-variants.{Accepted, Refused as VerdictRefused}
+use Rattle.prepare.specs.Prepare.{prepared, preparedBy, refuses}
+use Rattle.prepare.specs.Reads.{verdictOf, isRefused, readOf}
+use Rattle.prepare.specs.Loads.{Stands}
+use Rattle.prepare.specs.laws.Reads.{clear-good}
 use Rattle.gurkenmond.specs.declared.SetsOf.{SetsOf}
 use Rattle.gurkenmond.specs.laws.Verdicts.{handed}
 use Rattle.gurkenmond.specs.Calls.{noSets, setsBy, setsOf, lakesBy, cannotSkipOf}

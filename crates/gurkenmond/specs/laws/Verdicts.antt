@@ -4,11 +4,11 @@ use mathlib.Core.Path.{_≡_, refl, sym, ap, _∙_}
 use mathlib.Core.Bool.{true, false, true≢false}
 use mathlib.Core.List.{List}
 use mathlib.Core.Option.{Option, none, some}
-use Rattle.tokens.specs.declared.Mode.{Mode}
+use Rattle.read_tokens.specs.declared.Mode.{Mode}
 use Rattle.grammar.specs.Refusal.{Refusal}
-use Rattle.preparing.specs.declared.Counted.{Counted}
-use Rattle.preparing.specs.Prepare.{prepared, refuses}
-use Rattle.preparing.specs.Reads.{verdictOf, isRefused, readBy, readOf}
+use Rattle.prepare.specs.declared.Counted.{Counted}
+use Rattle.prepare.specs.Prepare.{prepared, refuses}
+use Rattle.prepare.specs.Reads.{verdictOf, isRefused, readBy, readOf}
 
 -- what is told of the verdict of a refused text
 pub handed : (m : Mode) (s : List ℕ) (c : Counted) → c ≡ readOf m s → isRefused (c .verdict) ≡ true → (x : Refusal) × (refuses m s ≡ some x) × (c .verdict ≡ verdictOf (some x))

@@ -1,30 +1,30 @@
--- What `texts::write` answers of a table that holds an accepted grammar, or its translation, is what the public definitions say (01, Writing; refusal 13). Assumes nothing.
+-- What `write_text::texts::write` answers of a table that holds an accepted grammar, or its translation, is what the public definitions say (01, Writing; refusal 13). Assumes nothing.
 use Prim.Native.Nat.{ℕ}
 use mathlib.Core.Path.{_≡_, refl, sym, ap, ap₂, _∙_}
 use mathlib.Core.Bool.{Bool, true, false}
 use mathlib.Core.List.{List}
 use mathlib.Core.Option.{Option, none, some}
 use lib.ListN.{length}
-use Rattle.tokens.specs.declared.Mode.{Mode}
-use Rattle.tokens.specs.laws.Bytes.{Bytes}
+use Rattle.read_tokens.specs.declared.Mode.{Mode}
+use Rattle.read_tokens.specs.laws.Bytes.{Bytes}
 use Rattle.grammar.specs.Numbers.{numbered}
-use Rattle.grammar.specs.Holds.{Holds}
+use Rattle.grammar_table.specs.Holds.{Holds}
 use Rattle.grammar.specs.Refusal.{Refusal, refusal, refuseIf}
-use Rattle.reading.specs.Reading.{rulesOf}
-use Rattle.sets.specs.Analysis.{analysis}
-use Rattle.lakes.specs.Made.{withBodies}
-use Rattle.plain.specs.Plain.{plainRules}
-use Rattle.translation.specs.Stepped.{plainOf}
-use Rattle.writing.specs.Writing.{text}
-use Rattle.texts.specs.Texts.{textOf, Paged}
-use Rattle.texts.specs.laws.Answers.{Answered, own, plain}
+use Rattle.read_syntax.specs.Reading.{rulesOf}
+use Rattle.lake_sets.specs.Analysis.{analysis}
+use Rattle.lake_step_one.specs.Made.{withBodies}
+use Rattle.lake_step_two.specs.Plain.{plainRules}
+use Rattle.lake_step_two.specs.Stepped.{plainOf}
+use Rattle.write_rules.specs.Writing.{text}
+use Rattle.write_text.specs.Texts.{textOf, Paged}
+use Rattle.write_text.specs.laws.Answers.{Answered, own, plain}
 use Rattle.gurkenmond.specs.declared.Written.{Written}
 use Rattle.gurkenmond.specs.declared.Written.the-variants.{Bytes as BytesWritten, Refused as WrittenRefused}
-use Rattle.preparing.specs.declared.Counted.{Counted}
-use Rattle.preparing.specs.declared.Verdict.{Verdict}
-use Rattle.preparing.specs.Reads.{verdictOf, isRefused, readOf}
-use Rattle.preparing.specs.Prepare.{prepared, preparedBy, refuses}
-use Rattle.preparing.specs.laws.Reads.{grammar-read, clear-text}
+use Rattle.prepare.specs.declared.Counted.{Counted}
+use Rattle.prepare.specs.declared.Verdict.{Verdict}
+use Rattle.prepare.specs.Reads.{verdictOf, isRefused, readOf}
+use Rattle.prepare.specs.Prepare.{prepared, preparedBy, refuses}
+use Rattle.prepare.specs.laws.Reads.{grammar-read, clear-text}
 use Rattle.gurkenmond.specs.Calls.{Writing, writeAfter, writeBy, writeOwnOf, writePlainOf}
 use Rattle.gurkenmond.specs.Puts.{notWritten, answerBy, PutText}
 use Rattle.gurkenmond.specs.laws.Verdicts.{handed}

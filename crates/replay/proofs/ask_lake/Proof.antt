@@ -8,8 +8,8 @@ use Rattle.replay.proofs.ask_lake.Tie as tie
 use Rattle.replay.proofs.ask_lake.Reads as reads
 use Rattle.replay.proofs.ask_lake.Lts as lts
 use Rattle.replay.proofs.answer_lake.Reads as answer-lake-reads
-use Rattle.lines.proofs.buffers.cells.Reads as cells-reads
-use Rattle.lines.proofs.after.Reads as after-reads
+use Rattle.replay_lines.proofs.buffers.cells.Reads as cells-reads
+use Rattle.replay_lines.proofs.after.Reads as after-reads
 use Rattle.replay.proofs.number_at.Reads as number-at-reads
 use Rattle.console.proofs.unreadable.Reads as unreadable-reads
 

@@ -8,9 +8,9 @@ use Rattle.replay.proofs.ask_match.Tie as tie
 use Rattle.replay.proofs.ask_match.Reads as reads
 use Rattle.replay.proofs.ask_match.Lts as lts
 use Rattle.replay.proofs.answer_match.Reads as answer-match-reads
-use Rattle.lines.proofs.buffers.cells.Reads as cells-reads
-use Rattle.lines.proofs.buffers.nodes.Reads as nodes-reads
-use Rattle.lines.proofs.after.Reads as after-reads
+use Rattle.replay_lines.proofs.buffers.cells.Reads as cells-reads
+use Rattle.replay_lines.proofs.buffers.nodes.Reads as nodes-reads
+use Rattle.replay_lines.proofs.after.Reads as after-reads
 use Rattle.replay.proofs.number_at.Reads as number-at-reads
 use Rattle.console.proofs.unreadable.Reads as unreadable-reads
 

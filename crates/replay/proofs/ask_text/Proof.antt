@@ -9,7 +9,7 @@ use Rattle.replay.proofs.ask_text.Reads as reads
 use Rattle.replay.proofs.ask_text.Lts as lts
 use Rattle.replay.proofs.answer_own.Reads as answer-own-reads
 use Rattle.replay.proofs.answer_plain.Reads as answer-plain-reads
-use Rattle.lines.proofs.buffers.room.Reads as room-reads
+use Rattle.replay_lines.proofs.buffers.room.Reads as room-reads
 use Rattle.replay.proofs.number_at.Reads as number-at-reads
 use Rattle.console.proofs.unreadable.Reads as unreadable-reads
 

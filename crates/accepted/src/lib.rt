@@ -1,1 +1,0 @@
-// What the grammar of every text that is read has: see specs/.

@@ -1,1 +1,0 @@
-// Demand 3 on the public definitions: see specs/.

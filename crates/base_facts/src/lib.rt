@@ -1,0 +1,1 @@
+// Laws on bools, options and numbers that every room uses, each said once: see specs/.

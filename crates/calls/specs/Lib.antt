@@ -1,3 +1,0 @@
-pub mod Firsts
-pub mod Place
-pub mod laws

@@ -1,0 +1,5 @@
+pub mod Rows
+pub mod Table
+pub mod Holds
+pub mod Trees
+pub mod laws

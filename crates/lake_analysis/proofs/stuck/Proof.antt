@@ -1,0 +1,42 @@
+use mathlib.Core.Path.{_≡_, refl, sym, ap, ap₂, _∙_, subst}
+use mathlib.Core.List.{List, [], _∷_, _++_}
+use Prim.Native.Nat.{ℕ, _+_, _*_, _-_, _^_, _≤_, _<_}
+use mathlib.Core.Bool.{Bool, true, false, cond, not, _&&_, _||_}
+use native.Mathlib.Omega.{arith}
+use lib.ListN.{length, getD, set, take}
+use Rattle.lake_analysis.specs.Lent.{lakeIn, hitIn, blockedIn, skipIn, skipsIn}
+use Rattle.base_words.specs.Set.{memberOf, empty}
+use Rattle.lake_analysis.specs.laws.Skip.{blocked-next, blocked-none, skips-next, skips-none, skips-lt, room, skip-law}
+use Rattle.lake_sets.specs.Steps.{rootIn}
+use borrow.Author.Needs.{needs}
+use Rattle.lake_analysis.proofs.stuck.Statement.{statement}
+use Rattle.lake_analysis.proofs.stuck.Tie as tie
+use Rattle.lake_analysis.proofs.stuck.Reads as reads
+use Rattle.lake_analysis.proofs.stuck.Lts as lts
+use Rattle.lake_analysis.proofs.blocked.Reads as blocked-reads
+use Rattle.lake_analysis.proofs.is_lake.Reads as is-lake-reads
+use Rattle.lake_sets.proofs.root.Reads as root-reads
+use Rattle.lake_sets.proofs.set_at.Reads as set-at-reads
+
+is-lake-requires : tie.Need-is-lake-requires
+is-lake-requires c κs = search needs
+
+root-requires : tie.Need-root-requires
+root-requires c κs = search needs
+
+set-at-requires : tie.Need-set-at-requires
+set-at-requires c κs = search needs
+
+blocked-requires : tie.Need-blocked-requires
+blocked-requires c κs = search needs
+
+returns : tie.Need-returns
+returns c = rw (← (c .before .before .before .before .is-lake .ensures), c .before .before .before .if1 .taken) (c .blocked .ensures ∙ ap (λ (s : List ℕ). blockedIn (c .before .before .before .before .before .before .args .t .now) (c .before .before .before .before .before .before .args .marks .now) s (c .before .before .before .before .before .before .args .r)) (c .before .set-at .ensures ∙ ap (λ (i : ℕ). getD (c .before .before .before .before .before .before .args .alts .now) i empty) (c .before .before .root .ensures)))
+
+returns-2 : tie.Need-returns-2
+returns-2 c = rw (← (c .before .is-lake .ensures), c .if1 .left)
+
+pub stuck-spec : {M : Type 1} → statement M
+stuck-spec =
+    tie.close
+    (tie.spec is-lake-requires root-requires set-at-requires blocked-requires returns returns-2)

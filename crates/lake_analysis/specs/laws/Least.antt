@@ -1,0 +1,196 @@
+-- The analysis of a grammar: ε marks, SUCCEED and ALT are the least that satisfy 01's rules, BEGINNING satisfies its own, and the round count is the
+-- first k whose next round is equal, "at most expressions times (symbols + terminals)". Assumes nothing.
+use Prim.Native.Nat.{ℕ, zero, suc, _+_, _*_, _≤_, _<_}
+use mathlib.Core.Path.{_≡_, refl, sym, ap, ap₂, _∙_, subst}
+use mathlib.Core.Bool.{Bool, true, false, true≢false}
+use mathlib.Core.List.{List, [], _∷_, _++_}
+use native.Mathlib.Omega.{arith}
+use native.Mathlib.Numerals.{add-one}
+use lib.ListN.{length, getD, replicate}
+use lib.Dec.{T}
+use Rattle.base_facts.specs.Bools.{to-T}
+use Rattle.base_words.specs.Set.{unionOf, empty}
+use Rattle.base_rounds.specs.Flow.{Edge, flow, sameSets}
+use Rattle.base_rounds.specs.Rounds.{First, iter, Settled, settled}
+use Rattle.base_rounds.specs.laws.Fix.{first-exists}
+use Rattle.base_rounds.specs.laws.Cells.{Every, Below, cells}
+use Rattle.base_rounds.specs.laws.Pair.{Set2, pair, pair-joins}
+use Rattle.base_rounds.specs.laws.Flow.{Inside, flow-fine, flow-mono}
+use Rattle.base_rounds.specs.laws.Run.{sets-sound, sets-whole}
+use Rattle.grammar.specs.Exp.{Exp}
+use Rattle.grammar.specs.Numbers.{Grammar}
+use Rattle.grammar.specs.Parts.{Part, terminal, occurs, sequence, choice, option, repeat, repeat1, affirms, denies, partsAll, rootsOf}
+use Rattle.grammar_table.specs.Table.{upTo}
+use Rattle.lake_step_one.specs.Intermediate.{intermediate}
+use Rattle.lake_sets.specs.Beginning.{Beginning, nothing, marked, marksOf, beginBy, beginnings}
+use Rattle.lake_sets.specs.Flows.{edge, Gift, gift, when, over, given, roundBy, leastBy, succeedGifts, succeedEdges, altGifts, altEdges}
+use Rattle.lake_sets.specs.Analysis.{Analysis, analysed, analysis}
+use Rattle.grammar.specs.Numbers.{terminalIn}
+use Rattle.lake_sets.specs.Steps.{Ok, Flowed, edgesBy, kept}
+use Rattle.lake_step_one.specs.Proper.{SoundAll, Proper}
+use Rattle.grammar_table.specs.laws.Places.{is-upTo, upTo-long}
+use Rattle.lake_sets.specs.laws.Begins.{begins-rule}
+use Rattle.lake_sets.specs.laws.Edges.{kept-inside, edges-from, inside-append, over-next, over-none}
+use Rattle.grammar_table.specs.laws.Parts.{total, all-long, roots-in}
+use Rattle.lake_sets.specs.laws.Wholes.{ok-at, all-ok}
+use Rattle.lake_sets.specs.laws.Least.{Good, GoodGifts, given-good, none-good, begins-good, over-good, succeed-good, alt-good, least-is, few, state-at}
+use Rattle.lake_sets.specs.laws.Told.{edges-same}
+use Rattle.lake_analysis.specs.Rules.{SucceedRule, AltRule, Least, LeastMarks}
+use Rattle.lake_analysis.specs.laws.Rules.{In, in-over, least-solves, none-below, succeed-to, succeed-from, alt-to, alt-from}
+use Rattle.lake_analysis.specs.laws.Marks.{marks-least}
+
+decide : (s t : List (List ℕ)) (b : Bool) → sameSets s t ≡ b → Dec (s ≡ t)
+decide s t true e = yes (sets-sound s t (to-T (sameSets s t) e))
+decide s t false e = no (λ q. subst T e (subst (λ (u : List (List ℕ)). T (sameSets s u)) q (sets-whole s)))
+
+-- there is a first round whose next is equal
+module _ (r x n : ℕ) (gifts : List Gift) (es : List Edge) (ins : Inside n es) (good : GoodGifts r x gifts) where
+  base-good : Every (Set2 r x) [] n (given gifts (replicate n empty))
+  base-good = given-good r x n gifts (replicate n empty) good (none-good r x n)
+
+  pub found : (m : ℕ) × First (roundBy n gifts es) (replicate n empty) m
+  found =
+      first-exists (cells (pair r x) unionOf empty [] (pair-joins r x) n) (roundBy n gifts es) (replicate n empty) (none-good r x n)
+      (λ s g. flow-fine (pair r x) unionOf empty [] (pair-joins r x) n es ins s (given gifts (replicate n empty)) g base-good)
+      (λ s u gs gu h. flow-mono (pair r x) unionOf empty [] (pair-joins r x) n es ins s (given gifts (replicate n empty)) u (given gifts (replicate n empty)) gs base-good gu base-good h (λ i p. pair r x .le-rfl (getD (given gifts (replicate n empty)) i [])))
+      (λ s g. none-below r x n s g) (λ s t. decide s t (sameSets s t) refl)
+
+  pub settles : Flowed n gifts es (leastBy (n * (r + x)) n gifts es .count) (leastBy (n * (r + x)) n gifts es .state)
+  settles =
+      let f : Flowed n gifts es (found .0) (iter (roundBy n gifts es) (replicate n empty) (found .0)) = record { first = found .1; is = refl } in
+      subst (λ (w : Settled (List (List ℕ))). Flowed n gifts es (w .count) (w .state)) (sym (least-is r x n gifts es (found .0) (iter (roundBy n gifts es) (replicate n empty) (found .0)) f ins good)) f
+
+-- ---- among n
+inside-over : (m : ℕ) (f : ℕ → Part → List Edge) (part : ℕ → Part) (n : ℕ) → ((i : ℕ) → i < n → Inside m (f i (part i))) → Inside m (over f 0 (upTo part n))
+inside-over m f part zero h = rw (over-none f part) tt
+inside-over m f part (suc n) h = rw (← add-one n, over-next f part n) (inside-append m (over f 0 (upTo part n)) (f n (part n)) (inside-over m f part n (λ i l. h i (omega arith))) (h n (omega arith)))
+
+succeed-in : (bs : ℕ → Beginning) (root : ℕ → ℕ) (r x n i : ℕ) (p : Part) → i < n → Ok r x i p → In r x n (succeedGifts bs root i p)
+succeed-in bs root r x n i (terminal t) l k = tt
+succeed-in bs root r x n i (occurs s) l k = tt
+succeed-in bs root r x n i (sequence a b) l k = (omega arith, tt)
+succeed-in bs root r x n i (choice a b) l k = tt
+succeed-in bs root r x n i (option a) l k = tt
+succeed-in bs root r x n i (repeat a) l k = (omega arith, tt)
+succeed-in bs root r x n i (repeat1 a) l k = (omega arith, tt)
+succeed-in bs root r x n i (affirms a) l k = tt
+succeed-in bs root r x n i (denies a) l k = tt
+
+when-in : (r x n : ℕ) (b : Bool) (j : ℕ) (s : List ℕ) → j < n → In r x n (when b (gift j s))
+when-in r x n true j s l = (l, tt)
+when-in r x n false j s l = tt
+
+alt-in : (bs : ℕ → Beginning) (root : ℕ → ℕ) (succ : ℕ → List ℕ) (r x n i : ℕ) (p : Part) → i < n → Ok r x i p → In r x n (altGifts bs root succ i p)
+alt-in bs root succ r x n i (terminal t) l k = tt
+alt-in bs root succ r x n i (occurs s) l k = tt
+alt-in bs root succ r x n i (sequence a b) l k = tt
+alt-in bs root succ r x n i (choice a b) l k = (omega arith, when-in r x n (bs b .eps) a (succ i) (omega arith))
+alt-in bs root succ r x n i (option a) l k = (omega arith, tt)
+alt-in bs root succ r x n i (repeat a) l k = (omega arith, tt)
+alt-in bs root succ r x n i (repeat1 a) l k = (omega arith, tt)
+alt-in bs root succ r x n i (affirms a) l k = tt
+alt-in bs root succ r x n i (denies a) l k = tt
+
+-- what an analysis a of expressions `part`, n of them, over r symbols and x terminals promises
+pub record Lawful (a : Analysis) (r x n : ℕ) (part : ℕ → Part) : Type 0 where
+  pub begins : (i : ℕ) → i < n → getD (a .begins) i nothing ≡ beginBy (marked (a .marks)) (λ j. getD (a .begins) j nothing) (part i)
+  pub succeeds : Least r x n part (SucceedRule (λ j. getD (a .begins) j nothing) (λ s. getD (a .roots) s 0)) (a .succeeds)
+  pub alts : Least r x n part (AltRule (λ j. getD (a .begins) j nothing) (λ s. getD (a .roots) s 0) (λ j. getD (a .succeeds) j empty)) (a .alts)
+  pub rounds : First (roundBy n (over (altGifts (λ j. getD (a .begins) j nothing) (λ s. getD (a .roots) s 0) (λ j. getD (a .succeeds) j empty)) 0 (upTo part n)) (over (altEdges (λ j. getD (a .begins) j nothing) (λ s. getD (a .roots) s 0)) 0 (upTo part n))) (replicate n empty) (a .rounds)
+  pub bounded : a .rounds ≤ n * (r + x)
+
+module _ (r x n : ℕ) (part : ℕ → Part) (ok : (i : ℕ) → i < n → Ok r x i (part i)) (ms : List Bool) (roots : List ℕ) (rin : (s : ℕ) → s < r → getD roots s 0 < n) where
+  abbrev P : List Part
+  P = upTo part n
+
+  abbrev bs : ℕ → Beginning
+  bs i = getD (beginnings (marked ms) P) i nothing
+
+  abbrev root : ℕ → ℕ
+  root s = getD roots s 0
+
+  bs-good : (i : ℕ) → Good r x (bs i .set)
+  bs-good = begins-good r x (marked ms) part n ok
+
+  edge-inside : (back : Bool) (i : ℕ) → i < n → Inside n (edgesBy back bs root i (part i))
+  edge-inside back i l =
+      subst (Inside n) (edges-same n r x bs bs root root (λ j. refl) (λ s p. refl) rin i l back (part i) (ok i l)) (kept-inside n (edgesBy back bs root i (part i)) (edges-from bs root i n l back (part i)))
+
+  SE-in : Inside n (over (succeedEdges bs root) 0 P)
+  SE-in = inside-over n (succeedEdges bs root) part n (edge-inside true)
+
+  AE-in : Inside n (over (altEdges bs root) 0 P)
+  AE-in = inside-over n (altEdges bs root) part n (edge-inside false)
+
+  abbrev SG : List Gift
+  SG = over (succeedGifts bs root) 0 P
+
+  SG-good : GoodGifts r x SG
+  SG-good = over-good r x (succeedGifts bs root) (succeed-good r x bs root bs-good) 0 P
+
+  abbrev S : Settled (List (List ℕ))
+  S = leastBy (n * (r + x)) n SG (over (succeedEdges bs root) 0 P)
+
+  S-flowed : Flowed n SG (over (succeedEdges bs root) 0 P) (S .count) (S .state)
+  S-flowed = settles r x n SG (over (succeedEdges bs root) 0 P) SE-in SG-good
+
+  abbrev succ : ℕ → List ℕ
+  succ i = getD (S .state) i empty
+
+  abbrev AG : List Gift
+  AG = over (altGifts bs root succ) 0 P
+
+  AG-good : GoodGifts r x AG
+  AG-good = over-good r x (altGifts bs root succ) (alt-good r x bs root succ bs-good (state-at r x n SG (over (succeedEdges bs root) 0 P) (S .count) (S .state) S-flowed SE-in SG-good)) 0 P
+
+  abbrev A : Settled (List (List ℕ))
+  A = leastBy (n * (r + x)) n AG (over (altEdges bs root) 0 P)
+
+  A-flowed : Flowed n AG (over (altEdges bs root) 0 P) (A .count) (A .state)
+  A-flowed = settles r x n AG (over (altEdges bs root) 0 P) AE-in AG-good
+
+  abbrev it : Analysis
+  it = record { marks = ms; roots = roots; begins = beginnings (marked ms) P; succeeds = S .state; alts = A .state; rounds = A .count }
+
+  it-lawful : Lawful it r x n part
+  it-lawful = record {
+    begins = λ i l. begins-rule (marked ms) part r x n i l (ok i l);
+    succeeds = least-solves r x n part (SucceedRule bs root) (succeedGifts bs root) (succeedEdges bs root) (λ y i l. succeed-to r x bs root y i (part i)) (λ y i l. succeed-from r x bs root y i (part i))
+        SE-in SG-good (in-over r x n (succeedGifts bs root) part n (λ i l. succeed-in bs root r x n i (part i) l (ok i l))) (S .count) (S .state) S-flowed;
+    alts = least-solves r x n part (AltRule bs root succ) (altGifts bs root succ) (altEdges bs root) (λ y i l. alt-to r x bs root succ y i (part i)) (λ y i l. alt-from r x bs root succ y i (part i))
+        AE-in AG-good (in-over r x n (altGifts bs root succ) part n (λ i l. alt-in bs root succ r x n i (part i) l (ok i l))) (A .count) (A .state) A-flowed;
+    rounds = A-flowed .first;
+    bounded = few r x n AG (over (altEdges bs root) 0 P) (A .count) (A .state) A-flowed AE-in AG-good;
+  }
+
+  pub analysed-lawful : Lawful (analysed ms roots P (length P * (r + x))) r x n part
+  unfolding analysed
+  analysed-lawful = rw (upTo-long part n) it-lawful
+
+-- ---- of a grammar
+module _ (g : Grammar) (proper : Proper g) (long : length (intermediate g) ≡ length (g .names)) where
+  abbrev bodies : List (Exp ℕ)
+  bodies = intermediate g
+
+  abbrev parts : List Part
+  parts = partsAll (terminalIn g) 0 bodies
+
+  abbrev pub partOf : ℕ → Part
+  partOf i = getD parts i (terminal 0)
+
+  part-ok : (i : ℕ) → i < length parts → Ok (length (g .names)) (length (g .terminals)) i (partOf i)
+  part-ok i l =
+      subst (λ (k : ℕ). Ok (length (g .names)) (length (g .terminals)) k (partOf i)) (let q : 0 + i ≡ i = omega arith in q)
+      (ok-at (terminalIn g) (length (g .names)) (length (g .terminals)) 0 parts (terminal 0) (all-ok (terminalIn g) (length (g .names)) (length (g .terminals)) bodies 0 proper) i l)
+
+  pub lawful : Lawful (analysis g) (length (g .names)) (length (g .terminals)) (length parts) partOf
+  unfolding analysis
+  lawful =
+      subst (λ (ps : List Part). Lawful (analysed (marksOf bodies) (rootsOf 0 bodies) ps (length ps * (length (g .names) + length (g .terminals)))) (length (g .names)) (length (g .terminals)) (length parts) partOf)
+      (sym (is-upTo (terminal 0) partOf parts (length parts) refl (λ i l. refl)))
+      (analysed-lawful (length (g .names)) (length (g .terminals)) (length parts) partOf part-ok (marksOf bodies) (rootsOf 0 bodies)
+      (λ s l. rw (all-long (terminalIn g) bodies 0) (omega (arith, roots-in bodies 0 s (omega arith)))))
+
+  pub marks-lawful : LeastMarks bodies (analysis g .marks)
+  unfolding analysis analysed
+  marks-lawful = marks-least bodies

@@ -1,0 +1,227 @@
+ghost use mathlib.Core.Path.{_≡_};
+ghost use mathlib.Core.Bool.{Bool, true, false};
+ghost use mathlib.Core.List.{List, [], _∷_};
+ghost use Prim.Native.Nat.{ℕ, _+_, _-_, _*_, _^_, _<_, _≤_};
+ghost use lib.ListN.{length, getD, set, take};
+ghost use Rattle.lake_analysis.specs.Lent.{Begins, Parted, Fronted, SetsOf, lakeIn, hitIn, blockedIn, skipIn, skipsIn, CannotSkip};
+ghost use mathlib.Core.Bool.{cond, _||_};
+ghost use Rattle.lake_sets.specs.Steps.{rootIn};
+ghost use Rattle.base_words.specs.Set.{empty as none};
+
+// ε marks by symbol, then BEGINNING of every expression (01, Lakes made plain).
+fn begins(t: &grammar_table::Table, marks: &mut [bool], sets: &mut [[u64; 2]], eps: &mut [bool])
+    requires { ⌜ (length (now marks) ≤ 64) × (length (now sets) ≤ 1024) × (length (now eps) ≡ length (now sets)) ⌝ }
+    ensures { λ u. ⌜ Begins (now (t .entry)) (length (now (sets .entry))) (length (now (marks .entry))) (now (marks .exit)) (now (sets .exit)) (now (eps .exit)) ⌝ }
+{
+    lake_sets::mark_all(t, marks, sets, eps);
+    lake_sets::begin_all(t, marks, sets, eps);
+}
+
+// All sets of an intermediate grammar, in runs of exactly its length, and the round count of ALT.
+pub fn analyse(
+    t: &grammar_table::Table,
+    marks: &mut [bool],
+    sets: &mut [[u64; 2]],
+    eps: &mut [bool],
+    succ: &mut [[u64; 2]],
+    alts: &mut [[u64; 2]],
+    base: &mut [[u64; 2]],
+    next: &mut [[u64; 2]],
+    src: &mut [usize; 2048],
+    dst: &mut [usize; 2048],
+) -> usize
+    requires { ⌜ (length (now marks) ≤ 64) × (length (now base) ≤ 1024) × (length (now sets) ≡ length (now base)) × (length (now eps) ≡ length (now base)) × (length (now succ) ≡ length (now base)) × (length (now alts) ≡ length (now base)) × (length (now next) ≡ length (now base)) ⌝ }
+    ensures { λ r. ⌜ Parted (now (t .entry)) (length (now (base .entry))) (length (now (marks .entry))) (now (marks .exit)) (now (sets .exit)) (now (eps .exit)) (now (succ .exit)) (now (alts .exit)) r ⌝ }
+{
+    begins(t, marks, sets, eps);
+    let first = lake_sets::succeed_all(t, sets, eps, src, dst, base, succ, next);
+    lake_sets::alt_all(t, sets, eps, succ, src, dst, base, alts, next)
+}
+
+// The same at the front of longer runs: n expressions, r symbols.
+fn analyse_front(
+    t: &grammar_table::Table,
+    n: usize,
+    r: usize,
+    marks: &mut [bool],
+    sets: &mut [[u64; 2]],
+    eps: &mut [bool],
+    succ: &mut [[u64; 2]],
+    alts: &mut [[u64; 2]],
+    base: &mut [[u64; 2]],
+    next: &mut [[u64; 2]],
+    src: &mut [usize; 2048],
+    dst: &mut [usize; 2048],
+) -> usize
+    requires { ⌜ (r ≤ 64) × (n ≤ 1024) × (r ≤ length (now marks)) × (n ≤ length (now sets)) × (n ≤ length (now eps)) × (n ≤ length (now succ)) × (n ≤ length (now alts)) × (n ≤ length (now base)) × (n ≤ length (now next)) ⌝ }
+    ensures { λ k. ⌜ Parted (now (t .entry)) n r (take r (now (marks .exit))) (take n (now (sets .exit))) (take n (now (eps .exit))) (take n (now (succ .exit))) (take n (now (alts .exit))) k ⌝ }
+{
+    analyse(
+        t,
+        &mut marks[..r],
+        &mut sets[..n],
+        &mut eps[..n],
+        &mut succ[..n],
+        &mut alts[..n],
+        &mut base[..n],
+        &mut next[..n],
+        src,
+        dst,
+    )
+}
+
+// All sets of the intermediate grammar that a table holds, and the round count of ALT (01: "The reported count is the first k whose next round is equal").
+pub fn analyse_table(
+    t: &grammar_table::Table,
+    marks: &mut [bool; 64],
+    sets: &mut [[u64; 2]; 1024],
+    eps: &mut [bool; 1024],
+    succ: &mut [[u64; 2]; 1024],
+    alts: &mut [[u64; 2]; 1024],
+    base: &mut [[u64; 2]; 1024],
+    next: &mut [[u64; 2]; 1024],
+    src: &mut [usize; 2048],
+    dst: &mut [usize; 2048],
+) -> usize
+    ensures { λ k. ⌜ Fronted (now (t .entry)) (now (marks .exit)) (now (sets .exit)) (now (eps .exit)) (now (succ .exit)) (now (alts .exit)) k ⌝ }
+{
+    let r = base_words::word(t, 0);
+    let n = base_words::word(t, 2);
+    if r > 64 {
+        return 0;
+    }
+    if n > 1024 {
+        return 0;
+    }
+    analyse_front(t, n, r, marks, sets, eps, succ, alts, base, next, src, dst)
+}
+
+// The sets of expression e, numbered from 1, with its ε mark (01: "the three sets of an expression travel together with the ε mark").
+pub fn sets_at(
+    sets: &[[u64; 2]; 1024],
+    eps: &[bool; 1024],
+    succ: &[[u64; 2]; 1024],
+    alts: &[[u64; 2]; 1024],
+    e: usize,
+) -> lake_sets::Sets
+    requires { ⌜ 1 ≤ e ⌝ }
+    ensures { λ r. ⌜ SetsOf (now (sets .entry)) (now (eps .entry)) (now (succ .entry)) (now (alts .entry)) e r ⌝ }
+{
+    let i = e - 1;
+    let b = lake_sets::set_at(sets, i);
+    let s = lake_sets::set_at(succ, i);
+    let a = lake_sets::set_at(alts, i);
+    let x = lake_sets::flag_at(eps, i);
+    lake_sets::Sets {
+        begin: b,
+        succeed: s,
+        alt: a,
+        eps: x,
+    }
+}
+
+// Whether symbol n is a lake.
+pub fn is_lake(t: &grammar_table::Table, n: usize) -> bool
+    requires { ⌜ n < 64 ⌝ }
+    ensures { λ r. ⌜ r ≡ lakeIn (now (t .entry)) n ⌝ }
+{
+    let k = base_words::word(
+        t,
+        grammar_table::SYMBOLS_AT + grammar_table::SYMBOL_WORDS * n,
+    );
+    k != 0
+}
+
+// Whether n is a nonterminal of the set whose body has ε, or one before it was.
+fn hit(t: &grammar_table::Table, marks: &[bool], s: [u64; 2], n: usize, found: bool) -> bool
+    requires { ⌜ n < 64 ⌝ }
+    ensures { λ r. ⌜ r ≡ (hitIn (now (t .entry)) (now (marks .entry)) s n || found) ⌝ }
+{
+    if !base_words::member(s, n) {
+        return found;
+    }
+    if is_lake(t, n) {
+        return found;
+    }
+    if lake_sets::flag_at(marks, n) {
+        return true;
+    }
+    found
+}
+
+fn blocked(t: &grammar_table::Table, marks: &[bool], s: [u64; 2], r: usize) -> bool
+    requires { ⌜ r ≤ 64 ⌝ }
+    ensures { λ u. ⌜ u ≡ blockedIn (now (t .entry)) (now (marks .entry)) s r ⌝ }
+{
+    let mut found = false;
+    let mut n: usize = 0;
+    while n < r {
+        found = hit(t, marks, s, n, found);
+        n += 1;
+    }
+    found
+}
+
+// ALT of the body of symbol n.
+pub fn alt_of(t: &grammar_table::Table, alts: &[[u64; 2]; 1024], n: usize) -> [u64; 2]
+    requires { ⌜ n < 64 ⌝ }
+    ensures { λ r. ⌜ r ≡ getD (now (alts .entry)) (rootIn (now (t .entry)) n) none ⌝ }
+{
+    let i = lake_sets::root(t, n);
+    lake_sets::set_at(alts, i)
+}
+
+// Whether lake n cannot skip.
+fn stuck(t: &grammar_table::Table, marks: &[bool], alts: &[[u64; 2]], r: usize, n: usize) -> bool
+    requires { ⌜ (r ≤ 64) × (n < 64) ⌝ }
+    ensures { λ u. ⌜ u ≡ skipIn (now (t .entry)) (now (marks .entry)) (now (alts .entry)) r n ⌝ }
+{
+    if is_lake(t, n) {
+        let i = lake_sets::root(t, n);
+        let s = lake_sets::set_at(alts, i);
+        return blocked(t, marks, s, r);
+    }
+    false
+}
+
+fn noted(w: u64, n: usize, yes: bool) -> u64
+    requires { ⌜ (w < 2 ^ n) × (n < 64) ⌝ }
+    ensures { λ u. ⌜ u ≡ w + cond yes (2 ^ n) 0 ⌝ }
+{
+    if yes {
+        return w + lake_sets::bit(n);
+    }
+    w
+}
+
+fn note(
+    t: &grammar_table::Table,
+    marks: &[bool],
+    alts: &[[u64; 2]],
+    r: usize,
+    n: usize,
+    w: u64,
+) -> u64
+    requires { ⌜ (r ≤ 64) × (n < 64) × (w < 2 ^ n) ⌝ }
+    ensures { λ u. ⌜ u ≡ w + cond (skipIn (now (t .entry)) (now (marks .entry)) (now (alts .entry)) r n) (2 ^ n) 0 ⌝ }
+{
+    let yes = stuck(t, marks, alts, r, n);
+    noted(w, n, yes)
+}
+
+// The lakes with a nonterminal in ALT whose body has ε, bit = symbol (01, "Other calls").
+pub fn cannot_skip(t: &grammar_table::Table, marks: &[bool; 64], alts: &[[u64; 2]; 1024]) -> u64
+    ensures { λ w. ⌜ CannotSkip (now (t .entry)) (now (marks .entry)) (now (alts .entry)) w ⌝ }
+{
+    let r = base_words::word(t, 0);
+    if r > 64 {
+        return 0;
+    }
+    let mut w: u64 = 0;
+    let mut n: usize = 0;
+    while n < r {
+        w = note(t, marks, alts, r, n, w);
+        n += 1;
+    }
+    w
+}

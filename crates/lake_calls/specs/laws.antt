@@ -1,0 +1,12 @@
+-- Laws of the definitions beside this file.
+pub mod First
+pub mod Loops
+pub mod Order
+pub mod Tables
+pub mod Ranks
+pub mod Reaches
+pub mod Traps
+pub mod Trees
+pub mod Rights
+pub mod Marks
+pub mod LoopsLoops

@@ -1,0 +1,58 @@
+-- "Finding loops in the lake grammar only: guards add first calls" (01, Traps): `A <- <x>* 'y' / B`, `B <- <x>* 'z'` has a loop in its plain bodies
+-- and none before the guards are added. Assumes nothing.
+use Prim.Native.Nat.{ℕ}
+use mathlib.Core.Path.{_≡_, refl}
+use mathlib.Core.List.{List, [], _∷_}
+use mathlib.Core.Option.{Option, none, some}
+use Rattle.read_tokens.specs.Token.{Symbol, Leaf, name, lake, any, literal}
+use Rattle.grammar.specs.Exp.{Exp, sym, ter, seq, alt, star, never, size}
+use Rattle.grammar.specs.Lakes.{waterOf, stepOne, choiceOf, skipOf, stepTwo}
+use Rattle.grammar.specs.Empty.{emptyLeaf, hasEmpty}
+use Rattle.grammar.specs.Numbers.{Grammar}
+use Rattle.grammar.specs.Parts.{partsOf, partsAll, rootsOf}
+use Rattle.grammar.specs.Same.{sameBytes, sameMarks, sameSymbol, sameLeaf, indexOf}
+use Rattle.base_rounds.specs.Rounds.{settle}
+use Rattle.lake_step_one.specs.Intermediate.{waterIn, bodiesBy, intermediate}
+use Rattle.lake_sets.specs.Beginning.{markRound, marksOf, beginningsFrom, beginnings}
+use Rattle.lake_sets.specs.Flows.{over, given, leastBy}
+use Rattle.lake_sets.specs.Analysis.{analysed, analysis}
+use Rattle.lake_step_two.specs.Plain.{nonterminalsIn, terminalsIn, alternatives, plainFrom, plainBodies}
+use Rattle.lake_calls.specs.Calls.{firstCalls, callsOf, calledBy, reach, loopFrom, loop}
+
+abbrev guarded : Grammar
+guarded =
+    record {
+      names = name (65 ∷ []) ∷ name (66 ∷ []) ∷ lake (120 ∷ []) ∷ [];
+      rights = some (alt (seq (star (sym 2)) (ter (literal (121 ∷ [])))) (sym 1)) ∷ some (seq (star (sym 2)) (ter (literal (122 ∷ [])))) ∷ none ∷ [];
+      terminals = any ∷ literal (121 ∷ []) ∷ literal (122 ∷ []) ∷ [];
+    }
+
+-- the lake's guard is `!(B / 'y' / 'z')`: lakes are dropped, nonterminals come first
+pub guard : plainBodies guarded (analysis guarded)
+    ≡ alt (seq (star (sym 2)) (ter (literal (121 ∷ [])))) (sym 1)
+    ∷ seq (star (sym 2)) (ter (literal (122 ∷ [])))
+    ∷ alt (never (ter any)) (seq (never (alt (alt (sym 1) (ter (literal (121 ∷ [])))) (ter (literal (122 ∷ []))))) (ter any))
+    ∷ []
+unfolding waterOf stepOne choiceOf skipOf stepTwo emptyLeaf hasEmpty size partsOf partsAll rootsOf sameBytes sameMarks sameSymbol sameLeaf indexOf settle waterIn bodiesBy intermediate markRound marksOf beginningsFrom beginnings over given leastBy analysed analysis nonterminalsIn terminalsIn alternatives plainFrom plainBodies
+guard = refl
+
+pub loops-with-guards : loop (plainBodies guarded (analysis guarded)) ≡ some 1
+unfolding waterOf stepOne choiceOf skipOf stepTwo emptyLeaf hasEmpty size partsOf partsAll rootsOf sameBytes sameMarks sameSymbol sameLeaf indexOf settle waterIn bodiesBy intermediate markRound marksOf beginningsFrom beginnings over given leastBy analysed analysis nonterminalsIn terminalsIn alternatives plainFrom plainBodies firstCalls callsOf calledBy reach loopFrom loop
+loops-with-guards = refl
+
+pub none-before : loop (intermediate guarded) ≡ none
+unfolding waterOf stepOne emptyLeaf hasEmpty sameBytes sameSymbol indexOf waterIn bodiesBy intermediate markRound marksOf firstCalls callsOf calledBy reach loopFrom loop
+none-before = refl
+
+-- "Lakes in ALT(b) are dropped": in `a <- <x> / <y>` the ALT of `<x>` is `<y>`, and no alternative is left
+abbrev lakesOnly : Grammar
+lakesOnly =
+    record {
+      names = name (97 ∷ []) ∷ lake (120 ∷ []) ∷ lake (121 ∷ []) ∷ [];
+      rights = some (alt (sym 1) (sym 2)) ∷ none ∷ none ∷ [];
+      terminals = any ∷ [];
+    }
+
+pub dropped : plainBodies lakesOnly (analysis lakesOnly) ≡ alt (sym 1) (sym 2) ∷ alt (never (ter any)) (ter any) ∷ alt (never (ter any)) (ter any) ∷ []
+unfolding waterOf stepOne choiceOf skipOf stepTwo emptyLeaf hasEmpty size partsOf partsAll rootsOf sameBytes sameMarks sameSymbol sameLeaf indexOf settle waterIn bodiesBy intermediate markRound marksOf beginningsFrom beginnings over given leastBy analysed analysis nonterminalsIn terminalsIn alternatives plainFrom plainBodies
+dropped = refl

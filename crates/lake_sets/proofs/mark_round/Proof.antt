@@ -1,0 +1,42 @@
+use mathlib.Core.Path.{_≡_, refl, sym, ap, ap₂, _∙_, subst}
+use mathlib.Core.List.{List, [], _∷_}
+use Prim.Native.Nat.{ℕ, _+_, _*_, _-_, _^_, _≤_, _<_}
+use mathlib.Core.Bool.{Bool, true, false, cond, _&&_, _||_}
+use native.Mathlib.Omega.{arith}
+use lib.ListN.{length, getD, set, replicate, length-set, List·getD-eq-default, length-replicate}
+use Rattle.base_facts.specs.Numbers.{lt-or-ge}
+use Rattle.grammar_table.specs.Table.{partBy, partIn, upTo}
+use Rattle.lake_sets.specs.Beginning.{Beginning, nothing, begin, marked, beginBy}
+use Rattle.lake_sets.specs.Steps.{pairAt, rootIn, Tame, beginsIn, markNext, marksIn, BegunAll, MarkedAll}
+use Rattle.grammar_table.specs.laws.Places.{getD-any, is-upTo, upTo-same}
+use borrow.Author.Needs.{needs}
+use Rattle.lake_sets.proofs.mark_round.Statement.{statement}
+use Rattle.lake_sets.proofs.mark_round.Tie as tie
+use Rattle.lake_sets.proofs.mark_round.Reads as reads
+use Rattle.lake_sets.proofs.mark_round.Lts as lts
+use Rattle.lake_sets.proofs.begin_all.Reads as begin-all-reads
+use Rattle.lake_sets.proofs.gather.Reads as gather-reads
+
+begin-all-requires : tie.Need-begin-all-requires
+begin-all-requires c κs = search needs
+
+gather-requires : tie.Need-gather-requires
+gather-requires c κs = search needs
+
+same-length : tie.Need-same-length
+same-length c = search needs
+
+same-length-2 : tie.Need-same-length-2
+same-length-2 c = search needs
+
+same-length-3 : tie.Need-same-length-3
+same-length-3 c = search needs
+
+returns : tie.Need-returns
+returns c = λ x h. c .before .before .gather .ensures ∙ upTo-same false (λ r. getD (c .before .before .before .before .before .before .before .before .begin-all .last .1 .1 .1 .0) (rootIn (c .before .before .before .before .before .before .before .before .before .before .before .before .before .before .args .t .now) r) false) (λ r. getD (beginsIn (c .before .before .before .before .before .before .before .before .before .before .before .before .before .before .args .t .now) (c .before .before .before .before .before .before .before .before .before .before .before .before .before .before .args .marks .now) (length (c .before .before .before .before .before .before .before .before .before .before .before .before .before .before .args .sets .now))) (rootIn (c .before .before .before .before .before .before .before .before .before .before .before .before .before .before .args .t .now) r) nothing .eps) (length (c .before .before .before .before .before .before .before .before .before .before .before .before .before .before .args .marks .now))
+    (λ i p. ap (λ (z : Beginning). z .eps) (c .before .before .before .before .before .before .before .before .begin-all .ensures (length (c .before .before .before .before .before .before .before .before .before .before .before .before .before .before .args .marks .now)) x h (rootIn (c .before .before .before .before .before .before .before .before .before .before .before .before .before .before .args .t .now) i)))
+
+pub mark-round-spec : {M : Type 1} → statement M
+mark-round-spec =
+    tie.close
+    (tie.spec begin-all-requires gather-requires same-length same-length-2 same-length-3 returns)

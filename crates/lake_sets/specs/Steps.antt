@@ -1,0 +1,137 @@
+-- What the code has in lent memory at each step, over the words of a table: every reading is total. Assumes nothing: these are definitions.
+use Prim.Native.Nat.{ℕ, zero, suc, _+_, _-_, _<_, _≤_}
+use mathlib.Core.Path.{_≡_}
+use mathlib.Core.Bool.{Bool, true, false, cond}
+use mathlib.Core.List.{List, [], _∷_, _++_}
+use lib.ListN.{length, getD, set, replicate}
+use lib.Dec.{ltb}
+use Rattle.base_words.specs.Set.{empty}
+use Rattle.base_rounds.specs.Rounds.{iter, First}
+use Rattle.base_rounds.specs.Flow.{Edge}
+use Rattle.grammar.specs.Parts.{Part, terminal, occurs, sequence, choice, option, repeat, repeat1, affirms, denies}
+use Rattle.grammar_table.specs.Table.{symbolWord, partIn, upTo}
+use Rattle.base_rounds.specs.laws.Cells.{Every}
+use Rattle.base_rounds.specs.laws.Pair.{Set2}
+use Rattle.base_rounds.specs.laws.Flow.{Inside}
+use Rattle.base_rounds.specs.laws.Sys.{edges}
+use Rattle.lake_sets.specs.Beginning.{Beginning, begin, nothing, marked, beginBy, beginnings}
+use Rattle.lake_sets.specs.Flows.{Gift, over, given, roundBy, succeedGifts, succeedEdges, altGifts, altEdges}
+
+-- BEGINNING of expression i as two lent runs have it
+abbrev pub pairAt : List (List ℕ) → List Bool → ℕ → Beginning
+pairAt sets eps i = begin (getD sets i empty) (getD eps i false)
+
+-- the number of the body of symbol r
+abbrev pub rootIn : List ℕ → ℕ → ℕ
+rootIn t r = symbolWord t r 1 - 1
+
+-- a number that has a bit in a word
+abbrev pub Small : Part → Type 0
+Small (terminal x) = x < 64
+Small (occurs r) = r < 64
+Small (sequence a b) = Unit {0}
+Small (choice a b) = Unit {0}
+Small (option a) = Unit {0}
+Small (repeat a) = Unit {0}
+Small (repeat1 a) = Unit {0}
+Small (affirms a) = Unit {0}
+Small (denies a) = Unit {0}
+
+-- of r symbols and x terminals, and parts before wholes
+abbrev pub Ok : ℕ → ℕ → ℕ → Part → Type 0
+Ok r x i (terminal y) = y < x
+Ok r x i (occurs s) = s < r
+Ok r x i (sequence a b) = (a < i) × (b < i)
+Ok r x i (choice a b) = (a < i) × (b < i)
+Ok r x i (option a) = a < i
+Ok r x i (repeat a) = a < i
+Ok r x i (repeat1 a) = a < i
+Ok r x i (affirms a) = a < i
+Ok r x i (denies a) = a < i
+
+-- a table of n expressions, r symbols and x terminals in which each part comes before its whole and each symbol has a body
+pub record Tame (t : List ℕ) (n r x : ℕ) : Type 0 where
+  pub symbols : r ≤ 64
+  pub terminals : x ≤ 64
+  pub parts : (i : ℕ) → i < n → Ok r x i (partIn t i)
+  pub roots : (s : ℕ) → s < r → rootIn t s < n
+
+-- BEGINNING of all n expressions of a table
+abbrev pub beginsIn : List ℕ → List Bool → ℕ → List Beginning
+beginsIn t ms n = beginnings (marked ms) (upTo (partIn t) n)
+
+-- the marks of the symbols' bodies after one more round
+abbrev pub markNext : List ℕ → ℕ → List Bool → List Bool
+markNext t n ms = upTo (λ r. getD (beginsIn t ms n) (rootIn t r) nothing .eps) (length ms)
+
+abbrev pub marksIn : List ℕ → ℕ → ℕ → ℕ → List Bool
+marksIn t n r k = iter (markNext t n) (replicate r false) k
+
+-- what is stored for expression e
+pub record Begun (t : List ℕ) (ms : List Bool) (e : ℕ) (sets : List (List ℕ)) (eps : List Bool) (sets′ : List (List ℕ)) (eps′ : List Bool) : Type 0 where
+  pub set-is : Small (partIn t e) → sets′ ≡ set sets e (beginBy (marked ms) (pairAt sets eps) (partIn t e) .set)
+  pub set-long : length sets′ ≡ length sets
+  pub eps-is : eps′ ≡ set eps e (beginBy (marked ms) (pairAt sets eps) (partIn t e) .eps)
+
+-- what is stored for all
+abbrev pub BegunAll : List ℕ → List Bool → ℕ → List (List ℕ) → List Bool → Type 0
+BegunAll t ms n sets eps = (r x : ℕ) → Tame t n r x → (i : ℕ) → pairAt sets eps i ≡ getD (beginsIn t ms n) i nothing
+
+abbrev pub MarkedOnce : List ℕ → ℕ → List Bool → List Bool → Type 0
+MarkedOnce t n ms ms′ = (x : ℕ) → Tame t n (length ms) x → ms′ ≡ markNext t n ms
+
+abbrev pub MarkedAll : List ℕ → ℕ → ℕ → List Bool → Type 0
+MarkedAll t n r ms = (x : ℕ) → Tame t n r x → ms ≡ marksIn t n r r
+
+-- the edges that lead to one of n expressions
+abbrev pub keptBy : Bool → Edge → List Edge → List Edge
+keptBy true e l = e ∷ l
+keptBy false e l = l
+
+unfoldable pub kept : ℕ → List Edge → List Edge
+kept n [] = []
+kept n (e ∷ es) = keptBy (ltb (e .to) n) e (kept n es)
+
+-- the edges of SUCCEED, and of ALT
+abbrev pub edgesBy : Bool → (ℕ → Beginning) → (ℕ → ℕ) → ℕ → Part → List Edge
+edgesBy true bs root i p = succeedEdges bs root i p
+edgesBy false bs root i p = altEdges bs root i p
+
+-- es more, behind the first m
+pub record Grown (src dst : List ℕ) (m : ℕ) (es : List Edge) (src′ dst′ : List ℕ) (m′ : ℕ) : Type 0 where
+  pub all : edges src′ dst′ m′ ≡ edges src dst m ++ es
+  pub most : m′ ≤ m + length es
+
+-- those of the first e expressions of a table of n
+abbrev pub handed : List ℕ → List Bool → Bool → ℕ → ℕ → List Edge
+handed t eps back n e = over (λ i p. kept n (edgesBy back (pairAt [] eps) (rootIn t) i p)) 0 (upTo (partIn t) e)
+
+-- the gifts of the first e expressions
+abbrev pub succeedGiven : List ℕ → List (List ℕ) → ℕ → List Gift
+succeedGiven t sets e = over (succeedGifts (pairAt sets []) (rootIn t)) 0 (upTo (partIn t) e)
+
+abbrev pub altGiven : List ℕ → List (List ℕ) → List Bool → List (List ℕ) → ℕ → List Gift
+altGiven t sets eps succ e = over (altGifts (pairAt sets eps) (rootIn t) (λ i. getD succ i empty)) 0 (upTo (partIn t) e)
+
+-- cells whose words are words
+abbrev pub Fine : List (List ℕ) → Type 0
+Fine base = Every (Set2 64 64) [] (length base) base
+
+pub record Gave (gifts : List Gift) (base base′ : List (List ℕ)) : Type 0 where
+  pub is : base′ ≡ given gifts base
+  pub fine : Fine base → Fine base′
+
+-- k is the first round whose next is equal, and s its state
+pub record Flowed (n : ℕ) (gifts : List Gift) (es : List Edge) (k : ℕ) (s : List (List ℕ)) : Type 0 where
+  pub first : First (roundBy n gifts es) (replicate n empty) k
+  pub is : s ≡ iter (roundBy n gifts es) (replicate n empty) k
+
+-- what rounds ask: edges between expressions, and cells for each
+pub record RoundsAsk (src dst : List ℕ) (m : ℕ) (base : List (List ℕ)) (cur next : ℕ) : Type 0 where
+  pub src-long : m ≤ length src
+  pub dst-long : m ≤ length dst
+  pub inside : Inside (length base) (edges src dst m)
+  pub cur-long : cur ≡ length base
+  pub next-long : next ≡ length base
+  pub few : length base ≤ 1024
+  pub fine : Fine base

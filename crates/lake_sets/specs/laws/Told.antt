@@ -1,0 +1,290 @@
+-- What the code leaves in lent memory is the analysis of the grammar whose intermediate form the table holds. Assumes nothing.
+use Prim.Native.Nat.{ℕ, zero, suc, _+_, _-_, _*_, _≤_, _<_}
+use mathlib.Core.Path.{_≡_, refl, sym, ap, ap₂, _∙_, subst, fun-ext}
+use mathlib.Core.Logic.{_⊎_, inl, inr, ⊎-elim}
+use mathlib.Core.Bool.{Bool, true, false}
+use mathlib.Core.List.{List, [], _∷_, _++_, map}
+use mathlib.Core.Option.{Option, some}
+use native.Mathlib.Omega.{arith}
+use native.Mathlib.Numerals.{add-one}
+use lib.ListN.{length, getD, replicate, length-replicate, length-map, List·getD-map}
+use lib.Dec.{ltb}
+use borrow.Author.Tests.{lt-ltb}
+use Rattle.read_tokens.specs.Token.{Leaf, any}
+use Rattle.base_words.specs.Set.{empty}
+use Rattle.base_rounds.specs.Flow.{Edge}
+use Rattle.base_rounds.specs.Rounds.{iter, Settled, settled}
+use Rattle.base_rounds.specs.laws.Flow.{Inside}
+use Rattle.grammar.specs.Exp.{Exp, ter}
+use Rattle.grammar.specs.Empty.{hasEmpty}
+use Rattle.grammar.specs.Numbers.{Grammar}
+use Rattle.grammar.specs.Parts.{Part, terminal, occurs, sequence, choice, option, repeat, repeat1, affirms, denies, partsAll, rootsOf}
+use Rattle.grammar_table.specs.Table.{upTo, partIn, partsIn, rootsIn, nameIn, leafIn, symbolWord, symbolCount, terminalCount, expressionCount}
+use Rattle.grammar_table.specs.Holds.{Holds, rootsFrom}
+use Rattle.lake_step_one.specs.Intermediate.{intermediate}
+use Rattle.lake_sets.specs.Beginning.{Beginning, nothing, begin, marked, markRound, marksOf, beginnings}
+use Rattle.lake_sets.specs.Flows.{edge, Gift, gift, when, over, leastBy, succeedGifts, succeedEdges, altGifts, altEdges}
+use Rattle.lake_sets.specs.Analysis.{Analysis, analysed, analysis}
+use Rattle.grammar.specs.Numbers.{terminalIn}
+use Rattle.lake_sets.specs.Steps.{pairAt, rootIn, Ok, Tame, beginsIn, markNext, marksIn, kept, edgesBy, handed, succeedGiven, altGiven, Flowed}
+use Rattle.lake_step_one.specs.Proper.{Sound, SoundAll, Proper, middle}
+use Rattle.lake_sets.specs.Analysed.{Analysed}
+use Rattle.grammar_table.specs.laws.Places.{getD-any, upTo-long, upTo-at, is-upTo}
+use Rattle.lake_sets.specs.laws.Begins.{begins-rule, begins-long}
+use Rattle.lake_sets.specs.laws.Edges.{over-next, over-none, handed-inside}
+use Rattle.grammar_table.specs.laws.Parts.{total, all-long, roots-in, present-some, from-roots, from-long}
+use Rattle.lake_sets.specs.laws.Wholes.{OkAll, ok-at, all-ok, eps-body}
+use Rattle.lake_sets.specs.laws.Least.{begins-good, over-good, succeed-good, alt-good, least-is, state-at}
+
+-- ---- lists that agree expression by expression
+over-same : {A : Type 0} (f g : ℕ → Part → List A) (part : ℕ → Part) (n : ℕ) → ((i : ℕ) → i < n → f i (part i) ≡ g i (part i)) → over f 0 (upTo part n) ≡ over g 0 (upTo part n)
+over-same f g part zero h = over-none f part ∙ sym (over-none g part)
+over-same f g part (suc n) h =
+    rw (← add-one n) (over-next f part n ∙ ap₂ (λ a b. a ++ b) (over-same f g part n (λ i l. h i (omega arith))) (h n (omega arith)) ∙ sym (over-next g part n))
+
+-- the gifts hang on the sets alone
+succeed-same : (bs cs : ℕ → Beginning) (f g : ℕ → ℕ) → ((i : ℕ) → bs i .set ≡ cs i .set) → (i : ℕ) (p : Part) → succeedGifts bs f i p ≡ succeedGifts cs g i p
+succeed-same bs cs f g h i (terminal t) = refl
+succeed-same bs cs f g h i (occurs r) = refl
+succeed-same bs cs f g h i (sequence a b) = ap (λ (s : List ℕ). gift a s ∷ []) (h b)
+succeed-same bs cs f g h i (choice a b) = refl
+succeed-same bs cs f g h i (option a) = refl
+succeed-same bs cs f g h i (repeat a) = ap (λ (s : List ℕ). gift a s ∷ []) (h a)
+succeed-same bs cs f g h i (repeat1 a) = ap (λ (s : List ℕ). gift a s ∷ []) (h a)
+succeed-same bs cs f g h i (affirms a) = refl
+succeed-same bs cs f g h i (denies a) = refl
+
+alt-same : (bs : ℕ → Beginning) (f g : ℕ → ℕ) (succ : ℕ → List ℕ) (i : ℕ) (p : Part) → altGifts bs f succ i p ≡ altGifts bs g succ i p
+alt-same bs f g succ i (terminal t) = refl
+alt-same bs f g succ i (occurs r) = refl
+alt-same bs f g succ i (sequence a b) = refl
+alt-same bs f g succ i (choice a b) = refl
+alt-same bs f g succ i (option a) = refl
+alt-same bs f g succ i (repeat a) = refl
+alt-same bs f g succ i (repeat1 a) = refl
+alt-same bs f g succ i (affirms a) = refl
+alt-same bs f g succ i (denies a) = refl
+
+-- where parts come before wholes and each symbol has a body, every edge is kept
+module _ (n r x : ℕ) (bs cs : ℕ → Beginning) (f g : ℕ → ℕ) (h : (i : ℕ) → bs i .eps ≡ cs i .eps) (same : (s : ℕ) → s < r → f s ≡ g s) (ins : (s : ℕ) → s < r → g s < n) (i : ℕ) (l : i < n) where
+  one : (j : ℕ) → j < n → kept n (edge i j ∷ []) ≡ edge i j ∷ []
+  unfolding kept
+  one j p = rw (lt-ltb j n p)
+
+  two : (j k : ℕ) → j < n → k < n → kept n (edge i j ∷ edge i k ∷ []) ≡ edge i j ∷ edge i k ∷ []
+  unfolding kept
+  two j k p q = rw (lt-ltb j n p, lt-ltb k n q)
+
+  may : (b c : Bool) (j k : ℕ) → b ≡ c → j < n → k < n → kept n (edge i j ∷ when b (edge i k)) ≡ edge i j ∷ when c (edge i k)
+  may true true j k e p q = two j k p q
+  may false false j k e p q = one j p
+  may true false j k e p q = ap (λ (d : Bool). kept n (edge i j ∷ when d (edge i k))) e ∙ one j p
+  may false true j k e p q = ap (λ (d : Bool). kept n (edge i j ∷ when d (edge i k))) e ∙ two j k p q
+
+  none-kept : kept n [] ≡ []
+  unfolding kept
+  none-kept = refl
+
+  body : (s : ℕ) → s < r → kept n (edge i (f s) ∷ []) ≡ edge i (g s) ∷ []
+  body s p = ap (λ (j : ℕ). kept n (edge i j ∷ [])) (same s p) ∙ one (g s) (ins s p)
+
+  pub edges-same : (back : Bool) (p : Part) → Ok r x i p → kept n (edgesBy back bs f i p) ≡ edgesBy back cs g i p
+  edges-same true (terminal t) k = none-kept
+  edges-same true (occurs s) k = body s k
+  edges-same true (sequence a b) k = may (bs b .eps) (cs b .eps) b a (h b) (omega arith) (omega arith)
+  edges-same true (choice a b) k = two a b (omega arith) (omega arith)
+  edges-same true (option a) k = one a (omega arith)
+  edges-same true (repeat a) k = one a (omega arith)
+  edges-same true (repeat1 a) k = one a (omega arith)
+  edges-same true (affirms a) k = none-kept
+  edges-same true (denies a) k = none-kept
+  edges-same false (terminal t) k = none-kept
+  edges-same false (occurs s) k = body s k
+  edges-same false (sequence a b) k = may (bs a .eps) (cs a .eps) a b (h a) (omega arith) (omega arith)
+  edges-same false (choice a b) k = two a b (omega arith) (omega arith)
+  edges-same false (option a) k = one a (omega arith)
+  edges-same false (repeat a) k = one a (omega arith)
+  edges-same false (repeat1 a) k = one a (omega arith)
+  edges-same false (affirms a) k = none-kept
+  edges-same false (denies a) k = none-kept
+
+pub flowed-as : {n k : ℕ} {s : List (List ℕ)} {gs hs : List Gift} {es fs : List Edge} → Flowed n gs es k s → gs ≡ hs → es ≡ fs → Flowed n hs fs k s
+flowed-as {n} {k} {s} {gs} {hs} {es} {fs} f p q = subst (λ (l : List Gift). Flowed n l fs k s) p (subst (λ (l : List Edge). Flowed n gs l k s) q f)
+
+module _ (t : List ℕ) (g : Grammar) (h : Holds t (middle g)) (proper : Proper g) where
+  abbrev bodies : List (Exp ℕ)
+  bodies = intermediate g
+
+  abbrev n : ℕ
+  n = expressionCount t
+
+  abbrev R : ℕ
+  R = length (g .names)
+
+  abbrev X : ℕ
+  X = length (g .terminals)
+
+  pub parts-is : upTo (partIn t) n ≡ partsAll (terminalIn g) 0 bodies
+  unfolding partsIn
+  parts-is = h .parts ∙ ap (partsAll (terminalIn g) 0) (present-some bodies)
+
+  pub n-is : n ≡ total bodies
+  n-is = sym (upTo-long (partIn t) n) ∙ ap length parts-is ∙ all-long (terminalIn g) bodies 0
+
+  pub symbols-is : symbolCount t ≡ R
+  symbols-is = sym (upTo-long (nameIn t) (symbolCount t)) ∙ ap length (h .names)
+
+  pub terminals-is : terminalCount t ≡ X
+  terminals-is = sym (upTo-long (leafIn t) (terminalCount t)) ∙ ap length (h .terminals)
+
+  pub bodies-is : symbolCount t ≡ length bodies
+  unfolding rootsIn
+  bodies-is = sym (upTo-long (λ r. symbolWord t r 1) (symbolCount t)) ∙ ap length (h .roots) ∙ from-long bodies 0
+
+  pub roots-is : (s : ℕ) → s < R → rootIn t s ≡ getD (rootsOf 0 bodies) s 0
+  unfolding rootsIn
+  roots-is s l =
+      ap (λ (w : ℕ). w - 1) (sym (upTo-at (λ r. symbolWord t r 1) (symbolCount t) s 0 (omega (arith, symbols-is))) ∙ ap (λ (w : List ℕ). getD w s 0) (h .roots))
+      ∙ from-roots bodies 0 s (omega (arith, symbols-is, bodies-is))
+
+  pub part-ok : (i : ℕ) → i < n → Ok R X i (partIn t i)
+  part-ok i l =
+      let d : Part = terminal 0 in
+      subst (λ (p : Part). Ok R X i p) (ap (λ (ps : List Part). getD ps i d) (sym parts-is) ∙ upTo-at (partIn t) n i d l)
+      (subst (λ (k : ℕ). Ok R X k (getD (partsAll (terminalIn g) 0 bodies) i d)) (let q : 0 + i ≡ i = omega arith in q)
+      (ok-at (terminalIn g) R X 0 (partsAll (terminalIn g) 0 bodies) d (all-ok (terminalIn g) R X bodies 0 proper) i (rw (all-long (terminalIn g) bodies 0) (omega (arith, n-is)))))
+
+  pub tame : Tame t n R X
+  tame = record {
+    symbols = omega (arith, h .few-symbols, symbols-is);
+    terminals = omega (arith, h .few-terminals, terminals-is);
+    parts = part-ok;
+    roots = λ s l. rw (roots-is s l) (omega (arith, n-is, roots-in bodies 0 s (omega (arith, symbols-is, bodies-is))));
+  }
+
+  -- ---- ε marks
+  module _ (ms : List Bool) where
+    rule : (i : ℕ) → i < n → getD (beginsIn t ms n) i nothing ≡ Rattle.lake_sets.specs.Beginning.beginBy (marked ms) (λ j. getD (beginsIn t ms n) j nothing) (partIn t i)
+    rule i l = begins-rule (marked ms) (partIn t) R X n i l (part-ok i l)
+
+    seg : (k : ℕ) → k < length (partsAll (terminalIn g) 0 bodies) → partIn t (0 + k) ≡ getD (partsAll (terminalIn g) 0 bodies) k (terminal 0)
+    seg k l =
+        let m : k < n = omega (arith, n-is, all-long (terminalIn g) bodies 0) in
+        ap (partIn t) (let q : 0 + k ≡ k = omega arith in q) ∙ sym (upTo-at (partIn t) n k (terminal 0) m) ∙ ap (λ (ps : List Part). getD ps k (terminal 0)) parts-is
+
+    mark-at : (s : ℕ) → s < R → getD (beginsIn t ms n) (rootIn t s) nothing .eps ≡ hasEmpty (marked ms) (getD bodies s (ter any))
+    mark-at s l =
+        ap (λ (i : ℕ). getD (beginsIn t ms n) i nothing .eps) (roots-is s l)
+        ∙ eps-body (terminalIn g) (partIn t) (terminal 0) (marked ms) (λ j. getD (beginsIn t ms n) j nothing) n R X rule bodies 0 proper seg (omega (arith, n-is)) (ter any) s (omega (arith, symbols-is, bodies-is))
+
+    pub round-is : length ms ≡ R → markNext t n ms ≡ markRound bodies ms
+    unfolding markRound
+    round-is e =
+        sym (is-upTo false (λ r. getD (beginsIn t ms n) (rootIn t r) nothing .eps) (map (hasEmpty (marked ms)) bodies) (length ms)
+        (length-map bodies (hasEmpty (marked ms)) ∙ (let q : length bodies ≡ length ms = omega (arith, symbols-is, bodies-is) in q))
+        (λ i l. getD-any (map (hasEmpty (marked ms)) bodies) i false (hasEmpty (marked ms) (ter any)) (rw (length-map bodies (hasEmpty (marked ms))) (omega (arith, symbols-is, bodies-is)))
+        ∙ List·getD-map (hasEmpty (marked ms)) bodies i (ter any) ∙ sym (mark-at i (omega arith))))
+
+  marks-long : (k : ℕ) → length (marksIn t n R k) ≡ R
+  marks-long zero = length-replicate R false
+  marks-long (suc k) = upTo-long (λ r. getD (beginsIn t (marksIn t n R k) n) (rootIn t r) nothing .eps) (length (marksIn t n R k)) ∙ marks-long k
+
+  marks-at : (k : ℕ) → marksIn t n R k ≡ iter (markRound bodies) (replicate R false) k
+  marks-at zero = refl
+  marks-at (suc k) = round-is (marksIn t n R k) (marks-long k) ∙ ap (markRound bodies) (marks-at k)
+
+  pub marks-is : marksIn t n R R ≡ marksOf bodies
+  unfolding marksOf
+  marks-is = let q : R ≡ length bodies = omega (arith, symbols-is, bodies-is) in marks-at R ∙ ap (λ (k : ℕ). iter (markRound bodies) (replicate k false) k) q
+
+  -- ---- all of it
+  module _ (ms : List Bool) (sets : List (List ℕ)) (eps : List Bool) (succ alts : List (List ℕ)) (j k : ℕ)
+      (hm : ms ≡ marksIn t n R R) (hb : (i : ℕ) → pairAt sets eps i ≡ getD (beginsIn t ms n) i nothing)
+      (hs : Flowed n (succeedGiven t sets n) (handed t eps true n n) j succ) (ha : Flowed n (altGiven t sets eps succ n) (handed t eps false n n) k alts) where
+    abbrev bs : ℕ → Beginning
+    bs i = getD (beginsIn t ms n) i nothing
+
+    abbrev root : ℕ → ℕ
+    root s = getD (rootsOf 0 bodies) s 0
+
+    bs-is : pairAt sets eps ≡ bs
+    bs-is = fun-ext hb
+
+    edges-is : (back : Bool) → handed t eps back n n ≡ over (edgesBy back bs root) 0 (upTo (partIn t) n)
+    edges-is back =
+        over-same (λ i p. kept n (edgesBy back (pairAt [] eps) (rootIn t) i p)) (edgesBy back bs root) (partIn t) n
+        (λ i l. edges-same n R X (pairAt [] eps) bs (rootIn t) root (λ a. ap (λ (z : Beginning). z .eps) (hb a)) roots-is (λ s p. rw (sym (roots-is s p)) (tame .roots s p)) i l back (partIn t i) (part-ok i l))
+
+    inside : (back : Bool) → Inside n (over (edgesBy back bs root) 0 (upTo (partIn t) n))
+    inside back = subst (Inside n) (edges-is back) (handed-inside t eps back n)
+
+    succeed-is : succeedGiven t sets n ≡ over (succeedGifts bs root) 0 (upTo (partIn t) n)
+    succeed-is = over-same (succeedGifts (pairAt sets []) (rootIn t)) (succeedGifts bs root) (partIn t) n (λ i l. succeed-same (pairAt sets []) bs (rootIn t) root (λ a. ap (λ (z : Beginning). z .set) (hb a)) i (partIn t i))
+
+    alt-is : altGiven t sets eps succ n ≡ over (altGifts bs root (λ i. getD succ i empty)) 0 (upTo (partIn t) n)
+    alt-is =
+        over-same (altGifts (pairAt sets eps) (rootIn t) (λ i. getD succ i empty)) (altGifts bs root (λ i. getD succ i empty)) (partIn t) n
+        (λ i l. ap (λ (b : ℕ → Beginning). altGifts b (rootIn t) (λ a. getD succ a empty) i (partIn t i)) bs-is ∙ alt-same bs (rootIn t) root (λ a. getD succ a empty) i (partIn t i))
+
+    sets-good : (i : ℕ) → Rattle.lake_sets.specs.laws.Least.Good R X (bs i .set)
+    sets-good = begins-good R X (marked ms) (partIn t) n part-ok
+
+    abbrev SG : List Gift
+    SG = over (succeedGifts bs root) 0 (upTo (partIn t) n)
+
+    abbrev AG : List Gift
+    AG = over (altGifts bs root (λ i. getD succ i empty)) 0 (upTo (partIn t) n)
+
+    pub succeed-flowed : Flowed n SG (over (edgesBy true bs root) 0 (upTo (partIn t) n)) j succ
+    succeed-flowed = flowed-as hs succeed-is (edges-is true)
+
+    pub alt-flowed : Flowed n AG (over (edgesBy false bs root) 0 (upTo (partIn t) n)) k alts
+    alt-flowed = flowed-as ha alt-is (edges-is false)
+
+    sg-good : Rattle.lake_sets.specs.laws.Least.GoodGifts R X SG
+    sg-good = over-good R X (succeedGifts bs root) (succeed-good R X bs root sets-good) 0 (upTo (partIn t) n)
+
+    succeed-least : leastBy (n * (R + X)) n SG (over (edgesBy true bs root) 0 (upTo (partIn t) n)) ≡ settled j succ
+    succeed-least = least-is R X n SG (over (edgesBy true bs root) 0 (upTo (partIn t) n)) j succ succeed-flowed (inside true) sg-good
+
+    succ-at : (i : ℕ) → Rattle.lake_sets.specs.laws.Least.Good R X (getD succ i empty)
+    succ-at = state-at R X n SG (over (edgesBy true bs root) 0 (upTo (partIn t) n)) j succ succeed-flowed (inside true) sg-good
+
+    alt-least : leastBy (n * (R + X)) n AG (over (edgesBy false bs root) 0 (upTo (partIn t) n)) ≡ settled k alts
+    alt-least =
+        least-is R X n AG (over (edgesBy false bs root) 0 (upTo (partIn t) n)) k alts alt-flowed (inside false)
+        (over-good R X (altGifts bs root (λ i. getD succ i empty)) (alt-good R X bs root (λ i. getD succ i empty) sets-good succ-at) 0 (upTo (partIn t) n))
+
+    abbrev P : List Part
+    P = upTo (partIn t) n
+
+    abbrev most : ℕ
+    most = n * (R + X)
+
+    S : leastBy most (length P) SG (over (succeedEdges bs root) 0 P) ≡ settled j succ
+    S = ap (λ (l : ℕ). leastBy most l SG (over (succeedEdges bs root) 0 P)) (upTo-long (partIn t) n) ∙ succeed-least
+
+    A : leastBy most (length P) (over (altGifts bs root (λ i. getD (leastBy most (length P) SG (over (succeedEdges bs root) 0 P) .state) i empty)) 0 P) (over (altEdges bs root) 0 P) ≡ settled k alts
+    A =
+        ap (λ (w : Settled (List (List ℕ))). leastBy most (length P) (over (altGifts bs root (λ i. getD (w .state) i empty)) 0 P) (over (altEdges bs root) 0 P)) S
+        ∙ ap (λ (l : ℕ). leastBy most l AG (over (altEdges bs root) 0 P)) (upTo-long (partIn t) n) ∙ alt-least
+
+    here : Analysed (analysed ms (rootsOf 0 bodies) P most) ms sets eps succ alts k
+    unfolding analysed
+    here = record {
+      marks-is = refl;
+      begins-is = hb;
+      succeeds-is = sym (ap (λ (w : Settled (List (List ℕ))). w .state) S);
+      alts-is = sym (ap (λ (w : Settled (List (List ℕ))). w .state) A);
+      rounds-is = sym (ap (λ (w : Settled (List (List ℕ))). w .count) A);
+    }
+
+    analysis-is : analysed ms (rootsOf 0 bodies) P most ≡ analysis g
+    unfolding analysis
+    analysis-is =
+        ap (λ (m : List Bool). analysed m (rootsOf 0 bodies) P most) (hm ∙ marks-is)
+        ∙ ap (λ (l : ℕ). analysed (marksOf bodies) (rootsOf 0 bodies) P (l * (R + X))) (sym (upTo-long (partIn t) n))
+        ∙ ap (λ (ps : List Part). analysed (marksOf bodies) (rootsOf 0 bodies) ps (length ps * (R + X))) parts-is
+
+    pub told : Analysed (analysis g) ms sets eps succ alts k
+    told = subst (λ (a : Analysis). Analysed a ms sets eps succ alts k) analysis-is here

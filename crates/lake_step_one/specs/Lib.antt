@@ -1,0 +1,5 @@
+pub mod Runs
+pub mod Made
+pub mod Intermediate
+pub mod Proper
+pub mod laws

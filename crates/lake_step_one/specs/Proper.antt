@@ -1,0 +1,38 @@
+-- What every grammar that is read has: each symbol and each terminal of an expression is one of the grammar's, and no literal is empty
+-- (01, Notation: "an empty literal .. [is a] bad token"). Assumes nothing: these are definitions.
+use Prim.Native.Nat.{ℕ, _<_}
+use mathlib.Core.Path.{_≡_}
+use mathlib.Core.Bool.{false}
+use mathlib.Core.List.{List, [], _∷_, map}
+use mathlib.Core.Option.{some}
+use lib.ListN.{length}
+use Rattle.read_tokens.specs.Token.{Leaf}
+use Rattle.grammar.specs.Exp.{Exp, sym, ter, seq, alt, opt, star, plus, ahead, never}
+use Rattle.grammar.specs.Empty.{emptyLeaf}
+use Rattle.lake_step_one.specs.Intermediate.{intermediate}
+use Rattle.grammar.specs.Numbers.{Grammar, terminalIn}
+
+-- over r symbols and x terminals with these numbers
+module _ (number : Leaf → ℕ) (r x : ℕ) where
+  abbrev pub Sound : Exp ℕ → Type 0
+  Sound (sym s) = s < r
+  Sound (ter l) = (number l < x) × (emptyLeaf l ≡ false)
+  Sound (seq a b) = Sound a × Sound b
+  Sound (alt a b) = Sound a × Sound b
+  Sound (opt a) = Sound a
+  Sound (star a) = Sound a
+  Sound (plus a) = Sound a
+  Sound (ahead a) = Sound a
+  Sound (never a) = Sound a
+
+  abbrev pub SoundAll : List (Exp ℕ) → Type 0
+  SoundAll [] = Unit {0}
+  SoundAll (e ∷ es) = Sound e × SoundAll es
+
+-- of the intermediate grammar
+abbrev pub Proper : Grammar → Type 0
+Proper g = SoundAll (terminalIn g) (length (g .names)) (length (g .terminals)) (intermediate g)
+
+-- the intermediate grammar: every symbol has a body
+abbrev pub middle : Grammar → Grammar
+middle g = record { names = g .names; rights = map some (intermediate g); terminals = g .terminals }

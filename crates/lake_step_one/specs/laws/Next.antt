@@ -1,0 +1,221 @@
+-- One symbol more. Assumes nothing.
+use Prim.Native.Nat.{ℕ, zero, suc, _+_, _-_, _*_, _≤_, _<_, min}
+use mathlib.Core.Path.{_≡_, refl, sym, ap, ap₂, _∙_, subst}
+use mathlib.Core.Logic.{_⊎_, inl, inr, ⊎-elim}
+use mathlib.Core.Bool.{Bool, true, false, not}
+use mathlib.Core.List.{List, [], _∷_, _++_, map}
+use mathlib.Core.Option.{Option, none, some}
+use native.Mathlib.Omega.{arith}
+use native.Mathlib.Numerals.{add-one}
+use lib.ListN.{length, getD, set, take, length-set, length-append, List·getD-append}
+use lib.Seq.{getD-set-same, getD-set-other, getD-append-add}
+use lib.Dec.{eqb}
+use borrow.Author.Tests.{ne-eqb}
+use Rattle.base_facts.specs.Numbers.{lt-or-ge, same?}
+use Rattle.read_tokens.specs.Token.{Symbol, Leaf, name, lake, any}
+use Rattle.grammar.specs.Exp.{Exp, ter, size}
+use Rattle.grammar.specs.Numbers.{Grammar, isLake}
+use Rattle.grammar.specs.Parts.{Part, last, partsOf, partsAll}
+use Rattle.grammar_table.specs.Table.{tableWords, expressionsAt, symbolsAt, symbolWords, symbolCount, expressionCount, symbolWord, symbolBy, nameIn, partBy, partIn, partsIn, rootsIn, upTo}
+use Rattle.grammar_table.specs.Holds.{Holds, present, rootsFrom}
+use Rattle.lake_step_one.specs.Intermediate.{intermediate, bodiesBy, bodyBy, waterIn}
+use Rattle.grammar.specs.Numbers.{terminalIn}
+use Rattle.grammar_table.specs.laws.Places.{upTo-at, upTo-long}
+use Rattle.grammar_table.specs.laws.Parts.{total, size-pos, parts-long, all-long}
+use Rattle.lake_step_one.specs.Runs.{nil, Run, Grew, BodyAt, BodyTo}
+use Rattle.lake_step_one.specs.Made.{nextBy, lakeAt, Made, MadeOf}
+
+-- ---- lists
+pub total-next : (es : List (Exp ℕ)) (s : ℕ) (d : Exp ℕ) → s < length es → total (take (suc s) es) ≡ total (take s es) + size (getD es s d)
+unfolding total
+total-next [] s d h = let z : ⊥ = omega arith in absurd z
+total-next (e ∷ []) zero d h = omega arith
+total-next (e ∷ f ∷ es) zero d h = omega arith
+total-next (e ∷ es) (suc s) d h = let q : total (take (suc s) es) ≡ total (take s es) + size (getD es s d) = total-next es s d (omega arith) in omega arith
+
+abbrev pub sizeBy : Option (Exp ℕ) → ℕ
+sizeBy none = 0
+sizeBy (some e) = size e
+
+pub present-next : (os : List (Option (Exp ℕ))) (s : ℕ) → s < length os → total (present (take (suc s) os)) ≡ total (present (take s os)) + sizeBy (getD os s none)
+unfolding total present
+present-next [] s h = let z : ⊥ = omega arith in absurd z
+present-next (none ∷ os) zero h = refl
+present-next (some e ∷ os) zero h = omega arith
+present-next (none ∷ os) (suc s) h = present-next os s (omega arith)
+present-next (some e ∷ os) (suc s) h = let q : total (present (take (suc s) os)) ≡ total (present (take s os)) + sizeBy (getD os s none) = present-next os s (omega arith) in omega arith
+
+pub bodies-at : (w : Option (Exp ℕ)) (hs : List Symbol) (os : List (Option (Exp ℕ))) (s : ℕ) → s < length hs → s < length os → getD (bodiesBy w hs os) s (ter any) ≡ bodyBy (isLake (getD hs s (name []))) w (getD os s none)
+unfolding bodiesBy
+bodies-at w [] os s h l = let z : ⊥ = omega arith in absurd z
+bodies-at w (x ∷ hs) [] s h l = let z : ⊥ = omega arith in absurd z
+bodies-at w (x ∷ hs) (o ∷ os) zero h l = refl
+bodies-at w (x ∷ hs) (o ∷ os) (suc s) h l = bodies-at w hs os s (omega arith) (omega arith)
+
+pub bodies-long : (w : Option (Exp ℕ)) (hs : List Symbol) (os : List (Option (Exp ℕ))) → length hs ≡ length os → length (bodiesBy w hs os) ≡ length hs
+unfolding bodiesBy
+bodies-long w [] os h = refl
+bodies-long w (x ∷ hs) [] h = let z : ⊥ = omega arith in absurd z
+bodies-long w (x ∷ hs) (o ∷ os) h = ap suc (bodies-long w hs os (omega arith))
+
+pub from-long : (os : List (Option (Exp ℕ))) (o : ℕ) → length (rootsFrom o os) ≡ length os
+unfolding rootsFrom
+from-long [] o = refl
+from-long (none ∷ os) o = ap suc (from-long os o)
+from-long (some e ∷ os) o = ap suc (from-long os (o + size e))
+
+-- the parts of one body among all
+pub parts-at : (number : Leaf → ℕ) (es : List (Exp ℕ)) (o s : ℕ) (d : Exp ℕ) → s < length es → (j : ℕ) → j < size (getD es s d)
+    → getD (partsAll number o es) (total (take s es) + j) nil ≡ getD (partsOf number (o + total (take s es)) (getD es s d)) j nil
+unfolding partsAll total
+parts-at number [] o s d h j l = let z : ⊥ = omega arith in absurd z
+parts-at number (e ∷ es) o zero d h j l =
+    ap (λ (i : ℕ). getD (partsOf number o e ++ partsAll number (o + size e) es) i nil) (let q : 0 + j ≡ j = omega arith in q)
+    ∙ List·getD-append (partsOf number o e) (partsAll number (o + size e) es) nil j (rw (parts-long number e o) l)
+    ∙ ap (λ (i : ℕ). getD (partsOf number i e) j nil) (let q : o ≡ o + 0 = omega arith in q)
+parts-at number (e ∷ es) o (suc s) d h j l =
+    let p : length (partsOf number o e) ≡ size e = parts-long number e o in
+    ap (λ (i : ℕ). getD (partsOf number o e ++ partsAll number (o + size e) es) i nil) (let q : size e + total (take s es) + j ≡ length (partsOf number o e) + (total (take s es) + j) = omega arith in q)
+    ∙ getD-append-add (partsOf number o e) (partsAll number (o + size e) es) (total (take s es) + j) nil
+    ∙ parts-at number es (o + size e) s d (omega arith) j l
+    ∙ ap (λ (i : ℕ). getD (partsOf number i (getD es s d)) j nil) (let q : o + size e + total (take s es) ≡ o + (size e + total (take s es)) = omega arith in q)
+
+-- ---- the bodies of a table
+module _ (number : Leaf → ℕ) (t : List ℕ) where
+  bodies-from : (os : List (Option (Exp ℕ))) (o : ℕ) → ((j : ℕ) → j < length (partsAll number o (present os)) → partIn t (o + j) ≡ getD (partsAll number o (present os)) j nil) → o + total (present os) ≤ 1024
+      → (s : ℕ) → s < length os → BodyAt number t (o + total (present (take s os))) (getD (rootsFrom o os) s 0) (getD os s none)
+  unfolding present rootsFrom partsAll total
+  bodies-from [] o h l s p = let z : ⊥ = omega arith in absurd z
+  bodies-from (none ∷ os) o h l zero p = refl
+  bodies-from (none ∷ os) o h l (suc s) p = bodies-from os o h l s (omega arith)
+  bodies-from (some e ∷ os) o h l zero p =
+      subst (λ (i : ℕ). BodyAt number t i (suc (last o e)) (some e)) (let q : o ≡ o + 0 = omega arith in q) (
+        omega (arith, size-pos e),
+        (
+          omega arith,
+          λ j k. h j (rw (length-append (partsOf number o e) (partsAll number (o + size e) (present os))) (omega arith)) ∙ List·getD-append (partsOf number o e) (partsAll number (o + size e) (present os)) nil j k,
+        ),
+      )
+  bodies-from (some e ∷ os) o h l (suc s) p =
+      subst (λ (i : ℕ). BodyAt number t i (getD (rootsFrom (o + size e) os) s 0) (getD os s none)) (let q : o + size e + total (present (take s os)) ≡ o + (size e + total (present (take s os))) = omega arith in q)
+      (bodies-from os (o + size e)
+      (λ j k. let w : length (partsOf number o e) ≡ size e = parts-long number e o in
+      ap (partIn t) (let q : o + size e + j ≡ o + (length (partsOf number o e) + j) = omega arith in q)
+      ∙ h (length (partsOf number o e) + j) (rw (length-append (partsOf number o e) (partsAll number (o + size e) (present os))) (omega arith))
+      ∙ getD-append-add (partsOf number o e) (partsAll number (o + size e) (present os)) j nil)
+      (omega arith) s (omega arith))
+
+by-kind : (k : ℕ) (w : List ℕ) → isLake (symbolBy k w) ≡ not (eqb k 0)
+by-kind zero w = refl
+by-kind (suc k) w = sym (ap not (ne-eqb (suc k) 0 (λ e. let z : ⊥ = omega arith in z)))
+
+module _ (t : List ℕ) (g : Grammar) (h : Holds t g) where
+  pub rights-is : symbolCount t ≡ length (g .rights)
+  unfolding rootsIn
+  rights-is = sym (upTo-long (λ r. symbolWord t r 1) (symbolCount t)) ∙ ap length (h .roots) ∙ from-long (g .rights) 0
+
+  pub names-is : symbolCount t ≡ length (g .names)
+  names-is = sym (upTo-long (nameIn t) (symbolCount t)) ∙ ap length (h .names)
+
+  pub middle-long : length (intermediate g) ≡ symbolCount t
+  unfolding intermediate
+  middle-long = bodies-long (waterIn g) (g .names) (g .rights) (omega (arith, rights-is, names-is)) ∙ sym names-is
+
+  pub name-at : (s : ℕ) → s < symbolCount t → getD (g .names) s (name []) ≡ nameIn t s
+  name-at s l = ap (λ (ns : List Symbol). getD ns s (name [])) (sym (h .names)) ∙ upTo-at (nameIn t) (symbolCount t) s (name []) l
+
+  pub lake-at : (s : ℕ) → s < symbolCount t → isLake (getD (g .names) s (name [])) ≡ lakeAt t s
+  unfolding nameIn
+  lake-at s l = ap isLake (name-at s l) ∙ by-kind (symbolWord t s 0) _
+
+  pub body-at : (s : ℕ) → s < symbolCount t → BodyAt (terminalIn g) t (total (present (take s (g .rights)))) (symbolWord t s 1) (getD (g .rights) s none)
+  unfolding rootsIn partsIn
+  body-at s l =
+      let n : expressionCount t ≡ total (present (g .rights)) = sym (upTo-long (partIn t) (expressionCount t)) ∙ ap length (h .parts) ∙ all-long (terminalIn g) (present (g .rights)) 0 in
+      let w : symbolWord t s 1 ≡ getD (rootsFrom 0 (g .rights)) s 0 = sym (upTo-at (λ r. symbolWord t r 1) (symbolCount t) s 0 l) ∙ ap (λ (ws : List ℕ). getD ws s 0) (h .roots) in
+      subst (λ (b : ℕ). BodyAt (terminalIn g) t (total (present (take s (g .rights)))) b (getD (g .rights) s none)) (sym w)
+      (subst (λ (i : ℕ). BodyAt (terminalIn g) t i (getD (rootsFrom 0 (g .rights)) s 0) (getD (g .rights) s none)) (let q : 0 + total (present (take s (g .rights))) ≡ total (present (take s (g .rights))) = omega arith in q)
+      (bodies-from (terminalIn g) t (g .rights) 0
+      (λ j k. let m : j < expressionCount t = omega (arith, n, all-long (terminalIn g) (present (g .rights)) 0) in
+      ap (partIn t) (let q : 0 + j ≡ j = omega arith in q) ∙ sym (upTo-at (partIn t) (expressionCount t) j nil m) ∙ ap (λ (ps : List Part). getD ps j nil) (h .parts))
+      (omega (arith, n, h .few-expressions)) s (omega (arith, rights-is))))
+
+  pub next-from : (s from b : ℕ) → s < symbolCount t → from ≡ total (present (take s (g .rights))) → b ≡ symbolWord t s 1 → nextBy from b ≡ total (present (take (s + 1) (g .rights)))
+  next-from s from b l e f =
+      by (getD (g .rights) s none) refl (subst (λ (y : ℕ). BodyAt (terminalIn g) t (total (present (take s (g .rights)))) y (getD (g .rights) s none)) (sym f) (body-at s l))
+      ∙ sym (ap (λ (i : ℕ). total (present (take i (g .rights)))) (add-one s) ∙ present-next (g .rights) s (omega (arith, rights-is)))
+    where
+      nonzero : (b from : ℕ) → 0 < b → nextBy from b ≡ b
+      nonzero zero from z = let y : ⊥ = omega arith in absurd y
+      nonzero (suc b) from z = refl
+
+      by : (o : Option (Exp ℕ)) → getD (g .rights) s none ≡ o → BodyAt (terminalIn g) t (total (present (take s (g .rights)))) b o → nextBy from b ≡ total (present (take s (g .rights))) + sizeBy o
+      by none q z = ap (nextBy from) z ∙ (let y : from ≡ total (present (take s (g .rights))) + 0 = omega arith in y)
+      by (some c) q z = nonzero b from (omega (arith, z .0, size-pos c)) ∙ z .0
+
+-- the store of a body's number changes no expression
+part-low : (mid : List ℕ) (r v j : ℕ) → r < 64 → partIn (set mid (symbolsAt + symbolWords * r + 1) v) j ≡ partIn mid j
+unfolding partIn
+part-low mid r v j h =
+    ap₂ (λ (f : ℕ → Part) (x : ℕ). f x) (ap₂ partBy (same 0 (omega arith)) (same 1 (omega arith))) (same 2 (omega arith))
+  where
+    same : (w : ℕ) → w < 3 → getD (set mid (symbolsAt + symbolWords * r + 1) v) (expressionsAt + 3 * j + w) 0 ≡ getD mid (expressionsAt + 3 * j + w) 0
+    same w k = getD-set-other mid (symbolsAt + symbolWords * r + 1) (expressionsAt + 3 * j + w) v 0 (λ e. let z : ⊥ = omega arith in z)
+
+-- a new body for symbol r
+pub made-more : (t : List ℕ) (bodies : List (Exp ℕ)) (r from m b p v : ℕ) (mid one mid′ : List ℕ) → r < 64 → b ≡ symbolWord t r 1 → (p < 4294967296 → v ≡ p) → mid′ ≡ set one (symbolsAt + symbolWords * r + 1) v
+    → (g : Grammar) → Holds t g → length bodies ≡ symbolCount t → r < symbolCount t → Grew mid m (partsOf (terminalIn g) m (getD bodies r (ter any))) one p → MadeOf t g bodies r from m mid → MadeOf t g bodies (r + 1) (nextBy from b) p mid′
+made-more t bodies r from m b p v mid one mid′ small eb ev es g h len l gr old =
+    let number = terminalIn g in
+    let E = getD bodies r (ter any) in
+    let cnt : p ≡ total (take (r + 1) bodies)
+    = gr .count ∙ ap₂ _+_ (old .count) (parts-long number E m) ∙ sym (ap (λ (i : ℕ). total (take i bodies)) (add-one r) ∙ total-next bodies r (ter any) (omega arith)) in
+    record {
+      long = ap length es ∙ length-set one (symbolsAt + symbolWords * r + 1) v ∙ gr .long ∙ old .long;
+      from-is = next-from t g h r from b l (old .from-is) eb;
+      count = cnt;
+      parts = λ j jp js. ap (λ (x : List ℕ). partIn x j) es ∙ part-low one r v j small ∙ ⊎-elim
+          (λ q. gr .before j q ∙ old .parts j q js)
+          (λ (q : m ≤ j).
+          let i = j - m in
+          let e : j ≡ m + i = omega arith in
+          let f : j ≡ total (take r bodies) + i = e ∙ ap (λ (y : ℕ). y + i) (old .count) in
+          let li : i < length (partsOf number m E) = omega (arith, gr .count) in
+          ap (partIn one) e ∙ gr .new i li (omega arith)
+          ∙ ap (λ (y : ℕ). getD (partsOf number y E) i nil) (old .count ∙ (let u : total (take r bodies) ≡ 0 + total (take r bodies) = omega arith in u))
+          ∙ sym (ap (λ (y : ℕ). getD (partsAll number 0 bodies) y nil) f ∙ parts-at number bodies 0 r (ter any) (omega arith) i (let u : length (partsOf number m E) ≡ size E = parts-long number E m in omega arith)))
+          (lt-or-ge j m);
+      roots = λ s sl fit. ap (λ (x : List ℕ). symbolWord x s 1) es ∙ ⊎-elim
+          (λ q. subst (λ (y : ℕ). getD (set one (symbolsAt + symbolWords * r + 1) v) (symbolsAt + symbolWords * y + 1) 0 ≡ total (take (suc y) bodies)) (sym q)
+          (getD-set-same one (symbolsAt + symbolWords * r + 1) v 0 (let u : length one ≡ tableWords = gr .long ∙ old .long in omega arith)
+          ∙ ev (let c : total (take (suc s) bodies) ≡ p = ap (λ (y : ℕ). total (take (suc y) bodies)) q ∙ ap (λ (y : ℕ). total (take y bodies)) (sym (add-one r)) ∙ sym cnt in omega arith)
+          ∙ cnt ∙ ap (λ (y : ℕ). total (take y bodies)) (add-one r)))
+          (λ (q : s ≡ r → ⊥). getD-set-other one (symbolsAt + symbolWords * r + 1) (symbolsAt + symbolWords * s + 1) v 0 (λ e. q (omega arith))
+          ∙ gr .low (symbolsAt + symbolWords * s + 1) (omega arith) ∙ old .roots s (omega arith) fit)
+          (same? s r);
+      low = λ i il apart. ap (λ (x : List ℕ). getD x i 0) es
+          ∙ getD-set-other one (symbolsAt + symbolWords * r + 1) i v 0 (apart r (omega arith))
+          ∙ gr .low i il ∙ old .low i il (λ s sl. apart s (omega arith));
+    }
+
+pub made-next : (t : List ℕ) (r wa wb from m b p v : ℕ) (mid one mid′ : List ℕ) → r < 64 → b ≡ symbolWord t r 1 → BodyTo t (lakeAt t r) from b wa wb mid m one p → (p < 4294967296 → v ≡ p) → mid′ ≡ set one (symbolsAt + symbolWords * r + 1) v
+    → (g : Grammar) → Holds t g → terminalIn g any ≡ 0 → r < symbolCount t → BodyAt (terminalIn g) t wa wb (waterIn g) → Made t g r from m mid → Made t g (r + 1) (nextBy from b) p mid′
+unfolding intermediate
+made-next t r wa wb from m b p v mid one mid′ small eb to ev es g h z l wat old =
+    let number = terminalIn g in
+    let w = waterIn g in
+    let o = getD (g .rights) r none in
+    let bodies = intermediate g in
+    let ba : BodyAt number t from b o = subst (λ (i : ℕ). BodyAt number t i b o) (sym (old .from-is)) (subst (λ (y : ℕ). BodyAt number t (total (present (take r (g .rights)))) y o) (sym eb) (body-at t g h r l)) in
+    let E = getD bodies r (ter any) in
+    let isE : bodyBy (lakeAt t r) w o ≡ E = sym (bodies-at w (g .names) (g .rights) r (omega (arith, names-is t g h)) (omega (arith, rights-is t g h)) ∙ ap (λ (x : Bool). bodyBy x w o) (lake-at t g h r l)) in
+    let gr : Grew mid m (partsOf number m E) one p = subst (λ (e : Exp ℕ). Grew mid m (partsOf number m e) one p) isE (to number w o (old .long) z wat ba) in
+    made-more t bodies r from m b p v mid one mid′ small eb ev es g h (middle-long t g h) l gr old
+
+pub positive : (from b : ℕ) → (b ≡ 0 → ⊥) → nextBy from b ≡ b
+positive from zero h = absurd (h refl)
+positive from (suc b) h = refl
+
+pub next-lt : (from b u : ℕ) → u ≡ nextBy from b → from < 4294967296 → b < 4294967296 → u < 4294967296
+next-lt from zero u e p q = omega arith
+next-lt from (suc b) u e p q = omega arith

@@ -1,0 +1,326 @@
+ghost use mathlib.Core.Path.{_≡_};
+ghost use mathlib.Core.Bool.{Bool, true, false};
+ghost use mathlib.Core.List.{List, [], _∷_};
+ghost use Prim.Native.Nat.{ℕ, _+_, _-_, _*_, _^_, _<_, _≤_};
+ghost use lib.ListN.{length, getD, set};
+ghost use lib.Dec.{eqb};
+ghost use Rattle.lake_step_one.specs.Runs.{Near, stored, CopiedOne, CopiedRun, WaterTo, BodyTo};
+ghost use Rattle.lake_step_one.specs.Runs.{moved as movedTo};
+ghost use Rattle.lake_step_one.specs.Made.{nextBy, lakeAt, MadeNext, WaterAt, SteppedOne, BuiltAll};
+ghost use Rattle.grammar_table.specs.Table.{expressionsAt, symbolWord, nameIn};
+ghost use Rattle.grammar.specs.Same.{sameSymbol};
+ghost use Rattle.lake_step_one.specs.Intermediate.{waterName};
+
+// The record of expression m, stored; past the table's end nothing.
+pub fn put_part(mid: &mut [u32], m: usize, op: usize, l: usize, r: usize)
+    requires { ⌜ (m < 1125899906842624) × (op < 4294967296) × (l < 4294967296) × (r < 4294967296) ⌝ }
+    ensures { λ u. ⌜ now (mid .exit) ≡ stored (now (mid .entry)) m op l r ⌝ }
+{
+    let at = grammar_table::EXPRESSIONS_AT + grammar_table::EXPRESSION_WORDS * m;
+    base_words::put(mid, at, op);
+    base_words::put(mid, at + 1, l);
+    base_words::put(mid, at + 2, r);
+}
+
+// A part's number moved with its run from o to m.
+fn moved(o: usize, m: usize, i: usize) -> usize
+    requires { ⌜ (m < 1125899906842624) × (i < 4294967296) ⌝ }
+    ensures { λ u. ⌜ (u < 4294967296) × (m < 1024 → Near o i → u ≡ movedTo o m i) ⌝ }
+{
+    if i + m < o {
+        return 0;
+    }
+    let v = i + m - o;
+    if v < 4294967296 {
+        return v;
+    }
+    0
+}
+
+// Expression e of t, of a run that begins at o, stored at `at` of a run that begins at m.
+fn copy_one(t: &[u32], mid: &mut [u32], e: usize, at: usize, o: usize, m: usize)
+    requires { ⌜ (e < 1125899906842624) × (at < 1125899906842624) × (m < 1125899906842624) ⌝ }
+    ensures { λ u. ⌜ CopiedOne (now (t .entry)) e o (now (mid .entry)) at m (now (mid .exit)) ⌝ }
+{
+    let i = grammar_table::EXPRESSIONS_AT + grammar_table::EXPRESSION_WORDS * e;
+    let op = base_words::word(t, i);
+    let l = base_words::word(t, i + 1);
+    let r = base_words::word(t, i + 2);
+    if op < 2 {
+        put_part(mid, at, op, l, r);
+        return;
+    }
+    let x = moved(o, m, l);
+    let y = moved(o, m, r);
+    put_part(mid, at, op, x, y);
+}
+
+// The k expressions of t from a on, copied to m.
+pub fn copy_run(t: &[u32], mid: &mut [u32], a: usize, k: usize, m: usize)
+    requires { ⌜ (a < 4294967296) × (k < 4294967296) × (m < 281474976710656) ⌝ }
+    ensures { λ u. ⌜ CopiedRun (now (t .entry)) a k (now (mid .entry)) m (now (mid .exit)) ⌝ }
+{
+    let mut j: usize = 0;
+    while j < k {
+        copy_one(t, mid, a + j, m + j, a, m);
+        j += 1;
+    }
+}
+
+// b - a, and 0 where there is nothing between.
+pub fn span(a: usize, b: usize) -> usize
+    ensures { λ u. ⌜ u ≡ b - a ⌝ }
+{
+    if a < b {
+        return b - a;
+    }
+    0
+}
+
+// A number as a word of a table.
+pub fn cap(m: usize) -> usize
+    ensures { λ u. ⌜ (u < 4294967296) × (m < 4294967296 → u ≡ m) ⌝ }
+{
+    if m < 4294967296 {
+        return m;
+    }
+    0
+}
+
+// "w is a copy of the right side of `water`, or `!.` where there is no such rule" (01, step 1).
+fn water_copy(t: &[u32], mid: &mut [u32], wa: usize, wb: usize, m: usize) -> usize
+    requires { ⌜ (wa < 4294967296) × (wb < 4294967296) × (m < 140737488355328) ⌝ }
+    ensures { λ u. ⌜ (u ≤ m + 4294967296) × WaterTo (now (t .entry)) wa wb (now (mid .entry)) m (now (mid .exit)) u ⌝ }
+{
+    if wb == 0 {
+        put_part(mid, m, 0, 0, 0);
+        let x = cap(m);
+        put_part(mid, m + 1, 8, x, 0);
+        return m + 2;
+    }
+    let k = span(wa, wb);
+    copy_run(t, mid, wa, k, m);
+    m + k
+}
+
+// "each lake body becomes `e / w`"; "a lake without a rule becomes `w`".
+fn lake_body(
+    t: &[u32],
+    mid: &mut [u32],
+    a: usize,
+    b: usize,
+    wa: usize,
+    wb: usize,
+    m: usize,
+) -> usize
+    requires { ⌜ (a < 4294967296) × (b < 4294967296) × (wa < 4294967296) × (wb < 4294967296) × (m < 70368744177664) ⌝ }
+    ensures { λ u. ⌜ (u ≤ m + 12884901888) × BodyTo (now (t .entry)) true a b wa wb (now (mid .entry)) m (now (mid .exit)) u ⌝ }
+{
+    if b == 0 {
+        return water_copy(t, mid, wa, wb, m);
+    }
+    let k = span(a, b);
+    copy_run(t, mid, a, k, m);
+    let q = m + k;
+    let p = water_copy(t, mid, wa, wb, q);
+    let x = cap(span(1, q));
+    let y = cap(span(1, p));
+    put_part(mid, p, 3, x, y);
+    p + 1
+}
+
+// A nonterminal's right side.
+fn plain_body(t: &[u32], mid: &mut [u32], a: usize, b: usize, m: usize) -> usize
+    requires { ⌜ (a < 4294967296) × (b < 4294967296) × (m < 70368744177664) ⌝ }
+    ensures { λ u. ⌜ (u ≤ m + 12884901888) × ((wa wb : ℕ) → BodyTo (now (t .entry)) false a b wa wb (now (mid .entry)) m (now (mid .exit)) u) ⌝ }
+{
+    if b == 0 {
+        put_part(mid, m, 0, 0, 0);
+        return m + 1;
+    }
+    let k = span(a, b);
+    copy_run(t, mid, a, k, m);
+    m + k
+}
+
+// The intermediate body of one symbol.
+fn body(
+    t: &[u32],
+    mid: &mut [u32],
+    lake: bool,
+    a: usize,
+    b: usize,
+    wa: usize,
+    wb: usize,
+    m: usize,
+) -> usize
+    requires { ⌜ (a < 4294967296) × (b < 4294967296) × (wa < 4294967296) × (wb < 4294967296) × (m < 70368744177664) ⌝ }
+    ensures { λ u. ⌜ (u ≤ m + 12884901888) × BodyTo (now (t .entry)) lake a b wa wb (now (mid .entry)) m (now (mid .exit)) u ⌝ }
+{
+    if lake {
+        return lake_body(t, mid, a, b, wa, wb, m);
+    }
+    plain_body(t, mid, a, b, m)
+}
+
+// How far step 1 has come in both tables.
+pub struct Reached {
+    pub from: usize,
+    pub count: usize,
+}
+
+pub fn next_from(from: usize, b: usize) -> usize
+    ensures { λ u. ⌜ u ≡ nextBy from b ⌝ }
+{
+    if b == 0 {
+        return from;
+    }
+    b
+}
+
+// The intermediate body of symbol r, its expressions from `from` on in t, behind the first m.
+fn symbol(
+    t: &[u32],
+    mid: &mut [u32],
+    r: usize,
+    wa: usize,
+    wb: usize,
+    from: usize,
+    m: usize,
+) -> Reached
+    requires { ⌜ (r < 64) × (wa < 4294967296) × (wb < 4294967296) × (from < 4294967296) × (m < 70368744177664) ⌝ }
+    ensures { λ u. ⌜ (u .from < 4294967296) × (u .count ≤ m + 12884901888) × MadeNext (now (t .entry)) r wa wb from m (now (mid .entry)) (u .from) (u .count) (now (mid .exit)) ⌝ }
+{
+    let at = grammar_table::SYMBOLS_AT + grammar_table::SYMBOL_WORDS * r;
+    let kind = base_words::word(t, at);
+    let b = base_words::word(t, at + 1);
+    let p = body(t, mid, kind != 0, from, b, wa, wb, m);
+    base_words::put(mid, at + 1, cap(p));
+    let f = next_from(from, b);
+    Reached { from: f, count: p }
+}
+
+// Whether the word at i is v.
+fn is_word(t: &[u32], i: usize, v: usize) -> bool
+    ensures { λ u. ⌜ u ≡ eqb v (getD (now (t .entry)) i 0) ⌝ }
+{
+    v == base_words::word(t, i)
+}
+
+// Whether symbol s is called `water`.
+pub fn is_water(t: &[u32], s: usize) -> bool
+    requires { ⌜ s < 64 ⌝ }
+    ensures { λ u. ⌜ u ≡ sameSymbol waterName (nameIn (now (t .entry)) s) ⌝ }
+{
+    let at = grammar_table::SYMBOLS_AT + grammar_table::SYMBOL_WORDS * s;
+    if !is_word(t, at, 0) {
+        return false;
+    }
+    if !is_word(t, at + 3, 5) {
+        return false;
+    }
+    if !is_word(t, at + 4, 119) {
+        return false;
+    }
+    if !is_word(t, at + 5, 97) {
+        return false;
+    }
+    if !is_word(t, at + 6, 116) {
+        return false;
+    }
+    if !is_word(t, at + 7, 101) {
+        return false;
+    }
+    is_word(t, at + 8, 114)
+}
+
+// Where the run of symbol s + 1 begins.
+fn pass(t: &[u32], s: usize, from: usize) -> usize
+    requires { ⌜ (s < 64) × (from < 4294967296) ⌝ }
+    ensures { λ u. ⌜ (u < 4294967296) × (u ≡ nextBy from (symbolWord (now (t .entry)) s 1)) ⌝ }
+{
+    let b = base_words::word(
+        t,
+        grammar_table::SYMBOLS_AT + grammar_table::SYMBOL_WORDS * s + 1,
+    );
+    next_from(from, b)
+}
+
+// The run of water's right side: from where, and its end, 0 where there is none.
+fn water(t: &[u32], r: usize) -> Reached
+    requires { ⌜ r ≤ 64 ⌝ }
+    ensures { λ u. ⌜ (u .from < 4294967296) × (u .count < 4294967296) × WaterAt (now (t .entry)) r (u .from) (u .count) ⌝ }
+{
+    let mut from: usize = 0;
+    let mut s: usize = 0;
+    while s < r {
+        if is_water(t, s) {
+            let b = base_words::word(
+                t,
+                grammar_table::SYMBOLS_AT + grammar_table::SYMBOL_WORDS * s + 1,
+            );
+            return Reached {
+                from: from,
+                count: b,
+            };
+        }
+        from = pass(t, s, from);
+        s += 1;
+    }
+    Reached { from: 0, count: 0 }
+}
+
+fn copy_word(t: &[u32], mid: &mut [u32], i: usize)
+    ensures { λ u. ⌜ now (mid .exit) ≡ set (now (mid .entry)) i (getD (now (t .entry)) i 0) ⌝ }
+{
+    let v = base_words::word(t, i);
+    base_words::put(mid, i, v);
+}
+
+// The words below the expressions.
+pub fn copy_low(t: &[u32], mid: &mut [u32])
+    ensures { λ u. ⌜ ((i : ℕ) → i < expressionsAt → i < length (now (mid .entry)) → getD (now (mid .exit)) i 0 ≡ getD (now (t .entry)) i 0) ⌝ }
+{
+    let mut i: usize = 0;
+    while i < grammar_table::EXPRESSIONS_AT {
+        copy_word(t, mid, i);
+        i += 1;
+    }
+}
+
+// The bodies of the first r symbols, one behind the other: how many expressions.
+fn build(t: &[u32], mid: &mut [u32], r: usize, wa: usize, wb: usize) -> usize
+    requires { ⌜ (r ≤ 64) × (wa < 4294967296) × (wb < 4294967296) ⌝ }
+    ensures { λ u. ⌜ BuiltAll (now (t .entry)) r wa wb (now (mid .entry)) u (now (mid .exit)) ⌝ }
+{
+    let mut from: usize = 0;
+    let mut m: usize = 0;
+    let mut s: usize = 0;
+    while s < r {
+        let u = symbol(t, mid, s, wa, wb, from, m);
+        from = u.from;
+        m = u.count;
+        s += 1;
+    }
+    m
+}
+
+// Step 1 (01, Lakes made plain): the intermediate grammar of t, into mid. The number of its expressions, 1,025 where they are more than 1,024.
+pub fn step_one(t: &grammar_table::Table, mid: &mut grammar_table::Table) -> usize
+    ensures { λ k. ⌜ SteppedOne (now (t .entry)) (now (mid .exit)) k ⌝ }
+{
+    let r = base_words::word(t, 0);
+    if r > 64 {
+        return 1025;
+    }
+    copy_low(t, mid);
+    let w = water(t, r);
+    let a = w.from;
+    let b = w.count;
+    let m = build(t, mid, r, a, b);
+    base_words::put(mid, 2, cap(m));
+    if m > 1024 {
+        return 1025;
+    }
+    m
+}

@@ -1,0 +1,4 @@
+pub mod Skips
+pub mod Stepped
+pub mod laws
+pub mod Plain

@@ -1,2 +1,0 @@
-pub mod Lefts
-pub mod laws

@@ -1,0 +1,153 @@
+-- Where the cells are right, evaluation and the rules agree: what `ev` says is derived, and nothing else is.
+-- Assumes nothing.
+use Prim.Native.Nat.{ℕ, suc, _+_, _*_, _≤_, _<_}
+use mathlib.Core.Path.{_≡_, refl, subst}
+use mathlib.Core.Path.{sym as flip}
+use mathlib.Core.Bool.{Bool, true, false, _&&_, _||_, false≢true}
+use mathlib.Core.List.{List, [], _∷_}
+use mathlib.Core.Logic.{_⊎_, inl, inr}
+use native.Mathlib.Omega.{arith}
+use native.Mathlib.Nat.{eq-or-lt-of-le}
+use lib.Dec.{ltb}
+use lib.ListN.{getD, length, List·getD-eq-default}
+use borrow.Author.Tests.{ltb-true, ltb-false}
+use Rattle.base_facts.specs.Bools.{and-both, or-holds}
+use Rattle.read_tokens.specs.Token.{literal}
+use Rattle.grammar.specs.Exp.{Exp, sym, ter, seq, alt, opt, star, plus, ahead, never}
+use Rattle.match_meaning.specs.Meaning.{Node, rule, lake, Ask, exp, inside, own, wet, some-of, Tries, any-takes, any-fails, lit-takes, lit-fails, cls-takes, cls-fails, sym-takes, sym-fails, seq-fails, seq-fails-later, seq-takes, alt-first, alt-second, star-ends, star-idles, star-goes, plus-fails, plus-takes, opt-skips, opt-takes, ahead-fails, ahead-takes, never-takes, never-fails, by-rule, by-own, by-water, by-skip, stopped, at-end, own-none, own-is, dry-end, dry, wet-is, none-of, this-one, later-one, Derives}
+use Rattle.match_meaning.specs.laws.One.{one}
+use Rattle.match_meaning.specs.laws.Shape.{within}
+use Rattle.match_cells.specs.Eval.{nowhere, bodyOf, rep, ev}
+use Rattle.grammar.specs.Empty.{emptyLeaf, hasEmpty}
+use Rattle.match_cells.specs.First.{Calls, Markings}
+use Rattle.match_cells.specs.laws.Sound.{plainly, Means, leaf-sound, seq-sound, alt-sound, rep-sound, plus-sound, opt-sound, ahead-sound, never-sound, cell-sound}
+
+or-left : (a b : Bool) → a ≡ true → (a || b) ≡ true
+or-left a b h = rw h
+
+module _ (bodies : List (Exp ℕ)) (s : List ℕ) (m : ℕ → Bool) (marked : Markings m bodies) where
+  -- a symbol that there is not has no ε
+  marks-by : (r : ℕ) (b : Bool) → ltb r (length bodies) ≡ b → hasEmpty m (bodyOf bodies r) ≡ true → m r ≡ true
+  unfolding hasEmpty emptyLeaf
+  marks-by r true h e = marked r (ltb-true r (length bodies) h) e
+  marks-by r false h e = absurd (false≢true (subst (λ (x : Exp ℕ). hasEmpty m x ≡ true) (List·getD-eq-default bodies nowhere {n = r} (ltb-false r (length bodies) h)) e))
+
+  abbrev Empties : Ask → ℕ → Type 0
+  Empties (exp e) x = x ≡ 1 → hasEmpty m e ≡ true
+  Empties (inside (rule e)) x = x ≡ 1 → hasEmpty m e ≡ true
+  Empties (inside (lake o ss)) x = Unit
+  Empties (own o) x = Unit
+  Empties (wet w) x = Unit
+  Empties (some-of ss) x = Unit
+
+  lit-empty : (bs : List ℕ) → suc (length bs) ≡ 1 → emptyLeaf (literal bs) ≡ true
+  unfolding emptyLeaf
+  lit-empty [] h = refl
+  lit-empty (b ∷ bs) h = absurd (omega arith)
+
+  -- what matches and takes nothing has ε
+  empties-all : {d p x : ℕ} {q : Ask} {ns : List Node} → Tries (plainly bodies) s d q p x ns → Empties q x
+  unfolding hasEmpty
+  empties-all (any-takes l) = λ h. absurd (omega (arith, h))
+  empties-all (any-fails l) = λ h. absurd (omega (arith, h))
+  empties-all (lit-takes {bs = bs} l) = λ h. lit-empty bs h
+  empties-all (lit-fails l) = λ h. absurd (omega (arith, h))
+  empties-all (cls-takes l) = λ h. absurd (omega (arith, h))
+  empties-all (cls-fails l) = λ h. absurd (omega (arith, h))
+  empties-all (sym-takes {r = r} t) = λ h. marks-by r (ltb r (length bodies)) refl (empties-all t h)
+  empties-all (sym-fails t) = λ h. absurd (omega (arith, h))
+  empties-all (seq-fails t) = λ h. absurd (omega (arith, h))
+  empties-all (seq-fails-later t u) = λ h. absurd (omega (arith, h))
+  empties-all (seq-takes {a = a} {b = b} t u) = λ h. and-both (hasEmpty m a) (hasEmpty m b) (empties-all t (omega (arith, h))) (empties-all u (omega (arith, h)))
+  empties-all (alt-first {a = a} {b = b} t) = λ h. or-left (hasEmpty m a) (hasEmpty m b) (empties-all t h)
+  empties-all (alt-second {a = a} {b = b} t u) = λ h. or-holds (hasEmpty m a) (hasEmpty m b) (empties-all u h)
+  empties-all (star-ends t) = λ h. refl
+  empties-all (star-idles t) = λ h. refl
+  empties-all (star-goes t u) = λ h. refl
+  empties-all (plus-fails t) = λ h. absurd (omega (arith, h))
+  empties-all (plus-takes t u) = λ h. empties-all t (omega (arith, h))
+  empties-all (opt-skips t) = λ h. refl
+  empties-all (opt-takes t) = λ h. refl
+  empties-all (ahead-fails t) = λ h. refl
+  empties-all (ahead-takes t) = λ h. refl
+  empties-all (never-takes t) = λ h. refl
+  empties-all (never-fails t) = λ h. refl
+  empties-all (by-rule t) = empties-all t
+  empties-all (by-own t) = tt
+  empties-all (by-water t u) = tt
+  empties-all (by-skip t u v h) = tt
+  empties-all (stopped t u v) = tt
+  empties-all (at-end t u v h) = tt
+  empties-all own-none = tt
+  empties-all (own-is t) = tt
+  empties-all (dry-end h) = tt
+  empties-all (dry h) = tt
+  empties-all (wet-is t) = tt
+  empties-all none-of = tt
+  empties-all (this-one t) = tt
+  empties-all (later-one t u) = tt
+
+-- the cells have the meaning of symbol r at q
+abbrev pub Known : List (Exp ℕ) → List ℕ → List ℕ → ℕ → ℕ → Type 0
+Known bodies s cs q r = Means bodies s (sym r) q (getD cs (q * length bodies + r) 0)
+
+-- of every symbol at every place past p
+abbrev pub After : List (Exp ℕ) → List ℕ → List ℕ → ℕ → Type 0
+After bodies s cs p = (q r : ℕ) → p < q → q ≤ length s → r < length bodies → Known bodies s cs q r
+
+-- of the symbols that e first-calls
+abbrev pub FirstAt : List (Exp ℕ) → List ℕ → (ℕ → Bool) → List ℕ → Exp ℕ → ℕ → Type 0
+FirstAt bodies s m cs e p = (r : ℕ) → Calls m e r → r < length bodies → Known bodies s cs p r
+
+module _ (bodies : List (Exp ℕ)) (s : List ℕ) (m : ℕ → Bool) (marked : Markings m bodies) (cs : List ℕ) where
+  after-later : (p q : ℕ) → p ≤ q → After bodies s cs p → After bodies s cs q
+  after-later p q h a k r l g i = a k r (omega arith) g i
+
+  first-later : (e : Exp ℕ) (p q : ℕ) → p ≤ q → q ≤ length s → After bodies s cs p → (q ≡ p → FirstAt bodies s m cs e p) → FirstAt bodies s m cs e q
+  first-later e p q h g a f r c l = go (eq-or-lt-of-le h)
+    where
+      go : (p ≡ q) ⊎ (p < q) → Known bodies s cs q r
+      go (inl i) = subst (λ (k : ℕ). Known bodies s cs k r) i (f (flip i) r c l)
+      go (inr i) = a q r i g l
+
+  -- rounds of b from p on, if b is right wherever it is known enough
+  rounds-right : (b : Exp ℕ) (p i : ℕ) → p ≤ i → i ≤ length s → After bodies s cs p → FirstAt bodies s m cs b p
+      → ((q : ℕ) → q ≤ length s → After bodies s cs q → FirstAt bodies s m cs b q → Means bodies s b q (ev s cs (length bodies) b q))
+      → Means bodies s (star b) i (suc (rep (length s) (λ q. ev s cs (length bodies) b q) i))
+  rounds-right b p i l h a f t =
+      rep-sound bodies s b (λ q. ev s cs (length bodies) b q) p (λ q k g. t q g (after-later p q k a) (first-later b p q k g a (λ _. f))) (length s) i l h (omega arith)
+
+  -- it is enough that the cells behind the place are right, and at the place those of the symbols that are first-called
+  pub ev-right : (e : Exp ℕ) (p : ℕ) → p ≤ length s → After bodies s cs p → FirstAt bodies s m cs e p → Means bodies s e p (ev s cs (length bodies) e p)
+  unfolding ev
+  ev-right (sym r) p h a f = cell-sound bodies s cs r p h (f r refl)
+  ev-right (ter x) p h a f = leaf-sound bodies s x p
+  ev-right (seq b c) p h a f =
+      let t : Means bodies s b p (ev s cs (length bodies) b p) = ev-right b p h a (λ r i l. f r (inl i) l) in
+      let w : ev s cs (length bodies) b p + p ≤ length s + 1 = within (plainly bodies) s (t 0 .1) h in
+      seq-sound bodies s b c p (ev s cs (length bodies) b p) (λ k. ev s cs (length bodies) c (p + k)) t
+      (λ k e. ev-right c (p + k) (omega arith) (after-later p (p + k) (omega arith) a)
+      (first-later c p (p + k) (omega arith) (omega arith) a (λ i r j l. f r (inr (empties-all bodies s m marked (t 0 .1) (omega arith), j)) l)))
+  ev-right (alt b c) p h a f =
+      alt-sound bodies s b c p (ev s cs (length bodies) b p) (λ k. ev s cs (length bodies) c p) (ev-right b p h a (λ r i l. f r (inl i) l)) (ev-right c p h a (λ r i l. f r (inr i) l))
+  ev-right (opt b) p h a f = opt-sound bodies s b p (ev s cs (length bodies) b p) (ev-right b p h a f)
+  ev-right (star b) p h a f = rounds-right b p p (omega arith) h a f (λ q g c d. ev-right b q g c d)
+  ev-right (plus b) p h a f =
+      let t : Means bodies s b p (ev s cs (length bodies) b p) = ev-right b p h a f in
+      let w : ev s cs (length bodies) b p + p ≤ length s + 1 = within (plainly bodies) s (t 0 .1) h in
+      plus-sound bodies s b p (ev s cs (length bodies) b p) (λ k. rep (length s) (λ q. ev s cs (length bodies) b q) (p + k)) t (λ k e. rounds-right b p (p + k) (omega arith) (omega arith) a f (λ q g c d. ev-right b q g c d))
+  ev-right (ahead b) p h a f = ahead-sound bodies s b p (ev s cs (length bodies) b p) (ev-right b p h a f)
+  ev-right (never b) p h a f = never-sound bodies s b p (ev s cs (length bodies) b p) (ev-right b p h a f)
+
+-- every cell is the meaning of its symbol at its place
+abbrev pub Right : List (Exp ℕ) → List ℕ → List ℕ → Type 0
+Right bodies s cs = (q r : ℕ) → q ≤ length s → r < length bodies → Known bodies s cs q r
+
+module _ (bodies : List (Exp ℕ)) (s cs : List ℕ) (right : Right bodies s cs) where
+  -- what `ev` says is derived, at every depth
+  pub ev-sound : (e : Exp ℕ) (p : ℕ) → p ≤ length s → Means bodies s e p (ev s cs (length bodies) e p)
+  ev-sound e p h = ev-right bodies s (λ _. true) (λ r l k. refl) cs e p h (λ q r l g i. right q r g i) (λ r c i. right p r h i)
+
+  -- and whatever is derived has that result
+  pub ev-only : {d p x : ℕ} {e : Exp ℕ} {ns : List Node} → p ≤ length s → Derives (plainly bodies) s d e p x ns → ev s cs (length bodies) e p ≡ x
+  ev-only {d} {p} {x} {e} h t = one (plainly bodies) s (ev-sound e p h d .1) t .0

@@ -1,0 +1,153 @@
+-- The order by rank has every symbol once where there is no loop, and nothing but symbols ever. Assumes nothing.
+use Prim.Native.Nat.{ℕ, zero, suc, _+_, _^_, _≤_, _<_}
+use mathlib.Core.Path.{_≡_, refl, sym, ap, _∙_, subst}
+use mathlib.Core.Bool.{Bool, true, false, cond}
+use mathlib.Core.List.{List, [], _∷_, _++_, map}
+use mathlib.Core.Logic.{_⊎_, ⊎-elim}
+use mathlib.Core.Option.{none}
+use native.Mathlib.Omega.{arith}
+use native.Mathlib.Nat.{eq-or-lt-of-le}
+use lib.ListN.{length, getD, length-append, length-map}
+use lib.Bits.{or-lt}
+use lib.Dec.{eqb, ltb}
+use lib.Pow.{pow-pos}
+use borrow.Author.Tests.{eqb-true, eqb-false, ltb-true, ltb-false, lt-ltb, le-ltb}
+use Rattle.read_tokens.specs.Token.{Leaf}
+use Rattle.grammar.specs.Exp.{Exp, seq, alt, opt, star, plus, ahead, never}
+use Rattle.grammar.specs.Exp.{sym as uses, ter}
+use Rattle.grammar.specs.Empty.{hasEmpty}
+use Rattle.grammar_table.specs.laws.Lists.{up-length, up-at}
+use Rattle.base_words.specs.Set.{ones}
+use Rattle.lake_sets.specs.Beginning.{marked, marksOf}
+use Rattle.lake_step_one.specs.Proper.{Sound, SoundAll}
+use Rattle.lake_calls.specs.Calls.{firstCalls, callsOf, reach, loop, ranksOf, ofRank, orderFrom, order}
+use Rattle.match_cells.specs.laws.Order.{pow-below, rank-small}
+
+-- ── how many of a list are below a number ──
+abbrev one : Bool → ℕ
+one true = 1
+one false = 0
+
+abbrev under : ℕ → List ℕ → ℕ
+under k [] = 0
+under k (x ∷ xs) = one (ltb x k) + under k xs
+
+under-none : (xs : List ℕ) → under 0 xs ≡ 0
+under-none [] = refl
+under-none (x ∷ xs) = let e : one (ltb x 0) ≡ 0 = ap one (le-ltb x 0 (omega arith)) in omega (arith, e, under-none xs)
+
+-- one number more: those that are it
+step-one : (x k : ℕ) (b : Bool) → eqb x k ≡ b → one (ltb x (suc k)) ≡ one b + one (ltb x k)
+step-one x k true h =
+    let e : x ≡ k = eqb-true x k h in
+    ap one (lt-ltb x (suc k) (omega (arith, e))) ∙ sym (ap (λ (b : Bool). 1 + one b) (le-ltb x k (omega (arith, e))))
+step-one x k false h = go (ltb x k) refl
+  where
+    go : (b : Bool) → ltb x k ≡ b → one (ltb x (suc k)) ≡ 0 + one b
+    go true l = ap one (lt-ltb x (suc k) (omega (arith, ltb-true x k l)))
+    go false l = ap one (le-ltb x (suc k) (⊎-elim (λ (e : k ≡ x). absurd (eqb-false x k h (sym e))) (λ (m : k < x). omega arith) (eq-or-lt-of-le (ltb-false x k l))))
+
+-- what ofRank takes
+rank-long : (k r : ℕ) (xs : List ℕ) → length (ofRank k r xs) + under k xs ≡ under (suc k) xs
+unfolding ofRank
+rank-long k r [] = refl
+rank-long k r (x ∷ xs) = go (eqb x k) refl (rank-long k (suc r) xs)
+  where
+    go : (b : Bool) → eqb x k ≡ b → length (ofRank k (suc r) xs) + under k xs ≡ under (suc k) xs
+        → length {A = ℕ} (elim b as (λ c. List ℕ) [ true ↦ r ∷ ofRank k (suc r) xs | false ↦ ofRank k (suc r) xs ]) + (one (ltb x k) + under k xs) ≡ one (ltb x (suc k)) + under (suc k) xs
+    go true h e = omega (arith, e, step-one x k true h)
+    go false h e = omega (arith, e, step-one x k false h)
+
+order-long : (ranks : List ℕ) (n k : ℕ) → length (orderFrom ranks n k) + under k ranks ≡ under (n + k) ranks
+unfolding orderFrom
+order-long ranks zero k = let z : 0 + k ≡ k = omega arith in let e : under (0 + k) ranks ≡ under k ranks = ap (λ (j : ℕ). under j ranks) z in omega (arith, e)
+order-long ranks (suc n) k =
+    let a : length (ofRank k 0 ranks ++ orderFrom ranks n (suc k)) ≡ length (ofRank k 0 ranks) + length (orderFrom ranks n (suc k)) = length-append (ofRank k 0 ranks) (orderFrom ranks n (suc k)) in
+    let b : n + suc k ≡ suc n + k = omega arith in
+    let c : under (n + suc k) ranks ≡ under (suc n + k) ranks = ap (λ (j : ℕ). under j ranks) b in
+    omega (arith, a, c, rank-long k 0 ranks, order-long ranks n (suc k))
+
+under-all : (n : ℕ) (xs : List ℕ) → ((i : ℕ) → i < length xs → getD xs i 0 < n) → under n xs ≡ length xs
+under-all n [] h = refl
+under-all n (x ∷ xs) h =
+    let e : one (ltb x n) ≡ 1 = ap one (lt-ltb x n (h 0 (omega arith))) in
+    omega (arith, e, under-all n xs (λ i l. h (suc i) (omega arith)))
+
+-- ── every entry is a symbol ──
+abbrev pub All : ℕ → List ℕ → Type 0
+All n xs = (i : ℕ) → i < length xs → getD xs i 0 < n
+
+all-cons : (n x : ℕ) (b : List ℕ) → x < n → All n b → All n (x ∷ b)
+all-cons n x b h q zero l = h
+all-cons n x b h q (suc i) l = q i (omega arith)
+
+all-append : (n : ℕ) (a b : List ℕ) → All n a → All n b → All n (a ++ b)
+all-append n [] b p q = q
+all-append n (x ∷ a) b p q = all-cons n x (a ++ b) (p 0 (omega arith)) (all-append n a b (λ j k. p (suc j) (omega arith)) q)
+
+all-if : (n r : ℕ) (b : Bool) (l : List ℕ) → r < n → All n l → All n (elim b as (λ c. List ℕ) [ true ↦ r ∷ l | false ↦ l ])
+all-if n r true l h q = all-cons n r l h q
+all-if n r false l h q = q
+
+rank-all : (n k r : ℕ) (xs : List ℕ) → r + length xs ≤ n → All n (ofRank k r xs)
+unfolding ofRank
+rank-all n k r [] h = λ i l. absurd (omega arith)
+rank-all n k r (x ∷ xs) h = all-if n r (eqb x k) (ofRank k (suc r) xs) (omega (arith, h)) (rank-all n k (suc r) xs (omega (arith, h)))
+
+pub order-all : (ranks : List ℕ) (n k : ℕ) → All (length ranks) (orderFrom ranks n k)
+unfolding orderFrom
+order-all ranks zero k = λ i l. absurd (omega arith)
+order-all ranks (suc n) k = all-append (length ranks) (ofRank k 0 ranks) (orderFrom ranks n (suc k)) (rank-all (length ranks) k 0 ranks (omega arith)) (order-all ranks n (suc k))
+
+-- ── first calls are among the symbols ──
+cond-small : (r : ℕ) (t : Bool) (w : ℕ) → w < 2 ^ r → cond t w 0 < 2 ^ r
+cond-small r true w h = h
+cond-small r false w h = pow-pos r
+
+first-small : (number : Leaf → ℕ) (r x : ℕ) (m : ℕ → Bool) (e : Exp ℕ) → Sound number r x e → firstCalls m e < 2 ^ r
+unfolding firstCalls
+first-small number r x m (uses s) h = pow-below s r h
+first-small number r x m (ter l) h = pow-pos r
+first-small number r x m (seq a b) h = or-lt r (firstCalls m a) (cond (hasEmpty m a) (firstCalls m b) 0) (first-small number r x m a (h .0)) (cond-small r (hasEmpty m a) (firstCalls m b) (first-small number r x m b (h .1)))
+first-small number r x m (alt a b) h = or-lt r (firstCalls m a) (firstCalls m b) (first-small number r x m a (h .0)) (first-small number r x m b (h .1))
+first-small number r x m (opt a) h = first-small number r x m a h
+first-small number r x m (star a) h = first-small number r x m a h
+first-small number r x m (plus a) h = first-small number r x m a h
+first-small number r x m (ahead a) h = first-small number r x m a h
+first-small number r x m (never a) h = first-small number r x m a h
+
+map-small : (number : Leaf → ℕ) (r x : ℕ) (m : ℕ → Bool) (es : List (Exp ℕ)) → SoundAll number r x es → (i : ℕ) → getD (map (firstCalls m) es) i 0 < 2 ^ r
+map-small number r x m [] h i = pow-pos r
+map-small number r x m (e ∷ es) h zero = first-small number r x m e (h .0)
+map-small number r x m (e ∷ es) h (suc i) = map-small number r x m es (h .1) i
+
+module _ (number : Leaf → ℕ) (x : ℕ) (bodies : List (Exp ℕ)) (sound : SoundAll number (length bodies) x bodies) where
+  calls-long : length (callsOf bodies) ≡ length bodies
+  unfolding callsOf
+  calls-long = length-map bodies (firstCalls (marked (marksOf bodies)))
+
+  pub calls-small : (r : ℕ) → getD (callsOf bodies) r 0 < 2 ^ length (callsOf bodies)
+  unfolding callsOf
+  calls-small r = subst (λ (n : ℕ). getD (callsOf bodies) r 0 < 2 ^ n) (sym calls-long) (map-small number (length bodies) x (marked (marksOf bodies)) bodies sound r)
+
+  ranks-long : length (ranksOf (callsOf bodies)) ≡ length bodies
+  unfolding ranksOf
+  ranks-long = up-length (λ (r : ℕ). ones (length (callsOf bodies)) (reach (callsOf bodies) r)) (length (callsOf bodies)) ∙ calls-long
+
+  ranks-small : loop bodies ≡ none → (i : ℕ) → i < length (ranksOf (callsOf bodies)) → getD (ranksOf (callsOf bodies)) i 0 < length (ranksOf (callsOf bodies))
+  unfolding ranksOf loop
+  ranks-small clear i l =
+      let p : i < length (callsOf bodies) = omega (arith, l, ranks-long, calls-long) in
+      subst (λ (v : ℕ). v < length (ranksOf (callsOf bodies)))
+      (sym (up-at (λ (r : ℕ). ones (length (callsOf bodies)) (reach (callsOf bodies) r)) 0 (length (callsOf bodies)) i p))
+      (omega (arith, rank-small (callsOf bodies) calls-small clear i p, ranks-long, calls-long))
+
+  -- each symbol is there once
+  pub order-full : loop bodies ≡ none → length (order bodies) ≡ length bodies
+  unfolding order
+  order-full clear =
+      let ranks : List ℕ = ranksOf (callsOf bodies) in
+      let a : length (orderFrom ranks (length ranks) 0) + under 0 ranks ≡ under (length ranks + 0) ranks = order-long ranks (length ranks) 0 in
+      let z : length ranks + 0 ≡ length ranks = omega arith in
+      let b : under (length ranks + 0) ranks ≡ under (length ranks) ranks = ap (λ (j : ℕ). under j ranks) z in
+      omega (arith, a, b, under-none ranks, under-all (length ranks) ranks (ranks-small clear), ranks-long)

@@ -1,0 +1,112 @@
+-- The order and the cells that code makes are those of the bodies that a table holds, and the cells are right. Assumes nothing.
+use Prim.Native.Nat.{ℕ, zero, suc, _+_, _*_, _≤_, _<_}
+use mathlib.Core.Path.{_≡_, refl, sym, ap, ap₂, _∙_, subst}
+use mathlib.Core.Bool.{Bool}
+use mathlib.Core.List.{List, [], _∷_, _++_}
+use mathlib.Core.Option.{none}
+use native.Mathlib.Omega.{arith}
+use lib.ListN.{length, getD, drop, replicate}
+use lib.Seq.{getD-drop}
+use Rattle.read_tokens.specs.Token.{any}
+use Rattle.grammar.specs.Exp.{Exp, ter}
+use Rattle.grammar.specs.Numbers.{Grammar}
+use Rattle.grammar.specs.Empty.{hasEmpty}
+use Rattle.grammar_table.specs.Table.{wordsFrom, symbolCount, symbolWord, nameIn}
+use Rattle.grammar.specs.Numbers.{terminalIn}
+use Rattle.lake_sets.specs.Beginning.{marked, marksOf}
+use Rattle.lake_step_one.specs.Proper.{SoundAll}
+use Rattle.grammar_table.specs.laws.Places.{is-upTo, upTo-long, getD-any}
+use Rattle.lake_analysis.specs.laws.Marks.{marks-least}
+use Rattle.lake_calls.specs.Calls.{callsOf, loop, ranksOf, orderFrom, order}
+use Rattle.grammar_table.specs.Trees.{treeOf, bodiesOf}
+use Rattle.lake_calls.specs.Firsts.{AllFirsts}
+use Rattle.lake_calls.specs.Marks.{AllMarks}
+use Rattle.lake_calls.specs.laws.Trees.{bodies-are, trees-are}
+use Rattle.lake_calls.specs.laws.LoopsLoops.{calls-are}
+use Rattle.match_cells.specs.Eval.{nowhere}
+use Rattle.match_cells.specs.Cells.{cells, fillOf}
+use Rattle.match_cells.specs.First.{Markings, Ordered}
+use Rattle.match_cells.specs.laws.Agrees.{Right}
+use Rattle.match_cells.specs.laws.Filled.{filled-right}
+use Rattle.match_cells.specs.Runs.{Plain, OrderedIn, Fills}
+use Rattle.match_cells.specs.laws.Order.{ordered}
+use Rattle.match_cells.specs.laws.Full.{All, order-all, order-full, calls-small}
+
+-- ── the order ──
+-- entries of a list in front of nothing but 0
+front-at : (n : ℕ) (a b : List ℕ) → All n a → ((j : ℕ) → getD b j 0 ≡ 0) → (j : ℕ) → j < n → getD (a ++ b) j 0 < n
+front-at n [] b p z j l = subst (λ (v : ℕ). v < n) (sym (z j)) (omega arith)
+front-at n (x ∷ a) b p z zero l = p 0 (omega arith)
+front-at n (x ∷ a) b p z (suc j) l = front-at n a b (λ i k. p (suc i) (omega arith)) z j (omega arith)
+
+pub order-made : (t : List ℕ) (n m : ℕ) (ms : List Bool) (calls ranks old new : List ℕ) (k : ℕ) → m ≡ n → AllMarks t m ms → AllFirsts t (marked ms) n calls → ranks ≡ ranksOf calls
+    → length ranks ≡ n → k ≡ length (orderFrom ranks (length ranks) 0) → new ≡ orderFrom ranks (length ranks) 0 ++ drop k old → OrderedIn t n old new
+unfolding order
+order-made t n m ms calls ranks old new k q a c r lr z e = record {
+  entries =
+      λ zs j l.
+      subst (λ (v : List ℕ). getD v j 0 < n) (sym e)
+      (front-at n (orderFrom ranks (length ranks) 0) (drop k old) (subst (λ (i : ℕ). All i (orderFrom ranks (length ranks) 0)) lr (order-all ranks (length ranks) 0))
+      (λ i. getD-drop k old i 0 ∙ zs (k + i)) j l);
+  are =
+      λ g bodies p b.
+      let f : ranks ≡ ranksOf (callsOf bodies) = r ∙ ap ranksOf (calls-are t g bodies (p .holds) (p .sound) n b ms calls (subst (λ (i : ℕ). AllMarks t i ms) q a) c) in
+      e ∙ ap (λ (i : ℕ). orderFrom ranks (length ranks) 0 ++ drop i old) z ∙ ap (λ (l : List ℕ). orderFrom l (length l) 0 ++ drop (length (orderFrom l (length l) 0)) old) f;
+}
+
+pub of-count : {t old new : List ℕ} {m n : ℕ} → m ≡ n → OrderedIn t m old new → OrderedIn t n old new
+of-count {t} {old} {new} e o = subst (λ (k : ℕ). OrderedIn t k old new) e o
+
+pub zeros : (n j : ℕ) → _≡_ {A = ℕ} (getD (replicate {A = ℕ} n 0) j 0) 0
+zeros zero j = refl
+zeros (suc n) zero = refl
+zeros (suc n) (suc j) = zeros n j
+
+-- ── the cells ──
+words-shift : (x i n : ℕ) (l : List ℕ) → wordsFrom (x ∷ l) (suc i) n ≡ wordsFrom l i n
+unfolding wordsFrom
+words-shift x i zero l = refl
+words-shift x i (suc n) l = ap (λ (r : List ℕ). getD l i 0 ∷ r) (words-shift x (suc i) n l)
+
+words-front : (a b : List ℕ) → wordsFrom (a ++ b) 0 (length a) ≡ a
+unfolding wordsFrom
+words-front [] b = refl
+words-front (x ∷ a) b = ap (λ (r : List ℕ). x ∷ r) (words-shift x 0 (length a) (a ++ b) ∙ words-front a b)
+
+module _ (t : List ℕ) (g : Grammar) (bodies : List (Exp ℕ)) (p : Plain t g bodies) where
+  pub bodies-of : bodiesOf t ≡ bodies
+  unfolding bodiesOf
+  bodies-of =
+      sym (is-upTo (ter any) (λ r. treeOf t (symbolWord t r 1)) bodies (symbolCount t) (sym (bodies-are t g bodies (p .holds)))
+      (λ i l. sym (trees-are t g bodies (p .holds) (p .sound) i (omega (arith, bodies-are t g bodies (p .holds))))))
+
+  names-long : length (g .names) ≡ length bodies
+  names-long = sym (sym (upTo-long (nameIn t) (symbolCount t)) ∙ ap length (p .holds .names)) ∙ bodies-are t g bodies (p .holds)
+
+  sound-in : SoundAll (terminalIn g) (length bodies) (length (g .terminals)) bodies
+  sound-in = subst (λ (n : ℕ). SoundAll (terminalIn g) n (length (g .terminals)) bodies) names-long (p .sound)
+
+  module _ (clear : loop bodies ≡ none) where
+    pub full : length (order bodies) ≡ length bodies
+    full = order-full (terminalIn g) (length (g .terminals)) bodies sound-in clear
+
+    pub in-order : Ordered (marked (marksOf bodies)) bodies [] (order bodies)
+    in-order = ordered bodies (calls-small (terminalIn g) (length (g .terminals)) bodies sound-in) clear
+
+    markings : Markings (marked (marksOf bodies)) bodies
+    markings r l h = marks-least bodies .exact r l ∙ ap (hasEmpty (marked (marksOf bodies))) (getD-any bodies r (ter any) nowhere l) ∙ h
+
+    -- the filled cells say what each symbol means at each place
+    pub cells-right : (s old : List ℕ) → (length s + 1) * length bodies ≤ length old → Right bodies s (cells bodies (order bodies) s old)
+    cells-right s old room = filled-right bodies s (marked (marksOf bodies)) markings (order bodies) old in-order room
+
+pub fills : (t s old new order₀ front : List ℕ) (n : ℕ) → n ≡ symbolCount t → OrderedIn t n order₀ front → new ≡ fillOf (bodiesOf t) s (length s + 1) (wordsFrom front 0 n) old → Fills t s old new
+unfolding cells
+fills t s old new order₀ front n q o e = record {
+  are =
+      λ g bodies p clear.
+      let b : n ≡ length bodies = q ∙ bodies-are t g bodies (p .holds) in
+      let f : wordsFrom front 0 n ≡ order bodies =
+      ap₂ (λ (l : List ℕ) (k : ℕ). wordsFrom l 0 k) (o .are g bodies p b) (b ∙ sym (full t g bodies p clear)) ∙ words-front (order bodies) (drop (length (order bodies)) order₀) in
+      e ∙ ap₂ (λ (bs : List (Exp ℕ)) (l : List ℕ). fillOf bs s (length s + 1) l old) (bodies-of t g bodies p) f;
+}

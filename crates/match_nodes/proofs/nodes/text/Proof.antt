@@ -1,0 +1,26 @@
+-- `match_nodes::nodes::text` meets its contract. Assumes nothing.
+use mathlib.Core.Path.{refl}
+use borrow.Author.Needs.{needs}
+use Rattle.match_nodes.proofs.nodes.text.Statement.{statement}
+use Rattle.match_nodes.proofs.nodes.text.Tie as tie
+use Rattle.match_nodes.proofs.nodes.text.Reads as reads
+use Rattle.match_nodes.proofs.nodes.text.Lts as lts
+use Rattle.match_nodes.proofs.nodes.span.Reads as span-reads
+
+span-requires : tie.Need-span-requires
+span-requires c κs = search needs
+
+sub-result : tie.Need-sub-result
+sub-result c = search needs
+
+part-result-start : tie.Need-part-result-start
+part-result-start c = search needs
+
+part-result-end : tie.Need-part-result-end
+part-result-end c = search needs
+
+returns : tie.Need-returns
+returns c = c .before .span .ensures .text (c .before .before .before .before .args .input .now) refl
+
+pub text-spec : {M : Type 1} → statement M
+text-spec = tie.close (tie.spec span-requires sub-result part-result-start part-result-end returns)

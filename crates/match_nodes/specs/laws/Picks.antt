@@ -1,0 +1,125 @@
+-- An expression by its words, and the alternative of a choice that is taken. Assumes nothing.
+use Prim.Native.Nat.{ℕ, zero, suc, _+_, _-_, _*_, _<_}
+use mathlib.Core.Path.{_≡_, refl, ap, _∙_}
+use mathlib.Core.Path.{sym as flip}
+use mathlib.Core.Logic.{inl, inr}
+use mathlib.Core.List.{List}
+use native.Mathlib.Omega.{arith}
+use lib.ListN.{getD}
+use Rattle.read_tokens.specs.Token.{Leaf}
+use Rattle.grammar.specs.Exp.{Exp, alt}
+use Rattle.grammar_table.specs.Table.{expressionsAt, expressionWords, leafIn, nodeBy}
+use Rattle.match_meaning.specs.Meaning.{Node}
+use Rattle.match_cells.specs.Eval.{ev}
+use Rattle.match_nodes.specs.Nodes.{walkOf}
+use Rattle.match_cells.specs.laws.EvalSteps.{alt-left, alt-right}
+use Rattle.match_nodes.specs.laws.NodeSteps.{alt-left as list-left, alt-right as list-right}
+use Rattle.grammar_table.specs.Trees.{treeOf, below}
+use Rattle.grammar_table.specs.laws.Trees.{node-at, below-le}
+use Rattle.match_nodes.specs.Parts.{shape, Made, Picked, Chosen}
+
+node-shape : (k l r : ℕ) (leaf : ℕ → Leaf) (part : ℕ → Exp ℕ) → shape k (leaf l) l (part l) (part r) ≡ nodeBy k l r leaf part
+unfolding shape nodeBy
+node-shape zero l r leaf part = refl
+node-shape (suc zero) l r leaf part = refl
+node-shape (suc (suc zero)) l r leaf part = refl
+node-shape (suc (suc (suc zero))) l r leaf part = refl
+node-shape (suc (suc (suc (suc zero)))) l r leaf part = refl
+node-shape (suc (suc (suc (suc (suc zero))))) l r leaf part = refl
+node-shape (suc (suc (suc (suc (suc (suc zero)))))) l r leaf part = refl
+node-shape (suc (suc (suc (suc (suc (suc (suc zero))))))) l r leaf part = refl
+node-shape (suc (suc (suc (suc (suc (suc (suc (suc k)))))))) l r leaf part = refl
+
+-- the words of expression x - 1, as code has read them
+pub made-of : (t : List ℕ) (x k l r y z : ℕ) → 0 < x → k ≡ getD t (expressionsAt + expressionWords * (x - 1)) 0 → l ≡ getD t (expressionsAt + expressionWords * (x - 1) + 1) 0 → r ≡ getD t (expressionsAt + expressionWords * (x - 1) + 2) 0
+    → l < 4294967296 → y ≡ below l (x - 1) → z ≡ below r (x - 1) → Made t x k l y z
+made-of t x k l r y z o a b c e f g =
+    let i : expressionsAt + expressionWords * (x - 1) ≡ expressionsAt + expressionWords * (x - 1) + 0 = omega arith in
+    record {
+      tree =
+          ap (λ (j : ℕ). shape k (leafIn t l) l (treeOf t j) (treeOf t z)) f ∙ ap (λ (j : ℕ). shape k (leafIn t l) l (treeOf t (below l (x - 1))) (treeOf t j)) g
+          ∙ node-shape k l r (leafIn t) (λ (j : ℕ). treeOf t (below j (x - 1)))
+          ∙ node-at t x k l r (λ j. omega (arith, j)) (a ∙ ap (λ (j : ℕ). getD t j 0) i) b c;
+      left = omega (arith, f, below-le l (x - 1));
+      right = omega (arith, g, below-le r (x - 1));
+      small = e;
+    }
+
+module _ (t s cs : List ℕ) (n x p : ℕ) where
+  -- x itself
+  pub pick-fails : (v : ℕ) → v ≡ ev s cs n (treeOf t x) p → v ≡ 0 → Picked t s cs n x p 4096
+  pick-fails v e h =
+      record { fails = λ i. flip e ∙ h; small = λ f. absurd (f refl); works = λ f. absurd (f refl); takes = λ f. absurd (f refl); lists = λ f w. absurd (f refl) }
+
+  pub pick-whole : (v : ℕ) → v ≡ ev s cs n (treeOf t x) p → (v ≡ 0 → ⊥) → x < 2048 → Picked t s cs n x p x
+  pick-whole v e h l =
+      record { fails = λ i. absurd (omega (arith, i)); small = λ f. omega arith; works = λ f i. h (e ∙ i); takes = λ f. refl; lists = λ f w. refl }
+
+  -- a choice
+  module _ (k l y z : ℕ) (made : Made t x k l y z) (is : k ≡ 3) where
+    choice : alt (treeOf t y) (treeOf t z) ≡ treeOf t x
+    unfolding shape
+    choice = ap (λ (i : ℕ). shape i (leafIn t l) l (treeOf t y) (treeOf t z)) (flip is) ∙ made .tree
+
+    takes-is : ev s cs n (alt (treeOf t y) (treeOf t z)) p ≡ ev s cs n (treeOf t x) p
+    takes-is = ap (λ (e : Exp ℕ). ev s cs n e p) choice
+
+    lists-is : (w : ℕ → ℕ → List Node) → walkOf s (λ e i. ev s cs n e i) w (alt (treeOf t y) (treeOf t z)) p ≡ walkOf s (λ e i. ev s cs n e i) w (treeOf t x) p
+    lists-is w = ap (λ (e : Exp ℕ). walkOf s (λ e i. ev s cs n e i) w e p) choice
+
+    pub pick-first : (a : ℕ) → Picked t s cs n y p a → (a ≡ 4096 → ⊥) → Picked t s cs n x p a
+    unfolding ev walkOf
+    pick-first a h f =
+        let g : ev s cs n (treeOf t y) p ≡ 0 → ⊥ = λ o. h .works f (h .takes f ∙ o) in
+        record {
+          fails = λ i. absurd (f i);
+          small = λ i. omega (arith, h .small f, made .left);
+          works = λ i. h .works f;
+          takes = λ i. h .takes f ∙ alt-left (ev s cs n (treeOf t y) p) (λ m. ev s cs n (treeOf t z) p) (ev s cs n (treeOf t y) p) refl g ∙ takes-is;
+          lists = λ i w.
+              h .lists f w ∙ list-left (ev s cs n (treeOf t y) p) (walkOf s (λ e i. ev s cs n e i) w (treeOf t y) p) (walkOf s (λ e i. ev s cs n e i) w (treeOf t z) p) (ev s cs n (treeOf t y) p) refl g
+              ∙ lists-is w;
+        }
+
+    pub pick-second : (a b : ℕ) → Picked t s cs n y p a → a ≡ 4096 → Picked t s cs n z p b → Picked t s cs n x p b
+    unfolding ev walkOf
+    pick-second a b i j h =
+        let g : ev s cs n (treeOf t y) p ≡ 0 = i .fails j in
+        let u : ev s cs n (treeOf t z) p ≡ ev s cs n (treeOf t x) p =
+        alt-right (ev s cs n (treeOf t y) p) (λ m. ev s cs n (treeOf t z) p) (ev s cs n (treeOf t y) p) (ev s cs n (treeOf t z) p) refl g refl ∙ takes-is in
+        record {
+          fails = λ e. flip u ∙ h .fails e;
+          small = λ f. omega (arith, h .small f, made .right);
+          works = λ f. h .works f;
+          takes = λ f. h .takes f ∙ u;
+          lists = λ f w.
+              h .lists f w ∙ list-right (ev s cs n (treeOf t y) p) (walkOf s (λ e i. ev s cs n e i) w (treeOf t y) p) (walkOf s (λ e i. ev s cs n e i) w (treeOf t z) p) (ev s cs n (treeOf t y) p) refl g
+              ∙ lists-is w;
+        }
+
+-- a choice by its parts
+module _ (t s cs : List ℕ) (n y z p : ℕ) where
+  pub choose-first : (a : ℕ) → Picked t s cs n y p a → (a ≡ 4096 → ⊥) → Chosen t s cs n y z p a
+  unfolding ev walkOf
+  choose-first a h f =
+      let g : ev s cs n (treeOf t y) p ≡ 0 → ⊥ = λ o. h .works f (h .takes f ∙ o) in
+      record {
+        small = λ i. inl (h .small f);
+        takes = λ i. h .takes f ∙ alt-left (ev s cs n (treeOf t y) p) (λ m. ev s cs n (treeOf t z) p) (ev s cs n (treeOf t y) p) refl g;
+        lists = λ i w.
+            h .lists f w ∙ list-left (ev s cs n (treeOf t y) p) (walkOf s (λ e i. ev s cs n e i) w (treeOf t y) p) (walkOf s (λ e i. ev s cs n e i) w (treeOf t z) p) (ev s cs n (treeOf t y) p) refl g;
+      }
+
+  pub choose-second : (a b : ℕ) → Picked t s cs n y p a → a ≡ 4096 → Picked t s cs n z p b → Chosen t s cs n y z p b
+  unfolding ev walkOf
+  choose-second a b i j h =
+      let g : ev s cs n (treeOf t y) p ≡ 0 = i .fails j in
+      let u : ev s cs n (treeOf t z) p ≡ ev s cs n (alt (treeOf t y) (treeOf t z)) p =
+      alt-right (ev s cs n (treeOf t y) p) (λ m. ev s cs n (treeOf t z) p) (ev s cs n (treeOf t y) p) (ev s cs n (treeOf t z) p) refl g refl in
+      let k : (ev s cs n (alt (treeOf t y) (treeOf t z)) p ≡ 0 → ⊥) → b ≡ 4096 → ⊥ = λ f e. f (flip u ∙ h .fails e) in
+      record {
+        small = λ f. inr (h .small (k f));
+        takes = λ f. h .takes (k f) ∙ u;
+        lists = λ f w.
+            h .lists (k f) w ∙ list-right (ev s cs n (treeOf t y) p) (walkOf s (λ e i. ev s cs n e i) w (treeOf t y) p) (walkOf s (λ e i. ev s cs n e i) w (treeOf t z) p) (ev s cs n (treeOf t y) p) refl g;
+      }

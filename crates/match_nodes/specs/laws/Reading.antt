@@ -1,0 +1,53 @@
+-- Node words as code reads them. Assumes nothing.
+use Prim.Native.Nat.{ℕ, suc, _+_, _-_, _*_, _/_, _≤_, _<_}
+use mathlib.Core.Path.{_≡_, refl, ap, _∙_}
+use mathlib.Core.Path.{sym as flip}
+use mathlib.Core.Bool.{Bool, true, false, cond, _&&_}
+use mathlib.Core.List.{List, []}
+use native.Mathlib.Omega.{arith}
+use lib.Dec.{leb}
+use lib.ListN.{length, getD, take, drop}
+use borrow.Author.Tests.{le-leb, lt-leb, leb-true}
+use Rattle.base_facts.specs.Bools.{and-parts}
+use Rattle.read_tokens.specs.Bounds.{nodeWords}
+use Rattle.match_nodes.specs.Nodes.{nodeAt, soundAt, partOf, nodeText}
+use Rattle.match_nodes.specs.Spans.{Spans}
+
+module _ (ws : List ℕ) (k n : ℕ) where
+  pub sound-short : length ws / 4 ≤ k → false ≡ soundAt ws k n
+  unfolding soundAt nodeWords
+  sound-short h = rw (lt-leb (4 * suc k) (length ws) (omega (arith, h)))
+
+  module _ (a b : ℕ) (whole : k < length ws / 4) (start : a ≡ getD ws (4 * k + 1) 0) (end : b ≡ getD ws (4 * k + 2) 0) where
+    pub sound-turned : b < a → false ≡ soundAt ws k n
+    unfolding soundAt nodeAt nodeWords
+    sound-turned h = rw (le-leb (4 * suc k) (length ws) (omega (arith, whole)), ← start, ← end, lt-leb a b h)
+
+    pub sound-else : a ≤ b → leb b n ≡ soundAt ws k n
+    unfolding soundAt nodeAt nodeWords
+    sound-else h = rw (le-leb (4 * suc k) (length ws) (omega (arith, whole)), ← start, ← end, le-leb a b h)
+
+    pub span-is : true ≡ soundAt ws k n → Spans ws k n a b
+    unfolding soundAt nodeAt nodeWords nodeText
+    span-is h =
+        let e : leb (4 * suc k) (length ws) ≡ true = le-leb (4 * suc k) (length ws) (omega (arith, whole)) in
+        let f : (leb a b && leb b n) ≡ true = rw (start, end) (and-parts (leb (4 * suc k) (length ws)) _ (flip h) .1) in
+        record {
+          forward = leb-true a b (and-parts (leb a b) (leb b n) f .0);
+          inside = leb-true b n (and-parts (leb a b) (leb b n) f .1);
+          text = λ s g.
+              ap (λ (x : ℕ). take (x - a) (drop a s)) end ∙ ap (λ (x : ℕ). take (getD ws (4 * k + 2) 0 - x) (drop x s)) start
+              ∙ ap (λ (x : Bool). cond x (partOf s (nodeAt ws k)) []) (h ∙ ap (soundAt ws k) (flip g));
+        }
+
+  pub span-none : false ≡ soundAt ws k n → Spans ws k n 0 0
+  unfolding nodeText
+  span-none h =
+      record {
+        forward = omega arith;
+        inside = omega arith;
+        text = λ s g. nothing s ∙ ap (λ (x : Bool). cond x (partOf s (nodeAt ws k)) []) (h ∙ ap (soundAt ws k) (flip g));
+      }
+    where
+      nothing : (s : List ℕ) → take (0 - 0) (drop 0 s) ≡ []
+      nothing s = refl

@@ -1,0 +1,425 @@
+// The node list of a match (01, Meaning of a match): a walk over the cells in two passes, by a stack of tasks.
+pub mod nodes;
+
+ghost use Prim.Native.Nat.{ℕ, _+_, _*_, _/_, _%_, _≤_, _<_};
+ghost use mathlib.Core.Path.{_≡_};
+ghost use lib.ListN.{length};
+ghost use Rattle.match_meaning.specs.Meaning.{nd};
+ghost use Rattle.match_nodes.specs.Nodes.{putNode, listOf, listingOf, wordsOf, roomOf};
+ghost use Rattle.match_nodes.specs.Passes.{out, putIf, note as noted, run, decode};
+ghost use Rattle.grammar_table.specs.Trees.{bodiesOf};
+ghost use Rattle.match_nodes.specs.Tasks.{walk, again, enter as entering, taskOf, takes, Able, depthOf, pushed, stackOf, Step};
+ghost use Rattle.match_nodes.specs.Parts.{Made, Picked, Chosen};
+ghost use Rattle.match_nodes.specs.Turns.{Ready, said, Moved, State, Turned};
+
+// All: how many nodes. Deep, Full: the number of the first node that is too deep, that has no room.
+pub enum Listed {
+    All(usize),
+    Deep(usize),
+    Full(usize),
+}
+
+// An expression's kind, its left word and its parts.
+struct Seen {
+    op: usize,
+    left: usize,
+    y: usize,
+    z: usize,
+}
+
+// The tasks that a task gives way to, the lower first, from which place on; 0 is none.
+struct Plan {
+    place: usize,
+    low: usize,
+    high: usize,
+}
+
+struct Move {
+    place: usize,
+    low: usize,
+    high: usize,
+    at: usize,
+}
+
+struct Stand {
+    height: usize,
+    place: usize,
+    at: usize,
+}
+
+fn look(t: &[u32], x: usize) -> Seen
+    requires { ⌜ (0 < x) × (x < 2048) ⌝ }
+    ensures { λ r. ⌜ Made (now (t .entry)) x (r .op) (r .left) (r .y) (r .z) ⌝ }
+{
+    let e = x - 1;
+    let i = grammar_table::EXPRESSIONS_AT + grammar_table::EXPRESSION_WORDS * e;
+    let op = base_words::word(t, i);
+    let left = base_words::word(t, i + 1);
+    let right = base_words::word(t, i + 2);
+    let y = grammar_table::part(left, e);
+    let z = grammar_table::part(right, e);
+    Seen {
+        op: op,
+        left: left,
+        y: y,
+        z: z,
+    }
+}
+
+// x where it matches at p, 4,096 where it fails.
+fn whole(t: &[u32], s: &[u8], cells: &[u32], n: usize, x: usize, p: usize) -> usize
+    requires { ⌜ (n ≤ 64) × (x < 2048) × (length (now s) ≤ 65535) × (p ≤ length (now s)) ⌝ }
+    ensures { λ r. ⌜ Picked (now (t .entry)) (now (s .entry)) (now (cells .entry)) n x p r ⌝ }
+{
+    let v = match_cells::eval(t, s, cells, n, x, p);
+    if v == 0 {
+        return 4096;
+    }
+    x
+}
+
+// The first alternative of x that matches at p and is no choice itself: choices nest to the left, and each alternative is evaluated once.
+fn pick(t: &[u32], s: &[u8], cells: &[u32], n: usize, x: usize, p: usize) -> usize
+    requires { ⌜ (n ≤ 64) × (x < 2048) × (length (now s) ≤ 65535) × (p ≤ length (now s)) ⌝ }
+    ensures { λ r. ⌜ Picked (now (t .entry)) (now (s .entry)) (now (cells .entry)) n x p r ⌝ }
+{
+    if x == 0 {
+        return whole(t, s, cells, n, x, p);
+    }
+    let g = look(t, x);
+    let op = g.op;
+    if op != grammar_table::CHOICE {
+        return whole(t, s, cells, n, x, p);
+    }
+    let y = g.y;
+    let a = pick(t, s, cells, n, y, p);
+    if a != 4096 {
+        return a;
+    }
+    let z = g.z;
+    pick(t, s, cells, n, z, p)
+}
+
+// Of a choice over y and z, one of which matches.
+fn choose(t: &[u32], s: &[u8], cells: &[u32], n: usize, y: usize, z: usize, p: usize) -> usize
+    requires { ⌜ (n ≤ 64) × (y < 2048) × (z < 2048) × (length (now s) ≤ 65535) × (p ≤ length (now s)) ⌝ }
+    ensures { λ r. ⌜ Chosen (now (t .entry)) (now (s .entry)) (now (cells .entry)) n y z p r ⌝ }
+{
+    let a = pick(t, s, cells, n, y, p);
+    if a != 4096 {
+        return a;
+    }
+    pick(t, s, cells, n, z, p)
+}
+
+// What walking expression x - 1 at p comes to: it matches there, so that nothing is evaluated but what is chosen by it.
+fn walk_plan(t: &[u32], s: &[u8], cells: &[u32], n: usize, x: usize, d: usize, p: usize) -> Plan
+    requires { ⌜ (n ≤ 64) × (x < 2048) × (d ≤ 256) × (length (now s) ≤ 65535) × (p ≤ length (now s)) × (takes (now t) (now s) (now cells) n x p ≡ 0 → ⊥) ⌝ }
+    ensures { λ r. ⌜ Step (now (t .entry)) (now (s .entry)) (now (cells .entry)) n (walk x d) p (r .low) (r .high) (r .place) × (r .low < 4294967296) × (r .high < 4294967296) ⌝ }
+{
+    if x == 0 {
+        return Plan {
+            place: p + 1,
+            low: 0,
+            high: 0,
+        };
+    }
+    let g = look(t, x);
+    let op = g.op;
+    let left = g.left;
+    let y = g.y;
+    let z = g.z;
+    match op {
+        grammar_table::TERMINAL => {
+            let a = match_cells::leaf_at(t, s, left, p);
+            Plan {
+                place: p + (a - 1),
+                low: 0,
+                high: 0,
+            }
+        }
+        grammar_table::SYMBOL => Plan {
+            place: p,
+            low: 0,
+            high: (d * 4 + 3) * 2048 + left,
+        },
+        grammar_table::SEQUENCE => Plan {
+            place: p,
+            low: (d * 4 + 1) * 2048 + z,
+            high: (d * 4 + 1) * 2048 + y,
+        },
+        grammar_table::CHOICE => {
+            let a = choose(t, s, cells, n, y, z, p);
+            Plan {
+                place: p,
+                low: 0,
+                high: (d * 4 + 1) * 2048 + a,
+            }
+        }
+        grammar_table::OPTION => {
+            let a = match_cells::eval(t, s, cells, n, y, p);
+            if a == 0 {
+                return Plan {
+                    place: p,
+                    low: 0,
+                    high: 0,
+                };
+            }
+            Plan {
+                place: p,
+                low: 0,
+                high: (d * 4 + 1) * 2048 + y,
+            }
+        }
+        grammar_table::STAR => Plan {
+            place: p,
+            low: 0,
+            high: (d * 4 + 2) * 2048 + y,
+        },
+        grammar_table::PLUS => Plan {
+            place: p,
+            low: (d * 4 + 2) * 2048 + y,
+            high: (d * 4 + 1) * 2048 + y,
+        },
+        grammar_table::AHEAD => Plan {
+            place: p,
+            low: 0,
+            high: 0,
+        },
+        _ => Plan {
+            place: p,
+            low: 0,
+            high: 0,
+        },
+    }
+}
+
+// What further rounds come to: up to the first that fails or takes nothing.
+fn again_plan(t: &[u32], s: &[u8], cells: &[u32], n: usize, x: usize, d: usize, p: usize) -> Plan
+    requires { ⌜ (n ≤ 64) × (x < 2048) × (d ≤ 256) × (length (now s) ≤ 65535) × (p ≤ length (now s)) ⌝ }
+    ensures { λ r. ⌜ Step (now (t .entry)) (now (s .entry)) (now (cells .entry)) n (again x d) p (r .low) (r .high) (r .place) × (r .low < 4294967296) × (r .high < 4294967296) ⌝ }
+{
+    let a = match_cells::eval(t, s, cells, n, x, p);
+    if a <= 1 {
+        return Plan {
+            place: p,
+            low: 0,
+            high: 0,
+        };
+    }
+    Plan {
+        place: p,
+        low: (d * 4 + 2) * 2048 + x,
+        high: (d * 4 + 1) * 2048 + x,
+    }
+}
+
+// The four words of node k.
+fn put_node(nodes: &mut [u32], k: usize, r: usize, p: usize, q: usize, d: usize)
+    requires { ⌜ (k < 4611686018427387904) × (r < 4294967296) × (p < 4294967296) × (q < 4294967296) × (d < 4294967296) ⌝ }
+    ensures { λ z. ⌜ now (nodes .exit) ≡ putNode (now (nodes .entry)) k (nd r p q d) ⌝ }
+{
+    let i = 4 * k;
+    base_words::put(nodes, i, r);
+    base_words::put(nodes, i + 1, p);
+    base_words::put(nodes, i + 2, q);
+    base_words::put(nodes, i + 3, d);
+}
+
+// One node: its number, or the refusal. "11 and 12: the first node in list order that offends, then 11".
+fn note(
+    nodes: &mut [u32],
+    room: usize,
+    write: usize,
+    at: usize,
+    r: usize,
+    p: usize,
+    q: usize,
+    d: usize,
+) -> usize
+    requires { ⌜ (at < 4611686018427387904) × (r < 4294967296) × (p < 4294967296) × (q < 4294967296) × (d < 4294967296) ⌝ }
+    ensures { λ v. ⌜ out (now (nodes .exit)) v ≡ noted room write (out (now (nodes .entry)) at) (nd r p q d) ⌝ }
+{
+    if 255 < d {
+        return at + 4611686018427387904;
+    }
+    if room <= at {
+        return 9223372036854775808;
+    }
+    if write == 0 {
+        return at + 1;
+    }
+    put_node(nodes, at, r, p, q, d);
+    at + 1
+}
+
+// Symbol r, which matches at p: its node, and then its body.
+fn enter(
+    t: &[u32],
+    s: &[u8],
+    cells: &[u32],
+    n: usize,
+    nodes: &mut [u32],
+    room: usize,
+    write: usize,
+    at: usize,
+    r: usize,
+    d: usize,
+    p: usize,
+) -> Move
+    requires { ⌜ Ready (now t) (now s) (now cells) n × (at < 4611686018427387904) × (d ≤ 256) × (r < 2048) × (p ≤ length (now s)) × (Able (now t) (now s) (now cells) n (entering r d) p) ⌝ }
+    ensures { λ g. ⌜ Moved (now (t .entry)) (now (s .entry)) (now (cells .entry)) n room write (out (now (nodes .entry)) at) (out (now (nodes .exit)) (g .at)) (entering r d) p (g .low) (g .high) (g .place) ⌝ }
+{
+    let c = match_cells::cell_at(s, cells, n, r, p);
+    let b = base_words::word(
+        t,
+        grammar_table::SYMBOLS_AT + grammar_table::SYMBOL_WORDS * r + grammar_table::BODY,
+    );
+    let v = note(nodes, room, write, at, r, p, p + (c - 1), d);
+    Move {
+        place: p,
+        low: 0,
+        high: ((d + 1) * 4 + 1) * 2048 + b,
+        at: v,
+    }
+}
+
+// One task.
+fn act(
+    t: &[u32],
+    s: &[u8],
+    cells: &[u32],
+    n: usize,
+    nodes: &mut [u32],
+    room: usize,
+    write: usize,
+    at: usize,
+    w: usize,
+    p: usize,
+) -> Move
+    requires { ⌜ Ready (now t) (now s) (now cells) n × (at < 4611686018427387904) × (w < 4294967296) × (p ≤ length (now s)) × Able (now t) (now s) (now cells) n (taskOf w) p × (depthOf (taskOf w) ≤ 256) ⌝ }
+    ensures { λ g. ⌜ Moved (now (t .entry)) (now (s .entry)) (now (cells .entry)) n room write (out (now (nodes .entry)) at) (out (now (nodes .exit)) (g .at)) (taskOf w) p (g .low) (g .high) (g .place) ⌝ }
+{
+    let x = w % 2048;
+    let d = w / 8192;
+    let k = w / 2048 % 4;
+    if k == 1 {
+        let g = walk_plan(t, s, cells, n, x, d, p);
+        return Move {
+            place: g.place,
+            low: g.low,
+            high: g.high,
+            at: at,
+        };
+    }
+    if k == 2 {
+        let g = again_plan(t, s, cells, n, x, d, p);
+        return Move {
+            place: g.place,
+            low: g.low,
+            high: g.high,
+            at: at,
+        };
+    }
+    enter(t, s, cells, n, nodes, room, write, at, x, d, p)
+}
+
+// A word on the stack, if there is one: the new height.
+fn push(stack: &mut [u32], h: usize, w: usize) -> usize
+    requires { ⌜ (h < length (now stack)) × (w < 4294967296) ⌝ }
+    ensures { λ r. ⌜ (stackOf (now (stack .exit)) r ≡ pushed w (stackOf (now (stack .entry)) h)) × (r ≤ h + 1) ⌝ }
+{
+    if w == 0 {
+        return h;
+    }
+    stack[h] = w as u32;
+    h + 1
+}
+
+fn push_both(stack: &mut [u32], h: usize, low: usize, high: usize) -> usize
+    requires { ⌜ (h + 1 < length (now stack)) × (low < 4294967296) × (high < 4294967296) ⌝ }
+    ensures { λ r. ⌜ stackOf (now (stack .exit)) r ≡ pushed high (pushed low (stackOf (now (stack .entry)) h)) ⌝ }
+{
+    let k = push(stack, h, low);
+    push(stack, k, high)
+}
+
+// The task on top gives way to those that it comes to.
+fn turn(
+    t: &[u32],
+    s: &[u8],
+    cells: &[u32],
+    n: usize,
+    nodes: &mut [u32],
+    room: usize,
+    write: usize,
+    stack: &mut [u32],
+    h: usize,
+    p: usize,
+    at: usize,
+) -> Stand
+    requires { ⌜ Ready (now t) (now s) (now cells) n × (at < 4611686018427387904) × (0 < h) × (length (now stack) ≡ 263168) × State (now t) (now s) (now cells) n (stackOf (now stack) h) p ⌝ }
+    ensures { λ g. ⌜ Turned (now (t .entry)) (now (s .entry)) (now (cells .entry)) n room write (out (now (nodes .entry)) at) (out (now (nodes .exit)) (g .at)) (stackOf (now (stack .entry)) h) p (stackOf (now (stack .exit)) (g .height)) (g .place) ⌝ }
+{
+    let w = base_words::word(stack, h - 1);
+    let g = act(t, s, cells, n, nodes, room, write, at, w, p);
+    let k = push_both(stack, h - 1, g.low, g.high);
+    Stand {
+        height: k,
+        place: g.place,
+        at: g.at,
+    }
+}
+
+// One pass: the count of all nodes or, above 2^62, the refusal. With flag 0 it only looks.
+fn pass(t: &[u32], s: &[u8], cells: &[u32], n: usize, nodes: &mut [u32], write: usize) -> usize
+    requires { ⌜ Ready (now t) (now s) (now cells) n ⌝ }
+    ensures { λ v. ⌜ out (now (nodes .exit)) v ≡ run (roomOf (now (nodes .entry))) write (out (now (nodes .entry)) 0) (listOf (bodiesOf (now (t .entry))) (now (s .entry)) (now (cells .entry))) ⌝ }
+{
+    let c = match_cells::cell_at(s, cells, n, 0, 0);
+    if c == 0 {
+        return 0;
+    }
+    let room = nodes.len() / 4;
+    let mut stack: [u32; 263168] = [0; 263168];
+    let mut h = push(&mut stack, 0, 6144);
+    let mut p: usize = 0;
+    let mut at: usize = 0;
+    while 0 < h {
+        let g = turn(t, s, cells, n, nodes, room, write, &mut stack, h, p, at);
+        at = g.at;
+        if 4611686018427387904 <= at {
+            return at;
+        }
+        h = g.height;
+        p = g.place;
+    }
+    at
+}
+
+// A pass's number as an answer.
+fn answer(room: usize, v: usize) -> Listed
+    ensures { λ r. ⌜ said r ≡ decode room v ⌝ }
+{
+    if v < 4611686018427387904 {
+        return Listed::All(v);
+    }
+    if v < 9223372036854775808 {
+        return Listed::Deep(v - 4611686018427387904);
+    }
+    Listed::Full(room)
+}
+
+// The nodes of the start symbol at 0 into the lent words, all or none.
+pub fn list(t: &[u32], s: &[u8], cells: &[u32], n: usize, nodes: &mut [u32]) -> Listed
+    requires { ⌜ Ready (now t) (now s) (now cells) n ⌝ }
+    ensures { λ r. ⌜ (said r ≡ listingOf (roomOf (now (nodes .entry))) 0 (listOf (bodiesOf (now (t .entry))) (now (s .entry)) (now (cells .entry)))) × (now (nodes .exit) ≡ wordsOf (roomOf (now (nodes .entry))) (now (nodes .entry)) (listOf (bodiesOf (now (t .entry))) (now (s .entry)) (now (cells .entry)))) ⌝ }
+{
+    let room = nodes.len() / 4;
+    let v = pass(t, s, cells, n, nodes, 0);
+    if 4611686018427387904 <= v {
+        return answer(room, v);
+    }
+    let i = pass(t, s, cells, n, nodes, 1);
+    answer(room, i)
+}

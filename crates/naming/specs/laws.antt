@@ -1,6 +1,0 @@
--- Laws of the definitions beside this file.
-pub mod Here
-pub mod Walks
-pub mod Names
-pub mod Hits
-pub mod Offences

@@ -1,1 +1,0 @@
-// Step 2, first calls and ranks, refusals 7 and 8: see specs/.

@@ -1,0 +1,241 @@
+// What every call on a grammar does first (01: "Every call on a grammar checks 1 to 8"): the text becomes a table, the table an intermediate grammar with
+// its sets, and that a plain grammar; or a refusal with number and place.
+ghost use mathlib.Core.Path.{_≡_};
+ghost use Prim.Native.Nat.{_≤_};
+ghost use lib.ListN.{length};
+ghost use Rattle.grammar_table.specs.Table.{tableWords, symbolCount, expressionCount};
+ghost use Rattle.lake_calls.specs.Marks.{LoopedAll};
+ghost use Rattle.read_tokens.specs.Bounds.{expressionBound};
+ghost use Rattle.prepare.specs.Reads.{isRefused};
+ghost use Rattle.prepare.specs.Loads.{Loads, Translated, Ready, Plainly};
+ghost use Rattle.prepare.specs.declared.Verdict.the-variants.{Refused as VerdictRefused};
+
+pub mod refusals;
+
+use grammar_table::Table;
+use read_tokens::Mode;
+
+// A grammar is accepted, or refused with number and place.
+pub enum Verdict {
+    Accepted,
+    Refused { number: usize, place: usize },
+}
+
+pub struct Counted {
+    pub symbols: usize,
+    pub terminals: usize,
+    pub expressions: usize,
+    pub verdict: Verdict,
+}
+
+fn refusal(number: usize, place: usize) -> Counted
+    ensures { λ r. ⌜ r ≡ record { symbols = 0; terminals = 0; expressions = 0; verdict = VerdictRefused number place } ⌝ }
+{
+    Counted {
+        symbols: 0,
+        terminals: 0,
+        expressions: 0,
+        verdict: Verdict::Refused {
+            number: number,
+            place: place,
+        },
+    }
+}
+
+fn expression_bound(mode: Mode) -> usize
+    ensures { λ r. ⌜ r ≡ expressionBound mode ⌝ }
+{
+    match mode {
+        Mode::Lake => 512,
+        Mode::Plain => 1024,
+    }
+}
+
+// Refusals 1 to 6, or the counts of a grammar, which the table then holds.
+fn load(mode: Mode, text: &[u8], t: &mut Table) -> Counted
+    ensures { λ r. ⌜ Loads mode (now (text .entry)) (now (t .entry)) (now (t .exit)) r ⌝ }
+{
+    let f = refusals::refused(mode, text);
+    if f.number != 0 {
+        return refusal(f.number, f.place);
+    }
+    let c = read_grammar::build(mode, text, t);
+    if 64 < c.symbols {
+        return refusal(6, 1);
+    }
+    if 64 < c.terminals {
+        return refusal(6, 2);
+    }
+    if expression_bound(mode) < c.expressions {
+        return refusal(6, 3);
+    }
+    Counted {
+        symbols: c.symbols,
+        terminals: c.terminals,
+        expressions: c.expressions,
+        verdict: Verdict::Accepted,
+    }
+}
+
+// How many expressions the plain grammar has, 1,025 for more than 1,024, and how many rounds ALT took.
+pub struct Translation {
+    pub expressions: usize,
+    pub rounds: usize,
+}
+
+// The intermediate grammar with its sets and the plain grammar of a table.
+fn translate(
+    t: &Table,
+    mid: &mut Table,
+    marks: &mut [bool; 64],
+    sets: &mut [[u64; 2]; 1024],
+    eps: &mut [bool; 1024],
+    succ: &mut [[u64; 2]; 1024],
+    alts: &mut [[u64; 2]; 1024],
+    out: &mut Table,
+) -> Translation
+    ensures { λ r. ⌜ Translated (now (t .entry)) (now (mid .exit)) (now (marks .exit)) (now (sets .exit)) (now (eps .exit)) (now (succ .exit)) (now (alts .exit)) (now (out .exit)) (r .expressions) (r .rounds) ⌝ }
+{
+    let n = lake_step_one::step_one(t, mid);
+    if 1024 < n {
+        return Translation {
+            expressions: n,
+            rounds: 0,
+        };
+    }
+    let mut base: [[u64; 2]; 1024] = [[0, 0]; 1024];
+    let mut next: [[u64; 2]; 1024] = [[0, 0]; 1024];
+    let mut src: [usize; 2048] = [0; 2048];
+    let mut dst: [usize; 2048] = [0; 2048];
+    let k = lake_analysis::analyse_table(
+        mid,
+        marks,
+        sets,
+        eps,
+        succ,
+        alts,
+        &mut base,
+        &mut next,
+        &mut src,
+        &mut dst,
+    );
+    let m = lake_step_two::step_two(mid, alts, out);
+    Translation {
+        expressions: m,
+        rounds: k,
+    }
+}
+
+// The smallest symbol on a loop of first calls; the number of symbols where there is none.
+fn loop_of(t: &Table) -> usize
+    requires { ⌜ symbolCount (now t) ≤ 64 ⌝ }
+    ensures { λ r. ⌜ LoopedAll (now (t .entry)) r ⌝ }
+{
+    lake_calls::loops::table_loop(t)
+}
+
+pub fn is_refused(v: Verdict) -> bool
+    ensures { λ r. ⌜ r ≡ isRefused v ⌝ }
+{
+    match v {
+        Verdict::Accepted => false,
+        Verdict::Refused {
+            number: n,
+            place: p,
+        } => true,
+    }
+}
+
+// How many symbols a table holds.
+pub fn symbols(t: &Table) -> usize
+    ensures { λ r. ⌜ r ≡ symbolCount (now (t .entry)) ⌝ }
+{
+    base_words::word(t, 0)
+}
+
+// How many expressions a table holds.
+pub fn expressions(t: &Table) -> usize
+    ensures { λ r. ⌜ r ≡ expressionCount (now (t .entry)) ⌝ }
+{
+    base_words::word(t, 2)
+}
+
+// The answer of `read`, and the round count of ALT.
+pub struct Prepared {
+    pub counted: Counted,
+    pub rounds: usize,
+}
+
+fn refused(r: Counted) -> Prepared
+    ensures { λ p. ⌜ p ≡ record { counted = r; rounds = 0 } ⌝ }
+{
+    Prepared {
+        counted: r,
+        rounds: 0,
+    }
+}
+
+// A grammar text worked out, or refused 1 to 8.
+pub fn prepare(
+    mode: Mode,
+    text: &[u8],
+    t: &mut Table,
+    mid: &mut Table,
+    marks: &mut [bool; 64],
+    sets: &mut [[u64; 2]; 1024],
+    eps: &mut [bool; 1024],
+    succ: &mut [[u64; 2]; 1024],
+    alts: &mut [[u64; 2]; 1024],
+    out: &mut Table,
+) -> Prepared
+    requires { ⌜ length (now t) ≡ tableWords ⌝ }
+    ensures { λ r. ⌜ Ready mode (now (text .entry)) (now (t .exit)) (now (mid .exit)) (now (marks .exit)) (now (sets .exit)) (now (eps .exit)) (now (succ .exit)) (now (alts .exit)) (now (out .exit)) (r .counted) (r .rounds) ⌝ }
+{
+    let r = load(mode, text, t);
+    let v = r.verdict;
+    if is_refused(v) {
+        return refused(r);
+    }
+    let n = translate(t, mid, marks, sets, eps, succ, alts, out);
+    let e = n.expressions;
+    if 1024 < e {
+        let f = refusal(7, 1025);
+        return refused(f);
+    }
+    let k = r.symbols;
+    let l = loop_of(out);
+    if l < k {
+        let f = refusal(8, l);
+        return refused(f);
+    }
+    Prepared {
+        counted: r,
+        rounds: n.rounds,
+    }
+}
+
+// The same where only the grammar and its plain form are wanted.
+pub fn plainly(mode: Mode, text: &[u8], t: &mut Table, out: &mut Table) -> Counted
+    requires { ⌜ length (now t) ≡ tableWords ⌝ }
+    ensures { λ r. ⌜ Plainly mode (now (text .entry)) (now (t .exit)) (now (out .exit)) r ⌝ }
+{
+    let mut mid: Table = [0; grammar_table::WORDS];
+    let mut marks = [false; 64];
+    let mut sets: [[u64; 2]; 1024] = [[0, 0]; 1024];
+    let mut eps = [false; 1024];
+    let mut succ: [[u64; 2]; 1024] = [[0, 0]; 1024];
+    let mut alts: [[u64; 2]; 1024] = [[0, 0]; 1024];
+    let p = prepare(
+        mode,
+        text,
+        t,
+        &mut mid,
+        &mut marks,
+        &mut sets,
+        &mut eps,
+        &mut succ,
+        &mut alts,
+        out,
+    );
+    p.counted
+}

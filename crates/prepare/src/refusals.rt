@@ -1,0 +1,40 @@
+// Refusals 1 to 5 of a grammar text (01, Refusal numbers).
+ghost use mathlib.Core.Path.{_≡_};
+ghost use Rattle.read_tokens.specs.Bounds.{textBound};
+ghost use Rattle.read_syntax.specs.Found.{found};
+ghost use Rattle.prepare.specs.Scanned.{scanned};
+use read_syntax::syntax;
+use read_syntax::syntax::Found;
+use read_tokens::Mode;
+
+fn text_bound(mode: Mode) -> usize
+    ensures { λ r. ⌜ r ≡ textBound mode ⌝ }
+{
+    match mode {
+        Mode::Lake => 16384,
+        Mode::Plain => 1048576,
+    }
+}
+
+// Refusals 1 to 5 in order of check; number 0 where there is none.
+pub fn refused(mode: Mode, text: &[u8]) -> Found
+    ensures { λ r. ⌜ r ≡ found (scanned mode (now (text .entry))) ⌝ }
+{
+    let bound = text_bound(mode);
+    if bound < text.len() {
+        return syntax::refuse(1, bound);
+    }
+    let f = syntax::offending(mode, text);
+    if f.number != 0 {
+        return f;
+    }
+    let p = read_names::lefts::second_left(mode, text);
+    if p != 0 {
+        return syntax::refuse(4, p - 1);
+    }
+    let q = read_names::lefts::unruled_use(mode, text);
+    if q != 0 {
+        return syntax::refuse(5, q - 1);
+    }
+    syntax::refuse(0, 0)
+}

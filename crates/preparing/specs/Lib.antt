@@ -1,4 +1,0 @@
-pub mod Prepare
-pub mod Reads
-pub mod Loads
-pub mod laws

@@ -1,4 +1,0 @@
-pub mod Pen
-pub mod Printed
-pub mod Turned
-pub mod laws

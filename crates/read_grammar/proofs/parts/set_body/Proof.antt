@@ -1,0 +1,38 @@
+-- `read_grammar::parts::set_body` meets its contract. Assumes nothing.
+use Prim.Native.Nat.{ℕ, suc, _+_, _-_, _*_, _≤_, _<_}
+use mathlib.Core.Path.{_≡_, refl, sym, ap, _∙_}
+use mathlib.Core.List.{List, map}
+use native.Mathlib.Omega.{arith}
+use Rattle.read_grammar.proofs.Steps.{bodied-in, bodied-out}
+use borrow.Author.Needs.{needs}
+use Rattle.read_grammar.proofs.parts.set_body.Statement.{statement}
+use Rattle.read_grammar.proofs.parts.set_body.Tie as tie
+use Rattle.read_grammar.proofs.parts.set_body.Reads as reads
+use Rattle.read_grammar.proofs.parts.set_body.Lts as lts
+use Rattle.base_words.proofs.put.Reads as put-reads
+use Rattle.base_words.proofs.word.Reads as word-reads
+
+word-requires : tie.Need-word-requires
+word-requires c κs = search needs
+
+mul-put : tie.Need-mul-put
+mul-put c = search needs
+
+add-put : tie.Need-add-put
+add-put c = search needs
+
+put-requires : tie.Need-put-requires
+put-requires c κs = search needs
+
+same-length : tie.Need-same-length
+same-length c = search needs
+
+returns : tie.Need-returns
+returns c = bodied-in _ _ _ _ (c .before .before .before .before .before .before .if1 .taken) (c .before .before .before .before .word .ensures .0) (c .before .before .put .ensures)
+
+returns-2 : tie.Need-returns-2
+returns-2 c = bodied-out _ _ (c .if1 .left)
+
+pub set-body-spec : {M : Type 1} → statement M
+set-body-spec =
+    tie.close (tie.spec word-requires mul-put add-put put-requires same-length returns returns-2)

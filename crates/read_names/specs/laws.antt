@@ -1,0 +1,7 @@
+-- Laws of the definitions beside this file.
+pub mod Walks
+pub mod Names
+pub mod Hits
+pub mod Offences
+pub mod Lefts
+pub mod Index

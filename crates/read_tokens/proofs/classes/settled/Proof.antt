@@ -1,0 +1,24 @@
+use mathlib.Core.Path.{_≡_, refl, sym, ap, _∙_}
+use Rattle.read_tokens.proofs.ClassSteps.{settled-yes, settled-no}
+use borrow.Author.Needs.{needs}
+use Rattle.read_tokens.proofs.classes.settled.Statement.{statement}
+use Rattle.read_tokens.proofs.classes.settled.Tie as tie
+use Rattle.read_tokens.proofs.classes.settled.Reads as reads
+use Rattle.read_tokens.proofs.classes.settled.Lts as lts
+use Rattle.read_tokens.proofs.classes.any_set.Reads as any-set-reads
+use Rattle.read_tokens.proofs.classes.no_class.Reads as no-class-reads
+
+any-set-requires : tie.Need-any-set-requires
+any-set-requires c κs = search needs
+
+returns : tie.Need-returns
+returns c = settled-yes _ _ (sym (c .before .any-set .ensures) ∙ c .if1 .taken)
+
+no-class-requires : tie.Need-no-class-requires
+no-class-requires c κs = search needs
+
+returns-2 : tie.Need-returns-2
+returns-2 c = c .no-class .ensures ∙ settled-no _ _ (sym (c .before .before .any-set .ensures) ∙ c .before .if1 .left)
+
+pub settled-spec : {M : Type 1} → statement M
+settled-spec = tie.close (tie.spec any-set-requires returns no-class-requires returns-2)

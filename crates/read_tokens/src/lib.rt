@@ -1,0 +1,204 @@
+// The tokens of a grammar text (01, Notation): the token at a place, as numbers; what it holds is read by `chars` and `classes`.
+ghost use Prim.Native.Nat.{suc, _<_, _+_};
+ghost use mathlib.Core.Path.{_≡_};
+ghost use mathlib.Core.Option.{some};
+ghost use lib.ListN.{length, drop};
+ghost use Rattle.read_tokens.specs.Chars.{body, single};
+ghost use Rattle.read_tokens.specs.Token.{pre, suf};
+ghost use Rattle.read_tokens.specs.Tokens.{nameSpan, literalBy, bracket, less, preOf, sufOf, tokenAt};
+ghost use Rattle.read_tokens.specs.Code.{kindOf, coded, named, laked, made};
+
+pub mod chars;
+pub mod classes;
+pub mod kinds;
+pub mod names;
+
+use chars::byte_at;
+use chars::literal_at;
+use classes::class_at;
+use kinds::kind_of;
+use names::blanks;
+use names::name_end;
+
+// The two ways to read a grammar text (01, Notation, "Two modes").
+pub enum Mode {
+    Lake,
+    Plain,
+}
+
+pub const END: u8 = 0;
+
+pub const NAME: u8 = 1;
+
+pub const LAKE: u8 = 2;
+
+pub const ANY: u8 = 3;
+
+pub const LITERAL: u8 = 4;
+
+pub const CLASS: u8 = 5;
+
+pub const AMP: u8 = 6;
+
+pub const BANG: u8 = 7;
+
+pub const QUERY: u8 = 8;
+
+pub const ASTERISK: u8 = 9;
+
+pub const CROSS: u8 = 10;
+
+pub const ARROW: u8 = 11;
+
+pub const SLASH: u8 = 12;
+
+pub const OPENS: u8 = 13;
+
+pub const CLOSES: u8 = 14;
+
+pub const BAD: u8 = 15;
+
+// A token by the number of its kind, its first byte's place, the place behind it, and how many bytes a name or a literal has.
+pub struct Token {
+    pub kind: u8,
+    pub start: usize,
+    pub next: usize,
+    pub size: usize,
+}
+
+fn sized(kind: u8, start: usize, next: usize, size: usize) -> Token
+    ensures { λ r. ⌜ r ≡ made kind start next size ⌝ }
+{
+    Token {
+        kind: kind,
+        start: start,
+        next: next,
+        size: size,
+    }
+}
+
+fn plain(kind: u8, start: usize, next: usize) -> Token
+    ensures { λ r. ⌜ r ≡ made kind start next 0 ⌝ }
+{
+    sized(kind, start, next, 0)
+}
+
+fn prefix_of(b: u8) -> u8
+    ensures { λ r. ⌜ r ≡ kindOf (some (pre (preOf b))) ⌝ }
+{
+    if b == 38 {
+        return AMP;
+    }
+    BANG
+}
+
+fn suffix_of(b: u8) -> u8
+    ensures { λ r. ⌜ r ≡ kindOf (some (suf (sufOf b))) ⌝ }
+{
+    if b == 63 {
+        return QUERY;
+    }
+    if b == 42 {
+        return ASTERISK;
+    }
+    CROSS
+}
+
+// The name whose first byte stands at `at`.
+fn name_token(text: &[u8], at: usize) -> Token
+    ensures { λ r. ⌜ r ≡ coded (named at (nameSpan (drop at (now (text .entry))))) ⌝ }
+{
+    let end = name_end(text, at);
+    sized(NAME, at, end, end - at)
+}
+
+// Behind the `<` at `at`: "a lake is `<name>` without blanks inside".
+fn lake_token(text: &[u8], at: usize) -> Token
+    requires { ⌜ at < length (now text) ⌝ }
+    ensures { λ r. ⌜ r ≡ coded (laked at (drop (suc at) (now (text .entry)))) ⌝ }
+{
+    let from = at + 1;
+    if text.len() <= from {
+        return plain(BAD, at, from);
+    }
+    let k = kind_of(text[from]);
+    if k != kinds::LETTER {
+        return plain(BAD, at, from);
+    }
+    let end = name_end(text, from);
+    let b = byte_at(text, end);
+    if b != 62 {
+        return plain(BAD, at, from);
+    }
+    sized(LAKE, at, end + 1, end - from)
+}
+
+// The token that begins with the `<` at `at`: "`<` followed by `-` is the arrow"; plain mode has no lakes.
+fn less_token(mode: Mode, text: &[u8], at: usize) -> Token
+    requires { ⌜ at < length (now text) ⌝ }
+    ensures { λ r. ⌜ r ≡ coded (less mode at (drop (suc at) (now (text .entry)))) ⌝ }
+{
+    let from = at + 1;
+    let b = byte_at(text, from);
+    if b == 45 {
+        return plain(ARROW, at, at + 2);
+    }
+    match mode {
+        Mode::Lake => lake_token(text, at),
+        Mode::Plain => plain(BAD, at, from),
+    }
+}
+
+// The literal whose opening quote q stands at `at`: an empty one is bad.
+fn literal_token(text: &[u8], at: usize, q: u8) -> Token
+    requires { ⌜ at < length (now text) ⌝ }
+    ensures { λ r. ⌜ r ≡ coded (literalBy at (body q single 0 (suc at) (drop (suc at) (now (text .entry))))) ⌝ }
+{
+    let from = at + 1;
+    let l = literal_at(text, from, q);
+    let count = l.count;
+    let next = l.next;
+    if count == 0 {
+        return plain(BAD, at, from);
+    }
+    sized(LITERAL, at, next, count)
+}
+
+// The class whose `[` stands at `at`.
+fn class_token(mode: Mode, text: &[u8], at: usize) -> Token
+    requires { ⌜ at < length (now text) ⌝ }
+    ensures { λ r. ⌜ r ≡ coded (bracket mode at (drop (suc at) (now (text .entry)))) ⌝ }
+{
+    let c = class_at(mode, text, at);
+    let next = c.next;
+    if next == 0 {
+        return plain(BAD, at, at + 1);
+    }
+    plain(CLASS, at, next)
+}
+
+// The token at a place or, where blanks stand there, behind them.
+pub fn token_at(mode: Mode, text: &[u8], at: usize) -> Token
+    ensures { λ r. ⌜ r ≡ coded (tokenAt mode (now (text .entry)) at) ⌝ }
+{
+    let i = blanks(text, at);
+    if text.len() <= i {
+        return plain(END, i, i);
+    }
+    let b = text[i];
+    let k = kind_of(b);
+    let n = i + 1;
+    match k {
+        kinds::LETTER => name_token(text, i),
+        kinds::OPEN => plain(OPENS, i, n),
+        kinds::CLOSE => plain(CLOSES, i, n),
+        kinds::SLASH => plain(SLASH, i, n),
+        kinds::PREFIX => plain(prefix_of(b), i, n),
+        kinds::SUFFIX => plain(suffix_of(b), i, n),
+        kinds::DOT => plain(ANY, i, n),
+        kinds::QUOTE => literal_token(text, i, b),
+        kinds::CLASS => class_token(mode, text, i),
+        kinds::LESS => less_token(mode, text, i),
+        _ => plain(BAD, i, n),
+    }
+}

@@ -1,5 +1,0 @@
-pub mod Machine
-pub mod Reader
-pub mod Reading
-pub mod Grammar
-pub mod laws

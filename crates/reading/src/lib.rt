@@ -1,1 +1,0 @@
-// Text to grammar, refusals 1 to 6: see specs/.

@@ -1,7 +1,0 @@
--- Laws of the definitions beside this file.
-pub mod Caps
-pub mod Words
-pub mod Rows
-pub mod Seeks
-pub mod Kept
-pub mod Firsts

@@ -1,0 +1,188 @@
+// A line of questions: its fields are words apart by one space, bytes in hexadecimal, decimal numbers.
+pub mod buffers;
+
+ghost use Prim.Native.Nat.{_+_, _≤_, _<_};
+ghost use mathlib.Core.Path.{_≡_};
+ghost use lib.ListN.{length, drop};
+ghost use Rattle.io.specs.Counts.{Counts};
+ghost use Rattle.replay_lines.specs.Fields.{untilOf, afterOf, begins, shiftedBy, decimalOf, isDigit, bytesOf};
+
+// The value of a hexadecimal digit; 16 for any other byte.
+fn digit(b: u8) -> u8
+    ensures { λ r. ⌜ r ≤ 16 ⌝ }
+{
+    if b < 48 {
+        return 16;
+    }
+    if b < 58 {
+        return b - 48;
+    }
+    if b < 97 {
+        return 16;
+    }
+    if b < 103 {
+        return b - 87;
+    }
+    16
+}
+
+// Whether a byte is a hexadecimal digit.
+fn is_digit(b: u8) -> bool
+    ensures { λ r. ⌜ r ≡ isDigit b ⌝ }
+{
+    if b < 48 {
+        return false;
+    }
+    if b < 58 {
+        return true;
+    }
+    if b < 97 {
+        return false;
+    }
+    if b < 103 {
+        return true;
+    }
+    false
+}
+
+// Where the field that begins at `at` ends: at the next space or the line's end. A field past the line's end is empty.
+pub fn until(s: &[u8], at: usize) -> usize
+    ensures { λ r. ⌜ r ≡ untilOf (now (s .entry)) at ⌝ }
+{
+    let mut i = at;
+    while i < s.len() {
+        if s[i] == 32 {
+            return i;
+        }
+        i += 1;
+    }
+    i
+}
+
+// Where the field behind the one at `at` begins.
+pub fn after(s: &[u8], at: usize) -> usize
+    ensures { λ r. ⌜ r ≡ afterOf (now (s .entry)) at ⌝ }
+{
+    let to = until(s, at);
+    if to < s.len() {
+        return to + 1;
+    }
+    s.len()
+}
+
+// Whether the word stands in the line from `at` on.
+pub fn stands(s: &[u8], at: usize, word: &[u8]) -> bool
+    ensures { λ r. ⌜ r ≡ begins (now (word .entry)) (drop at (now (s .entry))) ⌝ }
+{
+    if word.len() == 0 {
+        return true;
+    }
+    if s.len() < word.len() {
+        return false;
+    }
+    if s.len() - word.len() < at {
+        return false;
+    }
+    let mut i: usize = 0;
+    while i < word.len() {
+        if s[at + i] != word[i] {
+            return false;
+        }
+        i += 1;
+    }
+    true
+}
+
+// Whether the field is bytes in hexadecimal, or `-` for none, and there are at most so many.
+pub fn is_bytes(s: &[u8], from: usize, to: usize, most: usize) -> bool
+    ensures { λ r. ⌜ r ≡ bytesOf (now (s .entry)) from to most ⌝ }
+{
+    if s.len() < to {
+        return false;
+    }
+    if to <= from {
+        return false;
+    }
+    if to - from == 1 {
+        return s[from] == 45;
+    }
+    if (to - from) % 2 != 0 {
+        return false;
+    }
+    if most < (to - from) / 2 {
+        return false;
+    }
+    let mut i = from;
+    while i < to {
+        if !is_digit(s[i]) {
+            return false;
+        }
+        i += 1;
+    }
+    true
+}
+
+// A byte of two digits.
+fn pair(h: u8, l: u8) -> u8 {
+    let a = digit(h);
+    let b = digit(l);
+    (a % 16) * 16 + b % 16
+}
+
+// The bytes that stand in hexadecimal, as many as there is room for; of `-` none.
+pub fn decode(s: &[u8], from: usize, to: usize, out: &mut [u8]) -> usize
+    ensures { λ r. ⌜ Counts r (now (out .exit)) ⌝ }
+{
+    let mut i = from;
+    let mut n: usize = 0;
+    while n < out.len() {
+        if s.len() < to {
+            return n;
+        }
+        if to <= i {
+            return n;
+        }
+        if to - i < 2 {
+            return n;
+        }
+        out[n] = pair(s[i], s[i + 1]);
+        n += 1;
+        i += 2;
+    }
+    n
+}
+
+// The decimal number of a field; 4,294,967,296 where it is none, or not below that.
+pub fn decimal(s: &[u8], from: usize, to: usize) -> usize
+    ensures { λ r. ⌜ r ≡ decimalOf (now (s .entry)) from to ⌝ }
+{
+    if s.len() < to {
+        return 4294967296;
+    }
+    if to <= from {
+        return 4294967296;
+    }
+    let mut v: usize = 0;
+    let mut i = from;
+    while i < to {
+        v = shifted(v, s[i]);
+        i += 1;
+    }
+    v
+}
+
+// One digit more.
+fn shifted(v: usize, b: u8) -> usize
+    ensures { λ r. ⌜ (r ≡ shiftedBy v b) × (r ≤ 4294967296) ⌝ }
+{
+    if b < 48 {
+        return 4294967296;
+    }
+    if 57 < b {
+        return 4294967296;
+    }
+    if 429496729 <= v {
+        return 4294967296;
+    }
+    v * 10 + (b - 48) as usize
+}

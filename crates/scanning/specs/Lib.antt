@@ -1,4 +1,0 @@
-pub mod Numbers
-pub mod Found
-pub mod Scanned
-pub mod laws
