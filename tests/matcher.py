@@ -336,6 +336,19 @@ class Matcher:
     def __init__(self, grammar, text):
         self.grammar, self.text, self.known = grammar, text, {}
 
+    def cells(self):
+        """0 where a symbol fails, else 1 and the bytes that it takes: place by place, in each symbol by symbol."""
+        answers = [(p, self.symbol(name, p)) for p in range(len(self.text) + 1) for name in self.grammar.symbols]
+        return [1 + answer[0] - p if answer else 0 for p, answer in answers]
+
+    def nodes(self):
+        """The nodes of the start symbol at 0, in preorder: symbol, start, end, depth. None where it fails."""
+        answer = self.symbol(self.grammar.symbols[0], 0)
+        if not answer:
+            return []
+        number = {name: k for k, name in enumerate(self.grammar.symbols)}
+        return [(number[name], start, end, depth) for name, start, end, depth in walk((self.grammar.symbols[0], 0, *answer))]
+
     def symbol(self, name, p):
         if (name, p) not in self.known:
             self.known[name, p] = self.lake(name, p)[1] if name.startswith("<") else self.match(self.grammar.bodies[name], p)
@@ -393,29 +406,34 @@ class Matcher:
             end, nodes = further[0], nodes + further[1]
 
 
-def preorder(node, depth=0):
-    symbol, start, end, below = node
-    yield f"{start} {end} {depth} {symbol}"
+def walk(node, depth=0):
+    name, start, end, below = node
+    yield name, start, end, depth
     for inner in below:
-        yield from preorder(inner, depth + 1)
+        yield from walk(inner, depth + 1)
 
 
-def spans(grammar, text, cells=16384, nodes=1024):
-    """The lines of program `spans`, for few nodes (all are listed before they are counted)."""
-    loop = grammar.loop()
+LENT = 3735928559
+
+
+def matched(grammar, text, cells, words):
+    """The answer of `replay` to a match: the outcome, then every lent cell and node word. For few nodes: all are listed before they are counted."""
+    lent_cells, lent_words = [LENT] * cells, [LENT] * words
+    loop, need = grammar.loop(), len(grammar.symbols) * (len(text) + 1)
     if loop is not None:
-        return [f"refused 8 {loop}"]
-    need = len(grammar.symbols) * (len(text) + 1)
-    if cells < need:
-        return [f"refused 10 {need}"]
-    start = grammar.symbols[0]
-    answer = Matcher(grammar, text).symbol(start, 0)
-    if not answer:
-        return ["none"]
-    lines = list(preorder((start, 0, *answer)))
-    for number, line in enumerate(lines):
-        if int(line.split()[2]) > 255:
-            return [f"refused 11 {number}"]
-        if number >= nodes:
-            return [f"refused 12 {number}"]
-    return [f"match {answer[0]}"] + lines
+        outcome = f"refused 8 {loop}"
+    elif cells < need:
+        outcome = f"refused 10 {need}"
+    else:
+        matcher = Matcher(grammar, text)
+        lent_cells[:need] = matcher.cells()
+        nodes = matcher.nodes()
+        offends = [(k, 11 if depth > 255 else 12) for k, (_, _, _, depth) in enumerate(nodes) if depth > 255 or words < 4 * k + 4]
+        if not nodes:
+            outcome = "none"
+        elif offends:
+            outcome = f"refused {offends[0][1]} {offends[0][0]}"
+        else:
+            outcome = f"match {nodes[0][2]}"
+            lent_words[: 4 * len(nodes)] = [word for node in nodes for word in node]
+    return " ".join([outcome, "; cells", *map(str, lent_cells), "; nodes", *map(str, lent_words)])

@@ -1,5 +1,6 @@
 #!/usr/bin/env python3
-"""Parsers that Debian's `peg` makes of our plain texts take as many bytes as `spans` says, on the grammars of tests/grammars.
+"""Parsers that Debian's `peg` makes of our plain texts take as many bytes as `spans` says, on the grammars of tests/grammars. Where `peg` is not there, it is
+installed; where it cannot be had, the test fails: nothing was compared.
 
 A line `# text: ..` of a grammar is a text for it. A repeat of `peg` with an empty round never ends, so that in no text one reaches the end, where the
 default water `!.` would take nothing for ever.
@@ -21,27 +22,33 @@ static int come;
 #include "parser.c"
 int main(void) { if (yyparse()) printf("match %d\n", come - yyctx->__limit); else printf("none\n"); return 0; }
 """
-NO_NETWORK = re.compile("Temporary failure resolving|Could not resolve|Could not connect|Network is unreachable|Unable to connect")
+PACKAGES = ["peg", "gcc", "libc6-dev"]
 
 
-def installed():
-    """Whether `peg` and a C compiler are there, after an attempt to install them; None where there is no network."""
-    if shutil.which("peg") and shutil.which("gcc"):
-        return True
-    said = ""
-    for words in (["update"], ["install", "-y", "peg", "gcc", "libc6-dev"]):
-        try:
-            ended = subprocess.run(["apt-get", *words], capture_output=True, text=True, timeout=120, env={**os.environ, "DEBIAN_FRONTEND": "noninteractive"})
-        except (OSError, subprocess.TimeoutExpired) as problem:
-            print(f"peg: apt-get {words[0]}: {problem}")
-            return False
-        said += ended.stdout + ended.stderr
-    if shutil.which("peg") and shutil.which("gcc"):
-        return True
-    if NO_NETWORK.search(said):
-        return None
-    print(said)
-    return False
+def apt_get(*words):
+    """What apt-get complains of; None if it did what it was asked."""
+    start = [] if os.geteuid() == 0 else ["sudo", "-n"]
+    quiet = {**os.environ, "DEBIAN_FRONTEND": "noninteractive"}
+    try:
+        ended = subprocess.run([*start, "apt-get", *words], capture_output=True, text=True, errors="replace", timeout=300, env=quiet)
+    except (OSError, subprocess.TimeoutExpired) as problem:
+        return str(problem)
+    return ended.stdout + ended.stderr if ended.returncode else None
+
+
+def there():
+    return shutil.which("peg") and shutil.which("gcc")
+
+
+def lacks():
+    """Why there is no `peg` or no C compiler, after an attempt to install them; None if both are there."""
+    install = ["install", "-y", "--no-install-recommends", *PACKAGES]
+    said = None
+    for words in (install, ["update"], install):
+        if there():
+            return None
+        said = apt_get(*words)
+    return None if there() else said or "apt-get says that they are installed, and they are not on the PATH"
 
 
 def make_parser(folder, written):
@@ -83,12 +90,9 @@ def check(path, programs, folder):
 
 
 def main():
-    have = installed()
-    if have is None:
-        print("peg: SKIPPED: Debian's package peg is not installed, and there is no network to install it from")
-        return 0
-    if not have:
-        print("peg: Debian's packages peg and gcc are needed, and could not be installed")
+    problem = lacks()
+    if problem:
+        print(f"{problem}\npeg: FAILED: the packages {' '.join(PACKAGES)} of Debian are needed, and could not be installed")
         return 1
     paths = sorted(glob.glob(os.path.join(TOP, "tests", "grammars", "*.peg")))
     compared = failed = 0

@@ -1,4 +1,4 @@
-"""Starts the two proved programs on a grammar and a text. `tests/run` has built them."""
+"""Starts the proved programs on a grammar and a text. `tests/run` has built them."""
 import os
 import platform
 import resource
@@ -33,7 +33,7 @@ class Programs:
     def __exit__(self, *problem):
         shutil.rmtree(self.folder)
 
-    def run(self, name, grammar, text=b""):
+    def run(self, name, grammar, text=b"", seconds=120):
         with open(os.path.join(self.folder, "grammar.peg"), "wb") as file:
             file.write(grammar)
         narrow = None
@@ -41,7 +41,7 @@ class Programs:
             size = self.stack_kib * 1024
             narrow = lambda: resource.setrlimit(resource.RLIMIT_STACK, (size, size))
         ended = subprocess.run([*self.start, os.path.join(TOP, "target", "bin", name)], cwd=self.folder,
-                               input=text, capture_output=True, preexec_fn=narrow, timeout=120)
+                               input=text, capture_output=True, preexec_fn=narrow, timeout=seconds)
         if ended.returncode != 0:
             return f"ended with status {ended.returncode}".encode()
         return ended.stdout

@@ -1,17 +1,23 @@
 #!/usr/bin/env python3
-"""The two programs against the independent matcher on random grammars and texts.
+"""The public calls against the independent matcher on random grammars and texts.
+
+All questions go to `replay` at once, which answers them from standard input, one a line: what a grammar is in plain, and each match with every cell and node
+word that was lent, by the grammar and by its plain text.
 
 random_grammars.py [COUNT [SEED]]   a difference is printed with its grammar and text, and the run fails
 """
 import random
+import re
 import sys
 from collections import Counter
 
-from matcher import Grammar, Matcher, plain_text, preorder, spans
+from matcher import Grammar, Matcher, matched, plain_text
 from programs import Programs
 
 TERMINALS = ["'a'", "'b'", "'c'", '"ab"', "'ba'", "[ab]", "[a-c]", "[^a]", "[^bc]", ".", "'\\141'", "'\\n'", "[\\]\\055^]", "'\\''"]
 TEXT = b"aaabbbcc\n-'"
+COUNT = 300
+ROOM = 65536
 
 
 class Maker:
@@ -76,47 +82,60 @@ class Maker:
         return self.produce(grammar, grammar.plain["s"], 0)[:60] + self.random.choice([b"", b"a", b"c"])
 
 
-def through_plain(written, text, lakes):
-    """The lines by the plain text that was written, its names turned back."""
-    grammar = Grammar(written, plain=True)
-    answer = Matcher(grammar, text).symbol(grammar.symbols[0], 0)
-    if not answer:
-        return ["none"]
-    lines = [line.split(" ") for line in preorder((grammar.symbols[0], 0, *answer))]
-    return [f"match {answer[0]}"] + [" ".join(line[:3] + [lakes.get(line[3], line[3])]) for line in lines]
+def question(call, mode, *fields):
+    return " ".join([call, mode, *[field.hex() or "-" if isinstance(field, bytes) else str(field) for field in fields]])
 
 
-def differences(maker, programs, seen):
+def asked(maker, seen):
+    """For one random grammar: what is asked, the text, the question, and the answer that the independent matcher gives."""
     for _ in range(maker.random.choice([1, 8, 8, 8])):  # most of the first tries have a loop
         source = maker.grammar()
         grammar = Grammar(source)
         if grammar.loop() is None:
             break
-    written = programs.plain(source)
-    if written != plain_text(grammar):
-        yield "plain_text", source, b"", written, plain_text(grammar)
-    lakes = {"lake__" + name[1:-1]: name for name in grammar.symbols if name.startswith("<")}
+    written = plain_text(grammar)
+    refused = written.startswith(b"refused")
+    yield source, "its plain text", b"", question("plain", "lake", source, ROOM), written.decode().strip() if refused else "text " + written.hex()
+    again = None if refused else Grammar(written, plain=True)
+    if again:
+        yield source, "its plain text, read and written again", b"", question("plain", "plain", written, ROOM), "text " + written.hex()
     for text in sorted({maker.text(grammar) for _ in range(6)}):
-        expected = spans(grammar, text)
-        seen[expected[0][:9] if expected[0][0] == "r" else "none" if expected == ["none"] else "match"] += 1
-        seen["nodes"] += len(expected) - 1
-        answer = programs.spans(source, text)
-        if answer != "".join(line + "\n" for line in expected).encode():
-            yield "spans", source, text, answer, "\n".join(expected)
-        if grammar.loop() is None and expected[0][0] != "r" and through_plain(written, text, lakes) != expected:
-            yield "spans by the plain text", source, text, "\n".join(through_plain(written, text, lakes)), "\n".join(expected)
+        need = len(grammar.symbols) * (len(text) + 1)
+        count = len(Matcher(grammar, text).nodes()) if again else 0
+        # room for all; now and then a cell or some node words too few
+        cells = max(0, need + maker.random.choice([0] * 12 + [2] * 6 + [-1]))
+        words = max(0, 4 * count + maker.random.choice([0] * 12 + [3, 5, -1, -6]))
+        expected = matched(grammar, text, cells, words)
+        seen[re.match("match|none|refused [0-9]+", expected)[0]] += 1
+        seen["cells"] += cells
+        seen["node words"] += words
+        yield source, "match", text, question("match", "lake", source, text, cells, words), expected
+        if again:
+            # by the plain text: the matcher's own answer, and the program's, are the same (01, there and back)
+            if matched(again, text, cells, words) != expected:
+                yield source, "match by the plain text in the independent matcher", text, None, expected
+            yield source, "match by the plain text", text, question("match", "plain", written, text, cells, words), expected
 
 
 def main():
-    count = int(sys.argv[1]) if sys.argv[1:] else 300
+    count = int(sys.argv[1]) if sys.argv[1:] else COUNT
     seed = int(sys.argv[2]) if sys.argv[2:] else 1
-    seen, wrong = Counter(), 0
+    seen, wrong, all_asked = Counter(), 0, []
+    for number in range(count):
+        all_asked += [(number, *one) for one in asked(Maker(f"{seed} {number}"), seen)]
+    questions = [one[4] for one in all_asked if one[4]]
     with Programs() as programs:
-        for number in range(count):
-            for what, source, text, got, expected in differences(Maker(f"{seed} {number}"), programs, seen):
-                wrong += 1
-                print(f"random: {what}, grammar {number} of seed {seed}:\n{source.decode()}text {text!r}\ngot      {got!r}\nexpected {expected!r}")
-    print(f"random: {count} grammars, {', '.join(f'{n} {what}' for what, n in seen.most_common())}, {wrong} differences")
+        answers = programs.run("replay", b"", "".join(line + "\n" for line in questions).encode(), seconds=600).decode().split("\n")
+    if len(answers) != len(questions) + 1 or answers[-1]:
+        print(f"random: {len(questions)} questions, and {len(answers) - 1} lines of answers, the last {answers[-2:]!r}")
+        sys.exit(1)
+    given = iter(answers)
+    for number, source, what, text, line, expected in all_asked:
+        got = next(given) if line else "another answer"
+        if got != expected:
+            wrong += 1
+            print(f"random: {what}, grammar {number} of seed {seed}:\n{source.decode()}text {text!r}\ngot      {got}\nexpected {expected}")
+    print(f"random: {count} grammars, {len(questions)} questions, {', '.join(f'{n} {what}' for what, n in seen.most_common())}, {wrong} differences")
     sys.exit(1 if wrong else 0)
 
 
