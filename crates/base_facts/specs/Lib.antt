@@ -1,3 +1,1 @@
-pub mod Bools
-pub mod Options
-pub mod Numbers
+pub mod laws

@@ -2,7 +2,7 @@ ghost use mathlib.Core.Path.{_≡_};
 ghost use mathlib.Core.List.{List, [], _∷_};
 ghost use Prim.Native.Nat.{ℕ, _+_, _*_, _^_, _<_, _≤_};
 ghost use lib.ListN.{length, getD};
-ghost use Rattle.base_words.specs.Decides.{Decides};
+ghost use Rattle.base_words.specs.steps.Decides.{Decides};
 ghost use Rattle.base_rounds.specs.laws.Cells.{Every};
 ghost use Rattle.base_rounds.specs.laws.Pair.{Set2};
 ghost use Rattle.base_rounds.specs.laws.Sys.{pushed, roundOf, Shaped, none, Stepped, Solved};
@@ -82,7 +82,8 @@ pub fn solve(
     cur: &mut [[u64; 2]],
     next: &mut [[u64; 2]],
 ) -> usize
-    requires { ⌜ Shaped (now src) (now dst) (length (now base)) × (length (now cur) ≡ length (now base)) × (length (now next) ≡ length (now base)) × (length (now base) ≤ 1024) × Every (Set2 64 64) [] (length (now base)) (now base) ⌝ }
+    requires { ⌜ Shaped (now src) (now dst) (length (now base)) × (length (now cur) ≡ length (now base)) × (length (now next) ≡ length (now base))
+        × (length (now base) ≤ 1024) × Every (Set2 64 64) [] (length (now base)) (now base) ⌝ }
     ensures { λ r. ⌜ Solved (now (src .entry)) (now (dst .entry)) (now (base .entry)) r (now (cur .exit)) (now (next .exit)) ⌝ }
 {
     clear(cur);

@@ -1,3 +1,3 @@
 pub mod Set
-pub mod Decides
+pub mod steps
 pub mod laws

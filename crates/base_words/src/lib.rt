@@ -2,7 +2,7 @@ ghost use mathlib.Core.Path.{_≡_};
 ghost use Prim.Native.Nat.{_<_};
 ghost use lib.ListN.{getD, set};
 ghost use Rattle.base_words.specs.Set.{unionOf, memberOf, withOf, empty as none};
-ghost use Rattle.base_words.specs.Decides.{Decides};
+ghost use Rattle.base_words.specs.steps.Decides.{Decides};
 
 // A set of symbols and terminals (01: "a set is two 64-bit words handed over whole"): word 0 the symbols, word 1 the terminals, bit = number.
 // As one number k, symbol r is r and terminal t is 64 + t.

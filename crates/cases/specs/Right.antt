@@ -2,9 +2,11 @@
 use mathlib.Core.Path.{_≡_, refl}
 use mathlib.Core.List.{List, map}
 use Rattle.read_tokens.specs.Kinds.{oneOf, ranges, kindAt}
-use Rattle.read_tokens.specs.Bounds.{textBound, nameBound, openBound, expressionBound, symbolBound, terminalBound, literalBound, plainBound, inputBound, depthBound, firstOctal, rawFrom, nodeWords}
+use Rattle.read_tokens.specs.Bounds.{textBound, nameBound, openBound, expressionBound, symbolBound, terminalBound, literalBound, plainBound}
+use Rattle.read_tokens.specs.Bounds.{inputBound, depthBound, firstOctal, rawFrom, nodeWords}
 use Rattle.read_tokens.specs.Chars.{octals, letters, four, char, single, dashed, listed, body}
-use Rattle.read_tokens.specs.Tokens.{skip, nameSpan, less, literalBy, among, table, someTrue, marksOf as tokens-marksOf, classBy, bracket, byKind, tokenFrom, tokenAt, lexemesFrom, lexemes, toksOf, toks}
+use Rattle.read_tokens.specs.Tokens.{skip, nameSpan, less, literalBy, among, table, someTrue, marksOf as tokens-marksOf, classBy, bracket, byKind}
+use Rattle.read_tokens.specs.Tokens.{tokenFrom, tokenAt, lexemesFrom, lexemes, toksOf, toks}
 use Rattle.grammar.specs.Empty.{emptyLeaf, hasEmpty}
 use Rattle.grammar.specs.Exp.{size, rename, symbolsIn, leavesIn}
 use Rattle.grammar.specs.Lakes.{waterOf, stepOne, choiceOf, skipOf, stepTwo, plainName}
@@ -26,8 +28,10 @@ use Rattle.lake_calls.specs.Calls.{firstCalls, callsOf, calledBy, reach, loopFr
 use Rattle.lake_step_two.specs.Plain.{nonterminalsIn, terminalsIn, alternatives, plainFrom, plainBodies, sizes, rulesBy, plainRules}
 use Rattle.match_cells.specs.Cells.{bodyAt, rowOf, fillOf, cells}
 use Rattle.match_cells.specs.Eval.{stands, leafAt, cellAt, joinOf, seqOf, altOf, stepOf, rep, plusOf, optOf, aheadOf, neverOf, ev}
-use Rattle.match_nodes.specs.Nodes.{seqN, altN, optN, stepN, repN, walkOf, nodeIf, nodesOf, levels, listOf, listingOf, putNode, written, wordsOf, roomOf, nodeAt, nodesAt, soundAt, nodeText}
-use Rattle.write_rules.specs.Writing.{byteText, litChar, classChar, litChars, runs as writing-runs, runText, runsText, leafText, symbolText, exprText, ruleText, text}
+use Rattle.match_nodes.specs.Nodes.{seqN, altN, optN, stepN, repN, walkOf, nodeIf, nodesOf, levels, listOf, listingOf, putNode, written, wordsOf}
+use Rattle.match_nodes.specs.Nodes.{roomOf, nodeAt, nodesAt, soundAt, nodeText}
+use Rattle.write_rules.specs.Writing.{byteText, litChar, classChar, litChars, runs as writing-runs, runText, runsText, leafText, symbolText}
+use Rattle.write_rules.specs.Writing.{exprText, ruleText, text}
 use Rattle.gurkenmond.specs.Answers.{verdictSays, outcomeSays, waySays, writtenSays}
 use Rattle.prepare.specs.Reads.{verdictOf, readOf}
 use Rattle.match_lake.specs.Asking.{noneMatches, wayNumber, wayIn}
@@ -37,5 +41,18 @@ use Rattle.cases.specs.Ask.{Said, Case, bytes as text-bytes, answered}
 use Rattle.cases.specs.Table.{cases}
 
 pub cases-right : map (λ (c : Case). answered (c .asked)) cases ≡ map (λ (c : Case). c .said) cases
-unfolding cases answered text-bytes oneOf ranges kindAt textBound nameBound openBound expressionBound symbolBound terminalBound literalBound plainBound inputBound depthBound firstOctal rawFrom nodeWords octals letters four char single dashed listed body skip nameSpan less literalBy among table someTrue tokens-marksOf classBy bracket byKind tokenFrom tokenAt lexemesFrom lexemes toksOf toks emptyLeaf hasEmpty size rename symbolsIn leavesIn waterOf stepOne choiceOf skipOf stepTwo plainName leftSides usesOf onlyLakes looseLakes symbolsOf leavesOf terminalsOf expressionsOf numbered partsOf partsAll rootsOf sameBytes sameMarks sameSymbol sameLeaf isIn indexOf newIn tokens choiceToks seqToks prefToks sufToks primToks upTo trees treeC treeS treeP treeF treeQ close newRule after step accepting reading-runs offendsFrom finish reading-over judge placeOf closeBy primBy sufBy prefBy choiceBy arrowBy ruleBy rulesR rulesP choiceP choiceR seqP seqR prefP primP begins reserved second leftsIn unruled tooMany rulesIn refusesText rulesOf settle analysed analysis setsAt blockedBy cannotSkipBelow cannotSkip markRound sets-marksOf beginningsFrom beginnings sets-over given leastBy waterIn bodiesBy intermediate firstCalls callsOf calledBy reach loopFrom loop ranksOf ofRank orderFrom order nonterminalsIn terminalsIn alternatives plainFrom plainBodies sizes rulesBy plainRules bodyAt rowOf fillOf cells stands leafAt cellAt joinOf seqOf altOf stepOf rep plusOf optOf aheadOf neverOf ev seqN altN optN stepN repN walkOf nodeIf nodesOf levels listOf listingOf putNode written wordsOf roomOf nodeAt nodesAt soundAt nodeText byteText litChar classChar litChars writing-runs runText runsText leafText symbolText exprText ruleText text verdictSays outcomeSays waySays writtenSays verdictOf readOf setsOf cannotSkipOf matchOf noneMatches wayNumber wayIn lakeOf writeOwnOf writePlainOf preparedBy prepared refuses
+unfolding cases answered text-bytes oneOf ranges kindAt textBound nameBound openBound expressionBound symbolBound terminalBound literalBound
+    plainBound inputBound depthBound firstOctal rawFrom nodeWords octals letters four char single dashed listed body skip nameSpan less literalBy
+    among table someTrue tokens-marksOf classBy bracket byKind tokenFrom tokenAt lexemesFrom lexemes toksOf toks emptyLeaf hasEmpty size rename
+    symbolsIn leavesIn waterOf stepOne choiceOf skipOf stepTwo plainName leftSides usesOf onlyLakes looseLakes symbolsOf leavesOf terminalsOf
+    expressionsOf numbered partsOf partsAll rootsOf sameBytes sameMarks sameSymbol sameLeaf isIn indexOf newIn tokens choiceToks seqToks prefToks
+    sufToks primToks upTo trees treeC treeS treeP treeF treeQ close newRule after step accepting reading-runs offendsFrom finish reading-over judge
+    placeOf closeBy primBy sufBy prefBy choiceBy arrowBy ruleBy rulesR rulesP choiceP choiceR seqP seqR prefP primP begins reserved second leftsIn
+    unruled tooMany rulesIn refusesText rulesOf settle analysed analysis setsAt blockedBy cannotSkipBelow cannotSkip markRound sets-marksOf
+    beginningsFrom beginnings sets-over given leastBy waterIn bodiesBy intermediate firstCalls callsOf calledBy reach loopFrom loop ranksOf ofRank
+    orderFrom order nonterminalsIn terminalsIn alternatives plainFrom plainBodies sizes rulesBy plainRules bodyAt rowOf fillOf cells stands leafAt
+    cellAt joinOf seqOf altOf stepOf rep plusOf optOf aheadOf neverOf ev seqN altN optN stepN repN walkOf nodeIf nodesOf levels listOf listingOf
+    putNode written wordsOf roomOf nodeAt nodesAt soundAt nodeText byteText litChar classChar litChars writing-runs runText runsText leafText
+    symbolText exprText ruleText text verdictSays outcomeSays waySays writtenSays verdictOf readOf setsOf cannotSkipOf matchOf noneMatches wayNumber
+    wayIn lakeOf writeOwnOf writePlainOf preparedBy prepared refuses
 cases-right = refl

@@ -26,7 +26,8 @@ cases =
     is (alt Lake G 5) (words (0 ∷ 0 ∷ [])) ∷
     is (rounds Lake G) (says (value 7)) ∷
     -- the last plain rule
-    is (plain Lake G) (written (bytes "block <- '{' stmt* '}'\nstmt <- expr_stmt / block\nexpr_stmt <- lake__elake* ';'\nlake__elake <- !. / !(block / '}' / ';') .\n")) ∷
+    is (plain Lake G)
+    (written (bytes "block <- '{' stmt* '}'\nstmt <- expr_stmt / block\nexpr_stmt <- lake__elake* ';'\nlake__elake <- !. / !(block / '}' / ';') .\n")) ∷
     -- the nodes of `{a;}`
     is (matches Lake G "{a;}" 20 16) (listed (value 4) 4 (0 ∷ 0 ∷ 4 ∷ 0 ∷ 1 ∷ 1 ∷ 3 ∷ 1 ∷ 2 ∷ 1 ∷ 3 ∷ 2 ∷ 3 ∷ 1 ∷ 2 ∷ 3 ∷ [])) ∷
     -- `a <- 'x' <y>` on `x` and on `xz`
@@ -64,7 +65,8 @@ cases =
     is (sets Lake G 15) (three (0 ∷ 0 ∷ []) (8 ∷ 8 ∷ []) (1 ∷ 12 ∷ []) true) ∷
     -- traps: with `.` in water the lake swallows every byte; `<term>` of 3.4, without a star, has an empty ALT
     is (matches Lake "a <- <x>* 'y' water <- ." "qy" 9 16) (listed nomatch 0 []) ∷
-    is (plain Lake "stmt <- expr ';' expr <- <term> opt opt <- '++'?") (written (bytes "stmt <- expr ';'\nexpr <- lake__term opt\nopt <- '++'?\nlake__term <- !. / .\n")) ∷
+    is (plain Lake "stmt <- expr ';' expr <- <term> opt opt <- '++'?")
+    (written (bytes "stmt <- expr ';'\nexpr <- lake__term opt\nopt <- '++'?\nlake__term <- !. / .\n")) ∷
     -- the readings' examples
     is (reads Lake "a") (says (refused 2 1)) ∷
     is (reads Lake "a <-  # end") (says (refused 2 11)) ∷
@@ -86,7 +88,8 @@ cases =
     is (reads Lake "a <- 'x' water") (says (refused 5 9)) ∷
     is (reads Lake "a <- ('x'?)+ a") (says (refused 8 0)) ∷
     is (reads Lake "a <- 'x' water <- <y>") (says (refused 8 2)) ∷
-    is (matches Lake "a <- <x>* 'y' water <- w w <- '#' ." "q#yy" 20 16) (listed (value 4) 4 (0 ∷ 0 ∷ 4 ∷ 0 ∷ 3 ∷ 0 ∷ 1 ∷ 1 ∷ 3 ∷ 1 ∷ 3 ∷ 1 ∷ 2 ∷ 1 ∷ 3 ∷ 2 ∷ [])) ∷
+    is (matches Lake "a <- <x>* 'y' water <- w w <- '#' ." "q#yy" 20 16)
+    (listed (value 4) 4 (0 ∷ 0 ∷ 4 ∷ 0 ∷ 3 ∷ 0 ∷ 1 ∷ 1 ∷ 3 ∷ 1 ∷ 3 ∷ 1 ∷ 2 ∷ 1 ∷ 3 ∷ 2 ∷ [])) ∷
     is (lakes Lake "a <- <x>* 'y' water <- w w <- '#' ." "q#yy" 3 0) (says (value 3)) ∷
     is (lakes Lake "a <- <x>* 'y' water <- w w <- '#' ." "q#yy" 3 1) (says (value 2)) ∷
     is (lakes Lake "a <- <x>* 'y' water <- w w <- '#' ." "q#yy" 3 2) (says (value 0)) ∷

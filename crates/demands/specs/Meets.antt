@@ -23,7 +23,8 @@ use Rattle.demands.specs.Ways.{Ways}
 abbrev pub symbolsIn : Mode → List ℕ → ℕ
 symbolsIn m t = length (prepared m t .grammar .names)
 
--- "With R symbols and n bytes, u32 work cell p·R + r holds 0 if symbol r fails at p, else 1 + length taken, for p from 0 to n. Later cells .. stay as they were"
+-- "With R symbols and n bytes, u32 work cell p·R + r holds 0 if symbol r fails at p, else 1 + length taken, for p from 0 to n. Later cells .. stay as
+-- they were"
 pub record Tabled (m : Mode) (t s cs c : List ℕ) : Type 0 where
   pub long : length c ≡ length cs
   pub cell : (p r : ℕ) → p ≤ length s → r < symbolsIn m t → (ns : List Node) × Derives (meant m t) s 0 (sym r) p (getD c (p * symbolsIn m t + r) 0) ns
@@ -40,18 +41,23 @@ pub data Meets (m : Mode) (t s cs ws : List ℕ) : Matching → Type 0 where
   -- "A refusal that is checked no later than 10 leaves all lent memory untouched"
   refused : {k p : ℕ} → FirstRow (MatchRows m t s cs) k p → Meets m t s cs ws (matching 0 (OutcomeRefused k p) cs ws)
   -- "No match is an answer: no node written, cells filled"
-  fails : {c : List ℕ} {ns : List Node} → NoRow (MatchRows m t s cs) → Tabled m t s cs c → Derives (meant m t) s 0 (sym 0) 0 0 ns → Meets m t s cs ws (matching 0 NoMatch c ws)
+  fails : {c : List ℕ} {ns : List Node} → NoRow (MatchRows m t s cs) → Tabled m t s cs c → Derives (meant m t) s 0 (sym 0) 0 0 ns
+      → Meets m t s cs ws (matching 0 NoMatch c ws)
   -- the start symbol takes k bytes, and its nodes fit
-  takes : {k : ℕ} {c w : List ℕ} {ns : List Node} → NoRow (MatchRows m t s cs) → Tabled m t s cs c → Derives (meant m t) s 0 (sym 0) 0 (suc k) ns → Fits (roomOf ws) ns → Listed ws ns w
+  takes : {k : ℕ} {c w : List ℕ} {ns : List Node} → NoRow (MatchRows m t s cs) → Tabled m t s cs c → Derives (meant m t) s 0 (sym 0) 0 (suc k) ns
+      → Fits (roomOf ws) ns → Listed ws ns w
       → Meets m t s cs ws (matching (length ns) (Matched k) c w)
   -- "after one of a match that is checked later the cells hold the table"
-  too-deep : {k j : ℕ} {c : List ℕ} {ns : List Node} → NoRow (MatchRows m t s cs) → Tabled m t s cs c → Derives (meant m t) s 0 (sym 0) 0 (suc k) ns → TooDeep (roomOf ws) ns j
+  too-deep : {k j : ℕ} {c : List ℕ} {ns : List Node} → NoRow (MatchRows m t s cs) → Tabled m t s cs c → Derives (meant m t) s 0 (sym 0) 0 (suc k) ns
+      → TooDeep (roomOf ws) ns j
       → Meets m t s cs ws (matching 0 (OutcomeRefused 11 j) c ws)
-  no-room : {k j : ℕ} {c : List ℕ} {ns : List Node} → NoRow (MatchRows m t s cs) → Tabled m t s cs c → Derives (meant m t) s 0 (sym 0) 0 (suc k) ns → NoRoom (roomOf ws) ns j
+  no-room : {k j : ℕ} {c : List ℕ} {ns : List Node} → NoRow (MatchRows m t s cs) → Tabled m t s cs c → Derives (meant m t) s 0 (sym 0) 0 (suc k) ns
+      → NoRoom (roomOf ws) ns j
       → Meets m t s cs ws (matching 0 (OutcomeRefused 12 j) c ws)
 
 -- the same of the lake question, for lake l at place q
 pub data MeetsLake (m : Mode) (t s cs : List ℕ) (l q : ℕ) : LakeAnswer → Type 0 where
   lake-refused : {k p : ℕ} → FirstRow (LakeRows m t s cs l q) k p → MeetsLake m t s cs l q (record { way = WayRefused k p; cells = cs })
   lake-answered : {w : Way} {c : List ℕ} → NoRow (LakeRows m t s cs l q) → Tabled m t s cs c
-      → Ways (meant m t) s 0 (rightAt (prepared m t .grammar) l) (alternativesAt (prepared m t .grammar) (prepared m t .analysis) l) q w → MeetsLake m t s cs l q (record { way = w; cells = c })
+      → Ways (meant m t) s 0 (rightAt (prepared m t .grammar) l) (alternativesAt (prepared m t .grammar) (prepared m t .analysis) l) q w
+      → MeetsLake m t s cs l q (record { way = w; cells = c })

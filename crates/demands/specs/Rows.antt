@@ -95,7 +95,8 @@ module _ (m : Mode) (t : List ℕ) where
 
   -- a match then 9 and 10: "input too long": 65,535; "work cells fewer than R·(n+1)": that number
   abbrev pub MatchRows : List ℕ → List ℕ → ℕ → ℕ → Type 0
-  MatchRows s cs k p = Rows k p ⊎ (Over 9 inputBound inputBound (length s) k p ⊎ Over 10 (cellsNeeded (prepared m t) s) (length cs) (cellsNeeded (prepared m t) s) k p)
+  MatchRows s cs k p = Rows k p
+      ⊎ (Over 9 inputBound inputBound (length s) k p ⊎ Over 10 (cellsNeeded (prepared m t) s) (length cs) (cellsNeeded (prepared m t) s) k p)
 
   -- "the lake question 9, 10, then 14": "no such expression, lake or position": 0
   abbrev pub LakeRows : List ℕ → List ℕ → ℕ → ℕ → ℕ → ℕ → Type 0

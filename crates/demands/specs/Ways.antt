@@ -16,7 +16,9 @@ pub data Ways (g : Meant) (s : List ℕ) (d : ℕ) (o : Option (Exp ℕ)) (ss : 
   -- it fails, or there is none, and water succeeds
   water-takes : {k : ℕ} {ns ms : List Node} → Tries g s d (own o) q 0 ns → Tries g s d (wet (g .water)) q (suc k) ms → Ways g s d o ss q ByWater
   -- both fail, no alternative symbol matches, and there is a byte
-  skips : {ns ms ks : List Node} → Tries g s d (own o) q 0 ns → Tries g s d (wet (g .water)) q 0 ms → Tries g s d (some-of ss) q 0 ks → q < length s → Ways g s d o ss q BySkip
+  skips : {ns ms ks : List Node} → Tries g s d (own o) q 0 ns → Tries g s d (wet (g .water)) q 0 ms → Tries g s d (some-of ss) q 0 ks → q < length s
+      → Ways g s d o ss q BySkip
   -- both fail, and an alternative symbol matches, or there is no byte
-  stops : {k : ℕ} {ns ms ks : List Node} → Tries g s d (own o) q 0 ns → Tries g s d (wet (g .water)) q 0 ms → Tries g s d (some-of ss) q (suc k) ks → Ways g s d o ss q Not
+  stops : {k : ℕ} {ns ms ks : List Node} → Tries g s d (own o) q 0 ns → Tries g s d (wet (g .water)) q 0 ms → Tries g s d (some-of ss) q (suc k) ks
+      → Ways g s d o ss q Not
   ends : {ns ms : List Node} → Tries g s d (own o) q 0 ns → Tries g s d (wet (g .water)) q 0 ms → length s ≤ q → Ways g s d o ss q Not

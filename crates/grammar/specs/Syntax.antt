@@ -68,7 +68,8 @@ Grammatical ts = (g : Rules) × (tokens g ≡ ts)
 abbrev pub Viable : List Tok → Type 0
 Viable ts = (us : List Tok) × Grammatical (ts ++ us)
 
--- Refusal 2's place: token k, or the text's end where k is the number of tokens, "at which what stands before could still begin a grammar and with it could not"
+-- Refusal 2's place: token k, or the text's end where k is the number of tokens, "at which what stands before could still begin a grammar and with it
+-- could not"
 pub record Offends (ts : List Tok) (k : ℕ) : Type 0 where
   pub within : k ≤ length ts
   pub before : Viable (take k ts)

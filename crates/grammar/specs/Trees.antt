@@ -2,7 +2,8 @@
 -- (01, Notation): they have equal lists of rules. Assumes nothing: these are definitions.
 use mathlib.Core.List.{List, [], _∷_, _++_}
 use Rattle.read_tokens.specs.Token.{Symbol, Leaf, Prefix, Suffix, amp, bang, query, asterisk, cross}
-use Rattle.grammar.specs.Syntax.{Choice, Sequence, Prefixed, Suffixed, Primary, Rules, one, or, first, next, bare, with, only, then, psym, term, group, rule, more}
+use Rattle.grammar.specs.Syntax.{Choice, Sequence, Prefixed, Suffixed, Primary, Rules, one, or, first, next, bare, with, only, then, psym}
+use Rattle.grammar.specs.Syntax.{term, group, rule, more}
 use Rattle.grammar.specs.Exp.{Exp, Rule, sym, ter, seq, alt, opt, star, plus, ahead, never}
 
 abbrev pub prefixed : Prefix → Exp Symbol → Exp Symbol

@@ -14,7 +14,7 @@ use Rattle.grammar_table.specs.Table.{wordsFrom}
 use Rattle.grammar_table.specs.laws.Caps.{cap-le}
 use Rattle.grammar_table.specs.laws.Seeks.{seek-within}
 use Rattle.grammar_table.specs.laws.Words.{words-here, words-at, words-none}
-use Rattle.grammar_table.specs.Rows.{cap, rowIs, seek, kept, Noted}
+use Rattle.grammar_table.specs.steps.Rows.{cap, rowIs, seek, kept, Noted}
 
 -- ── words ──
 same-cons : (x y : ℕ) (s t : List ℕ) → x ≡ y → sameBytes (x ∷ s) (y ∷ t) ≡ sameBytes s t

@@ -1,5 +1,5 @@
-pub mod Rows
 pub mod Table
 pub mod Holds
 pub mod Trees
+pub mod steps
 pub mod laws

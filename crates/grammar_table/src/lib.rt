@@ -6,7 +6,7 @@ ghost use lib.ListN.{set, length};
 ghost use lib.Seq.{sets};
 ghost use Rattle.grammar.specs.Same.{sameBytes};
 ghost use Rattle.grammar_table.specs.Table.{wordsFrom};
-ghost use Rattle.grammar_table.specs.Rows.{rowIs, seek, cap, Noted};
+ghost use Rattle.grammar_table.specs.steps.Rows.{rowIs, seek, cap, Noted};
 ghost use Rattle.grammar_table.specs.Trees.{below};
 use base_words::put;
 use base_words::word;

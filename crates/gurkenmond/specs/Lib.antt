@@ -1,6 +1,5 @@
 pub mod Answers
 pub mod Calls
-pub mod Puts
 pub mod Runs
-pub mod Asks
+pub mod steps
 pub mod laws

@@ -8,7 +8,7 @@ use Rattle.grammar.specs.Numbers.{Grammar}
 use Rattle.lake_calls.specs.Calls.{loop}
 use Rattle.match_nodes.specs.declared.Listed.{Listed}
 use Rattle.match_nodes.specs.declared.Listed.the-variants.{All, Deep, Full}
-use Rattle.match_cells.specs.Runs.{Plain}
+use Rattle.match_cells.specs.steps.Runs.{Plain}
 use Rattle.prepare.specs.Prepare.{Prepared}
 use Rattle.prepare.specs.declared.Verdict.{Verdict}
 use Rattle.prepare.specs.declared.Verdict.the-variants.{Accepted, Refused as VerdictRefused}

@@ -6,8 +6,8 @@ ghost use Rattle.gurkenmond.specs.Calls.{noSets, setsOf, cannotSkipOf, m
 ghost use Rattle.match_nodes.specs.Nodes.{soundAt, nodeText};
 ghost use Rattle.prepare.specs.declared.Verdict.the-variants.{Refused as VerdictRefused};
 ghost use Rattle.gurkenmond.specs.Runs.{Loopless, Says, Ran, listedMatch, notMatched};
-ghost use Rattle.gurkenmond.specs.Asks.{notAsked, Standing, Asked};
-ghost use Rattle.gurkenmond.specs.Puts.{notWritten, PutText};
+ghost use Rattle.gurkenmond.specs.steps.Asks.{notAsked, Standing, Asked};
+ghost use Rattle.gurkenmond.specs.steps.Puts.{notWritten, PutText};
 use grammar_table::Table;
 pub use prepare::Counted;
 pub use prepare::Verdict;
@@ -197,7 +197,8 @@ fn not_written(v: Verdict) -> Written
 
 // A grammar's own text: "Rules that the grammar has" (01, Writing).
 pub fn write_own(mode: Mode, text: &[u8], out: &mut [u8]) -> Written
-    ensures { λ r. ⌜ (r ≡ writeOwnOf mode (now (text .entry)) (now (out .entry)) .answer) × (now (out .exit) ≡ writeOwnOf mode (now (text .entry)) (now (out .entry)) .out) ⌝ }
+    ensures { λ r. ⌜ (r ≡ writeOwnOf mode (now (text .entry)) (now (out .entry)) .answer)
+        × (now (out .exit) ≡ writeOwnOf mode (now (text .entry)) (now (out .entry)) .out) ⌝ }
 {
     let mut t: Table = [0; grammar_table::WORDS];
     let mut plain: Table = [0; grammar_table::WORDS];
@@ -211,7 +212,8 @@ pub fn write_own(mode: Mode, text: &[u8], out: &mut [u8]) -> Written
 
 // The plain text of a grammar: "in plain, every symbol's"; of a plain grammar it is its own.
 pub fn write_plain(mode: Mode, text: &[u8], out: &mut [u8]) -> Written
-    ensures { λ r. ⌜ (r ≡ writePlainOf mode (now (text .entry)) (now (out .entry)) .answer) × (now (out .exit) ≡ writePlainOf mode (now (text .entry)) (now (out .entry)) .out) ⌝ }
+    ensures { λ r. ⌜ (r ≡ writePlainOf mode (now (text .entry)) (now (out .entry)) .answer)
+        × (now (out .exit) ≡ writePlainOf mode (now (text .entry)) (now (out .entry)) .out) ⌝ }
 {
     let mut t: Table = [0; grammar_table::WORDS];
     let mut plain: Table = [0; grammar_table::WORDS];
@@ -315,7 +317,8 @@ pub fn match_input(
     cells: &mut [u32],
     nodes: &mut [u32],
 ) -> Match
-    ensures { λ r. ⌜ Says r (now (cells .exit)) (now (nodes .exit)) (matchOf mode (now (text .entry)) (now (input .entry)) (now (cells .entry)) (now (nodes .entry))) ⌝ }
+    ensures { λ r.
+        ⌜ Says r (now (cells .exit)) (now (nodes .exit)) (matchOf mode (now (text .entry)) (now (input .entry)) (now (cells .entry)) (now (nodes .entry))) ⌝ }
 {
     let mut t: Table = [0; grammar_table::WORDS];
     let mut plain: Table = [0; grammar_table::WORDS];
@@ -389,7 +392,9 @@ fn ask(
     place: usize,
 ) -> Way
     requires { ⌜ Standing (now t) (now mid) (now alts) (now plain) ⌝ }
-    ensures { λ r. ⌜ Asked (now (t .entry)) (now (mid .entry)) (now (alts .entry)) (now (plain .entry)) (now (input .entry)) (now (cells .entry)) lake place (now (cells .exit)) r ⌝ }
+    ensures { λ r.
+        ⌜ Asked (now (t .entry)) (now (mid .entry)) (now (alts .entry)) (now (plain .entry)) (now (input .entry)) (now (cells .entry)) lake place
+        (now (cells .exit)) r ⌝ }
 {
     if 65535 < input.len() {
         return refused_way(9, 65535);
@@ -423,7 +428,8 @@ pub fn lake_at(
     lake: usize,
     place: usize,
 ) -> Way
-    ensures { λ r. ⌜ (r ≡ lakeOf mode (now (text .entry)) (now (input .entry)) (now (cells .entry)) lake place .way) × (now (cells .exit) ≡ lakeOf mode (now (text .entry)) (now (input .entry)) (now (cells .entry)) lake place .cells) ⌝ }
+    ensures { λ r. ⌜ (r ≡ lakeOf mode (now (text .entry)) (now (input .entry)) (now (cells .entry)) lake place .way)
+        × (now (cells .exit) ≡ lakeOf mode (now (text .entry)) (now (input .entry)) (now (cells .entry)) lake place .cells) ⌝ }
 {
     let mut t: Table = [0; grammar_table::WORDS];
     let mut mid: Table = [0; grammar_table::WORDS];

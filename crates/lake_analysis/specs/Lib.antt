@@ -1,3 +1,3 @@
-pub mod Lent
 pub mod Rules
+pub mod steps
 pub mod laws

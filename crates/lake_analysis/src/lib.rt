@@ -3,9 +3,9 @@ ghost use mathlib.Core.Bool.{Bool, true, false};
 ghost use mathlib.Core.List.{List, [], _∷_};
 ghost use Prim.Native.Nat.{ℕ, _+_, _-_, _*_, _^_, _<_, _≤_};
 ghost use lib.ListN.{length, getD, set, take};
-ghost use Rattle.lake_analysis.specs.Lent.{Begins, Parted, Fronted, SetsOf, lakeIn, hitIn, blockedIn, skipIn, skipsIn, CannotSkip};
+ghost use Rattle.lake_analysis.specs.steps.Lent.{Begins, Parted, Fronted, SetsOf, lakeIn, hitIn, blockedIn, skipIn, skipsIn, CannotSkip};
 ghost use mathlib.Core.Bool.{cond, _||_};
-ghost use Rattle.lake_sets.specs.Steps.{rootIn};
+ghost use Rattle.lake_sets.specs.steps.Steps.{rootIn};
 ghost use Rattle.base_words.specs.Set.{empty as none};
 
 // ε marks by symbol, then BEGINNING of every expression (01, Lakes made plain).
@@ -30,8 +30,12 @@ pub fn analyse(
     src: &mut [usize; 2048],
     dst: &mut [usize; 2048],
 ) -> usize
-    requires { ⌜ (length (now marks) ≤ 64) × (length (now base) ≤ 1024) × (length (now sets) ≡ length (now base)) × (length (now eps) ≡ length (now base)) × (length (now succ) ≡ length (now base)) × (length (now alts) ≡ length (now base)) × (length (now next) ≡ length (now base)) ⌝ }
-    ensures { λ r. ⌜ Parted (now (t .entry)) (length (now (base .entry))) (length (now (marks .entry))) (now (marks .exit)) (now (sets .exit)) (now (eps .exit)) (now (succ .exit)) (now (alts .exit)) r ⌝ }
+    requires { ⌜ (length (now marks) ≤ 64) × (length (now base) ≤ 1024) × (length (now sets) ≡ length (now base))
+        × (length (now eps) ≡ length (now base)) × (length (now succ) ≡ length (now base)) × (length (now alts) ≡ length (now base))
+        × (length (now next) ≡ length (now base)) ⌝ }
+    ensures { λ r.
+        ⌜ Parted (now (t .entry)) (length (now (base .entry))) (length (now (marks .entry))) (now (marks .exit)) (now (sets .exit)) (now (eps .exit))
+        (now (succ .exit)) (now (alts .exit)) r ⌝ }
 {
     begins(t, marks, sets, eps);
     let first = lake_sets::succeed_all(t, sets, eps, src, dst, base, succ, next);
@@ -53,8 +57,11 @@ fn analyse_front(
     src: &mut [usize; 2048],
     dst: &mut [usize; 2048],
 ) -> usize
-    requires { ⌜ (r ≤ 64) × (n ≤ 1024) × (r ≤ length (now marks)) × (n ≤ length (now sets)) × (n ≤ length (now eps)) × (n ≤ length (now succ)) × (n ≤ length (now alts)) × (n ≤ length (now base)) × (n ≤ length (now next)) ⌝ }
-    ensures { λ k. ⌜ Parted (now (t .entry)) n r (take r (now (marks .exit))) (take n (now (sets .exit))) (take n (now (eps .exit))) (take n (now (succ .exit))) (take n (now (alts .exit))) k ⌝ }
+    requires { ⌜ (r ≤ 64) × (n ≤ 1024) × (r ≤ length (now marks)) × (n ≤ length (now sets)) × (n ≤ length (now eps)) × (n ≤ length (now succ))
+        × (n ≤ length (now alts)) × (n ≤ length (now base)) × (n ≤ length (now next)) ⌝ }
+    ensures { λ k.
+        ⌜ Parted (now (t .entry)) n r (take r (now (marks .exit))) (take n (now (sets .exit))) (take n (now (eps .exit))) (take n (now (succ .exit)))
+        (take n (now (alts .exit))) k ⌝ }
 {
     analyse(
         t,

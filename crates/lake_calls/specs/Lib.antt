@@ -1,5 +1,3 @@
-pub mod Firsts
-pub mod Place
 pub mod Calls
+pub mod steps
 pub mod laws
-pub mod Marks

@@ -4,7 +4,7 @@ ghost use mathlib.Core.Path.{_≡_};
 ghost use mathlib.Core.Bool.{Bool, true, false};
 ghost use mathlib.Core.List.{List};
 ghost use lib.ListN.{length, getD, replicate};
-ghost use Rattle.lake_calls.specs.Marks.{Round, AllMarks, Looped, LoopedAll};
+ghost use Rattle.lake_calls.specs.steps.Marks.{Round, AllMarks, Looped, LoopedAll};
 ghost use Rattle.grammar_table.specs.Table.{symbolCount};
 
 fn unmark(marks: &mut [bool])

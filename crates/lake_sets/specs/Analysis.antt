@@ -33,7 +33,8 @@ analysed marks roots parts most =
     let bs : ℕ → Beginning = λ i. getD begins i nothing in
     let root : ℕ → ℕ = λ r. getD roots r 0 in
     let succeed : Settled (List (List ℕ)) = leastBy most (length parts) (over (succeedGifts bs root) 0 parts) (over (succeedEdges bs root) 0 parts) in
-    let alt : Settled (List (List ℕ)) = leastBy most (length parts) (over (altGifts bs root (λ i. getD (succeed .state) i empty)) 0 parts) (over (altEdges bs root) 0 parts) in
+    let alt : Settled (List (List ℕ)) = leastBy most (length parts) (over (altGifts bs root (λ i. getD (succeed .state) i empty)) 0 parts)
+    (over (altEdges bs root) 0 parts) in
     record { marks = marks; roots = roots; begins = begins; succeeds = succeed .state; alts = alt .state; rounds = alt .count }
 
 unfoldable pub analysis : Grammar → Analysis

@@ -63,7 +63,8 @@ module _ (bs : ℕ → Beginning) (root : ℕ → ℕ) where
   altGifts succeed i (affirms e) = []
   altGifts succeed i (denies e) = []
 
-  -- "In a b: a gets the sequence's; b gets it only if a has ε. In a / b: both get the choice's. Under `? * +`: e gets the whole's ALT. Under `&` and `!`: nothing"
+  -- "In a b: a gets the sequence's; b gets it only if a has ε. In a / b: both get the choice's. Under `? * +`: e gets the whole's ALT. Under `&`
+  -- and `!`: nothing"
   abbrev pub altEdges : ℕ → Part → List Edge
   altEdges i (terminal t) = []
   altEdges i (occurs r) = edge i (root r) ∷ []

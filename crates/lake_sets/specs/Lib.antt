@@ -1,6 +1,5 @@
 pub mod Beginning
 pub mod Flows
 pub mod Analysis
-pub mod Steps
-pub mod Analysed
+pub mod steps
 pub mod laws

@@ -6,7 +6,8 @@ ghost use lib.ListN.{length, getD, set, replicate, take};
 ghost use Rattle.base_words.specs.Set.{empty, unionOf};
 ghost use Rattle.grammar_table.specs.Table.{partBy, partIn, upTo, symbolWord};
 ghost use Rattle.lake_sets.specs.Beginning.{nothing, marked, beginBy};
-ghost use Rattle.lake_sets.specs.Steps.{pairAt, rootIn, Small, Tame, Begun, BegunAll, MarkedOnce, MarkedAll, kept, edgesBy, Grown, handed, succeedGiven, altGiven, Fine, Gave, Flowed, RoundsAsk};
+ghost use Rattle.lake_sets.specs.steps.Steps.{pairAt, rootIn, Small, Tame, Begun, BegunAll, MarkedOnce, MarkedAll, kept, edgesBy, Grown};
+ghost use Rattle.lake_sets.specs.steps.Steps.{handed, succeedGiven, altGiven, Fine, Gave, Flowed, RoundsAsk};
 ghost use Rattle.lake_sets.specs.Flows.{edge as edgeTo, gift as giftTo, succeedGifts, altGifts, given, when};
 ghost use Rattle.base_rounds.specs.laws.Sys.{none, edges, Solved};
 ghost use Rattle.base_rounds.specs.laws.Pair.{Set2};
@@ -63,7 +64,8 @@ pub fn bit(k: usize) -> u64
 
 // BEGINNING without ε of an expression, from those of its parts (01, BEGINNING).
 fn begin_set(sets: &[[u64; 2]], eps: &[bool], k: Record) -> [u64; 2]
-    ensures { λ r. ⌜ (Small (partBy (k .op) (k .left) (k .right)) → r ≡ beginBy (λ x. false) (pairAt (now (sets .entry)) (now (eps .entry))) (partBy (k .op) (k .left) (k .right)) .set) ⌝ }
+    ensures { λ r. ⌜ (Small (partBy (k .op) (k .left) (k .right))
+        → r ≡ beginBy (λ x. false) (pairAt (now (sets .entry)) (now (eps .entry))) (partBy (k .op) (k .left) (k .right)) .set) ⌝ }
 {
     let op = k.op;
     let l = k.left;
@@ -285,7 +287,9 @@ fn hand_on(
     n: usize,
 ) -> usize
     requires { ⌜ m ≤ 2046 ⌝ }
-    ensures { λ r. ⌜ Grown (now (src .entry)) (now (dst .entry)) m (kept n (edgeTo from x ∷ when (getD (now (eps .entry)) x false) (edgeTo from y))) (now (src .exit)) (now (dst .exit)) r ⌝ }
+    ensures { λ r.
+        ⌜ Grown (now (src .entry)) (now (dst .entry)) m (kept n (edgeTo from x ∷ when (getD (now (eps .entry)) x false) (edgeTo from y)))
+        (now (src .exit)) (now (dst .exit)) r ⌝ }
 {
     if flag_at(eps, x) {
         return add_two(src, dst, m, from, x, y, n);
@@ -305,7 +309,9 @@ fn hand(
     n: usize,
 ) -> usize
     requires { ⌜ (m ≤ 2046) × (e < 1024) ⌝ }
-    ensures { λ r. ⌜ Grown (now (src .entry)) (now (dst .entry)) m (kept n (edgesBy back (pairAt [] (now (eps .entry))) (rootIn (now (t .entry))) e (partIn (now (t .entry)) e))) (now (src .exit)) (now (dst .exit)) r ⌝ }
+    ensures { λ r.
+        ⌜ Grown (now (src .entry)) (now (dst .entry)) m
+        (kept n (edgesBy back (pairAt [] (now (eps .entry))) (rootIn (now (t .entry))) e (partIn (now (t .entry)) e))) (now (src .exit)) (now (dst .exit)) r ⌝ }
 {
     let k = node(t, e);
     let op = k.op;
@@ -392,7 +398,8 @@ fn gift(base: &mut [[u64; 2]], i: usize, s: [u64; 2])
 // What expression e gives at once for SUCCEED.
 fn succeed_gift(t: &grammar_table::Table, sets: &[[u64; 2]], base: &mut [[u64; 2]], e: usize)
     requires { ⌜ e < 1024 ⌝ }
-    ensures { λ u. ⌜ Gave (succeedGifts (pairAt (now (sets .entry)) []) (rootIn (now (t .entry))) e (partIn (now (t .entry)) e)) (now (base .entry)) (now (base .exit)) ⌝ }
+    ensures { λ u.
+        ⌜ Gave (succeedGifts (pairAt (now (sets .entry)) []) (rootIn (now (t .entry))) e (partIn (now (t .entry)) e)) (now (base .entry)) (now (base .exit)) ⌝ }
 {
     let k = node(t, e);
     let op = k.op;
@@ -427,7 +434,10 @@ fn alt_gift(
     e: usize,
 )
     requires { ⌜ e < 1024 ⌝ }
-    ensures { λ u. ⌜ Gave (altGifts (pairAt (now (sets .entry)) (now (eps .entry))) (rootIn (now (t .entry))) (λ i. getD (now (succ .entry)) i empty) e (partIn (now (t .entry)) e)) (now (base .entry)) (now (base .exit)) ⌝ }
+    ensures { λ u.
+        ⌜ Gave
+        (altGifts (pairAt (now (sets .entry)) (now (eps .entry))) (rootIn (now (t .entry))) (λ i. getD (now (succ .entry)) i empty) e
+        (partIn (now (t .entry)) e)) (now (base .entry)) (now (base .exit)) ⌝ }
 {
     let k = node(t, e);
     let op = k.op;
@@ -462,7 +472,9 @@ fn alt_gift(
 
 fn succeed_base(t: &grammar_table::Table, sets: &[[u64; 2]], base: &mut [[u64; 2]])
     requires { ⌜ length (now base) ≤ 1024 ⌝ }
-    ensures { λ u. ⌜ (now (base .exit) ≡ given (succeedGiven (now (t .entry)) (now (sets .entry)) (length (now (base .entry)))) (none (length (now (base .entry))))) × Fine (now (base .exit)) ⌝ }
+    ensures { λ u. ⌜ (now (base .exit)
+        ≡ given (succeedGiven (now (t .entry)) (now (sets .entry)) (length (now (base .entry)))) (none (length (now (base .entry)))))
+        × Fine (now (base .exit)) ⌝ }
 {
     base_rounds::clear(base);
     let mut e = 0;
@@ -480,7 +492,9 @@ fn alt_base(
     base: &mut [[u64; 2]],
 )
     requires { ⌜ length (now base) ≤ 1024 ⌝ }
-    ensures { λ u. ⌜ (now (base .exit) ≡ given (altGiven (now (t .entry)) (now (sets .entry)) (now (eps .entry)) (now (succ .entry)) (length (now (base .entry)))) (none (length (now (base .entry))))) × Fine (now (base .exit)) ⌝ }
+    ensures { λ u. ⌜ (now (base .exit)
+        ≡ given (altGiven (now (t .entry)) (now (sets .entry)) (now (eps .entry)) (now (succ .entry)) (length (now (base .entry))))
+        (none (length (now (base .entry))))) × Fine (now (base .exit)) ⌝ }
 {
     base_rounds::clear(base);
     let mut e = 0;
@@ -517,7 +531,9 @@ pub fn succeed_all(
     next: &mut [[u64; 2]],
 ) -> usize
     requires { ⌜ (length (now base) ≤ 1024) × (length (now cur) ≡ length (now base)) × (length (now next) ≡ length (now base)) ⌝ }
-    ensures { λ r. ⌜ Flowed (length (now (base .entry))) (succeedGiven (now (t .entry)) (now (sets .entry)) (length (now (base .entry)))) (handed (now (t .entry)) (now (eps .entry)) true (length (now (base .entry))) (length (now (base .entry)))) r (now (cur .exit)) ⌝ }
+    ensures { λ r.
+        ⌜ Flowed (length (now (base .entry))) (succeedGiven (now (t .entry)) (now (sets .entry)) (length (now (base .entry))))
+        (handed (now (t .entry)) (now (eps .entry)) true (length (now (base .entry))) (length (now (base .entry)))) r (now (cur .exit)) ⌝ }
 {
     succeed_base(t, sets, base);
     let n = base.len();
@@ -538,7 +554,10 @@ pub fn alt_all(
     next: &mut [[u64; 2]],
 ) -> usize
     requires { ⌜ (length (now base) ≤ 1024) × (length (now cur) ≡ length (now base)) × (length (now next) ≡ length (now base)) ⌝ }
-    ensures { λ r. ⌜ Flowed (length (now (base .entry))) (altGiven (now (t .entry)) (now (sets .entry)) (now (eps .entry)) (now (succ .entry)) (length (now (base .entry)))) (handed (now (t .entry)) (now (eps .entry)) false (length (now (base .entry))) (length (now (base .entry)))) r (now (cur .exit)) ⌝ }
+    ensures { λ r.
+        ⌜ Flowed (length (now (base .entry)))
+        (altGiven (now (t .entry)) (now (sets .entry)) (now (eps .entry)) (now (succ .entry)) (length (now (base .entry))))
+        (handed (now (t .entry)) (now (eps .entry)) false (length (now (base .entry))) (length (now (base .entry)))) r (now (cur .exit)) ⌝ }
 {
     alt_base(t, sets, eps, succ, base);
     let n = base.len();

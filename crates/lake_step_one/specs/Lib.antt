@@ -1,5 +1,4 @@
-pub mod Runs
-pub mod Made
 pub mod Intermediate
 pub mod Proper
+pub mod steps
 pub mod laws

@@ -4,9 +4,9 @@ ghost use mathlib.Core.List.{List, [], _∷_};
 ghost use Prim.Native.Nat.{ℕ, _+_, _-_, _*_, _^_, _<_, _≤_};
 ghost use lib.ListN.{length, getD, set};
 ghost use lib.Dec.{eqb};
-ghost use Rattle.lake_step_one.specs.Runs.{Near, stored, CopiedOne, CopiedRun, WaterTo, BodyTo};
-ghost use Rattle.lake_step_one.specs.Runs.{moved as movedTo};
-ghost use Rattle.lake_step_one.specs.Made.{nextBy, lakeAt, MadeNext, WaterAt, SteppedOne, BuiltAll};
+ghost use Rattle.lake_step_one.specs.steps.Runs.{Near, stored, CopiedOne, CopiedRun, WaterTo, BodyTo};
+ghost use Rattle.lake_step_one.specs.steps.Runs.{moved as movedTo};
+ghost use Rattle.lake_step_one.specs.steps.Made.{nextBy, lakeAt, MadeNext, WaterAt, SteppedOne, BuiltAll};
 ghost use Rattle.grammar_table.specs.Table.{expressionsAt, symbolWord, nameIn};
 ghost use Rattle.grammar.specs.Same.{sameSymbol};
 ghost use Rattle.lake_step_one.specs.Intermediate.{waterName};
@@ -189,7 +189,8 @@ fn symbol(
     m: usize,
 ) -> Reached
     requires { ⌜ (r < 64) × (wa < 4294967296) × (wb < 4294967296) × (from < 4294967296) × (m < 70368744177664) ⌝ }
-    ensures { λ u. ⌜ (u .from < 4294967296) × (u .count ≤ m + 12884901888) × MadeNext (now (t .entry)) r wa wb from m (now (mid .entry)) (u .from) (u .count) (now (mid .exit)) ⌝ }
+    ensures { λ u. ⌜ (u .from < 4294967296) × (u .count ≤ m + 12884901888)
+        × MadeNext (now (t .entry)) r wa wb from m (now (mid .entry)) (u .from) (u .count) (now (mid .exit)) ⌝ }
 {
     let at = grammar_table::SYMBOLS_AT + grammar_table::SYMBOL_WORDS * r;
     let kind = base_words::word(t, at);

@@ -1,4 +1,3 @@
-pub mod Skips
-pub mod Stepped
+pub mod steps
 pub mod laws
 pub mod Plain

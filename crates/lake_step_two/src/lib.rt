@@ -3,9 +3,9 @@ ghost use mathlib.Core.Bool.{Bool, true, false};
 ghost use mathlib.Core.List.{List, [], _∷_};
 ghost use Prim.Native.Nat.{ℕ, _+_, _-_, _*_, _^_, _<_, _≤_};
 ghost use lib.ListN.{length, getD, set};
-ghost use Rattle.lake_step_one.specs.Made.{lakeAt};
-ghost use Rattle.lake_step_two.specs.Skips.{Added, AddedSymbol, AddedTerminal, AddedSymbols, AddedTerminals, ChoiceTo, SkipTo, PlainTo};
-ghost use Rattle.lake_step_two.specs.Stepped.{PlainNext, PlainAll, SteppedTwo};
+ghost use Rattle.lake_step_one.specs.steps.Made.{lakeAt};
+ghost use Rattle.lake_step_two.specs.steps.Skips.{Added, AddedSymbol, AddedTerminal, AddedSymbols, AddedTerminals, ChoiceTo, SkipTo, PlainTo};
+ghost use Rattle.lake_step_two.specs.steps.Stepped.{PlainNext, PlainAll, SteppedTwo};
 
 // One alternative more, behind the first m; the choice that ends there began at o, and there is none where m is o (01, step 2: `s1 / .. / sn`).
 fn add(out: &mut [u32], op: usize, x: usize, o: usize, m: usize) -> usize
@@ -174,7 +174,8 @@ fn symbol(
     m: usize,
 ) -> lake_step_one::Reached
     requires { ⌜ (r ≤ 64) × (x ≤ 64) × (s < 64) × (from < 4294967296) × (m < 70364449210368) ⌝ }
-    ensures { λ u. ⌜ (u .from < 4294967296) × (u .count ≤ m + 4294967556) × PlainNext (now (t .entry)) (now (alts .entry)) r x s from m (now (out .entry)) (u .from) (u .count) (now (out .exit)) ⌝ }
+    ensures { λ u. ⌜ (u .from < 4294967296) × (u .count ≤ m + 4294967556)
+        × PlainNext (now (t .entry)) (now (alts .entry)) r x s from m (now (out .entry)) (u .from) (u .count) (now (out .exit)) ⌝ }
 {
     let at = grammar_table::SYMBOLS_AT + grammar_table::SYMBOL_WORDS * s;
     let kind = base_words::word(t, at);

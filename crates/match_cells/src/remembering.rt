@@ -7,7 +7,7 @@ ghost use Rattle.grammar_table.specs.Table.{wordsFrom, symbolCount};
 ghost use Rattle.match_cells.specs.Cells.{bodyAt, rowOf, fillOf};
 ghost use Rattle.match_cells.specs.Eval.{ev};
 ghost use Rattle.grammar_table.specs.Trees.{treeOf, bodiesOf};
-ghost use Rattle.match_cells.specs.Rounds.{roundsOf, Says, Knows, Noted};
+ghost use Rattle.match_cells.specs.steps.Rounds.{roundsOf, Says, Knows, Noted};
 
 // Where rounds of part x from q on are kept: w places of each part, the nearest ones. Any answer would do, for an entry says what it is about.
 fn slot(x: usize, q: usize, w: usize) -> usize
@@ -47,7 +47,8 @@ fn eval(
     x: usize,
     p: usize,
 ) -> usize
-    requires { ⌜ ((n ≤ 64) × (x ≤ 4294967296) × (w ≤ 4096) × (length (now s) ≤ 65535) × (p ≤ length (now s))) × Knows (now t) (now s) (now cells) n (now ends) 0 ⌝ }
+    requires { ⌜ ((n ≤ 64) × (x ≤ 4294967296) × (w ≤ 4096) × (length (now s) ≤ 65535) × (p ≤ length (now s)))
+        × Knows (now t) (now s) (now cells) n (now ends) 0 ⌝ }
     ensures { λ r. ⌜ r ≡ ev (now (s .entry)) (now (cells .entry)) n (treeOf (now (t .entry)) x) p ⌝ }
 {
     if x == 0 {
@@ -126,7 +127,8 @@ fn many(
     x: usize,
     p: usize,
 ) -> usize
-    requires { ⌜ ((n ≤ 64) × (x ≤ 4294967296) × (w ≤ 4096) × (length (now s) ≤ 65535) × (p ≤ length (now s))) × Knows (now t) (now s) (now cells) n (now ends) 0 ⌝ }
+    requires { ⌜ ((n ≤ 64) × (x ≤ 4294967296) × (w ≤ 4096) × (length (now s) ≤ 65535) × (p ≤ length (now s)))
+        × Knows (now t) (now s) (now cells) n (now ends) 0 ⌝ }
     ensures { λ r. ⌜ r ≡ roundsOf (now (t .entry)) (now (s .entry)) (now (cells .entry)) n x p ⌝ }
 {
     let mut k = s.len();
@@ -221,8 +223,12 @@ fn store(
     r: usize,
     p: usize,
 )
-    requires { ⌜ ((n ≡ symbolCount (now t)) × (n ≤ 64) × (r < n) × (w ≤ 4096) × (length (now s) ≤ 65535) × (p ≤ length (now s))) × Knows (now t) (now s) (now cells) n (now ends) (p + 1) ⌝ }
-    ensures { λ _. ⌜ (now (cells .exit) ≡ set (now (cells .entry)) (p * length (bodiesOf (now (t .entry))) + r) (bodyAt (bodiesOf (now (t .entry))) (now (s .entry)) (now (cells .entry)) r p)) × Knows (now (t .entry)) (now (s .entry)) (now (cells .exit)) n (now (ends .entry)) (p + 1) ⌝ }
+    requires { ⌜ ((n ≡ symbolCount (now t)) × (n ≤ 64) × (r < n) × (w ≤ 4096) × (length (now s) ≤ 65535) × (p ≤ length (now s)))
+        × Knows (now t) (now s) (now cells) n (now ends) (p + 1) ⌝ }
+    ensures { λ _. ⌜ (now (cells .exit)
+        ≡ set (now (cells .entry)) (p * length (bodiesOf (now (t .entry))) + r)
+        (bodyAt (bodiesOf (now (t .entry))) (now (s .entry)) (now (cells .entry)) r p))
+        × Knows (now (t .entry)) (now (s .entry)) (now (cells .exit)) n (now (ends .entry)) (p + 1) ⌝ }
 {
     let b = base_words::word(
         t,
@@ -243,8 +249,10 @@ fn row(
     w: usize,
     p: usize,
 )
-    requires { ⌜ ((n ≡ symbolCount (now t)) × (n ≤ 64) × ((j : ℕ) → j < n → getD (now order) j 0 < n) × (w ≤ 4096) × (length (now s) ≤ 65535) × (p ≤ length (now s))) × Knows (now t) (now s) (now cells) n (now ends) (p + 1) ⌝ }
-    ensures { λ _. ⌜ (now (cells .exit) ≡ rowOf (bodiesOf (now (t .entry))) (now (s .entry)) p (wordsFrom (now (order .entry)) 0 n) (now (cells .entry))) × Knows (now (t .entry)) (now (s .entry)) (now (cells .exit)) n (now (ends .entry)) (p + 1) ⌝ }
+    requires { ⌜ ((n ≡ symbolCount (now t)) × (n ≤ 64) × ((j : ℕ) → j < n → getD (now order) j 0 < n) × (w ≤ 4096) × (length (now s) ≤ 65535)
+        × (p ≤ length (now s))) × Knows (now t) (now s) (now cells) n (now ends) (p + 1) ⌝ }
+    ensures { λ _. ⌜ (now (cells .exit) ≡ rowOf (bodiesOf (now (t .entry))) (now (s .entry)) p (wordsFrom (now (order .entry)) 0 n) (now (cells .entry)))
+        × Knows (now (t .entry)) (now (s .entry)) (now (cells .exit)) n (now (ends .entry)) (p + 1) ⌝ }
 {
     let mut j: usize = 0;
     while j < n {
@@ -266,7 +274,8 @@ fn rows(
     m: usize,
     k: usize,
 )
-    requires { ⌜ ((n ≡ symbolCount (now t)) × (n ≤ 64) × ((j : ℕ) → j < n → getD (now order) j 0 < n) × (m ≤ 65536) × (w ≤ 4096) × (length (now s) ≤ 65535) × (k ≤ length (now s) + 1)) × Knows (now t) (now s) (now cells) n (now ends) k ⌝ }
+    requires { ⌜ ((n ≡ symbolCount (now t)) × (n ≤ 64) × ((j : ℕ) → j < n → getD (now order) j 0 < n) × (m ≤ 65536) × (w ≤ 4096)
+        × (length (now s) ≤ 65535) × (k ≤ length (now s) + 1)) × Knows (now t) (now s) (now cells) n (now ends) k ⌝ }
     ensures { λ _. ⌜ now (cells .exit) ≡ fillOf (bodiesOf (now (t .entry))) (now (s .entry)) k (wordsFrom (now (order .entry)) 0 n) (now (cells .entry)) ⌝ }
 {
     let mut i = k;

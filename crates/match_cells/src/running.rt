@@ -3,7 +3,7 @@ ghost use Prim.Native.Nat.{ℕ, _≤_};
 ghost use mathlib.Core.Path.{_≡_};
 ghost use lib.ListN.{length};
 ghost use Rattle.grammar_table.specs.Table.{symbolCount};
-ghost use Rattle.match_cells.specs.Runs.{OrderedIn, Fills};
+ghost use Rattle.match_cells.specs.steps.Runs.{OrderedIn, Fills};
 
 // The symbols of a table by rank, then by number, at the front of `order`: how many.
 pub fn order_in(
@@ -14,7 +14,8 @@ pub fn order_in(
     ranks: &mut [usize],
     order: &mut [u32],
 ) -> usize
-    requires { ⌜ (length (now calls) ≤ 64) × (length (now marks) ≡ length (now calls)) × (length (now next) ≡ length (now calls)) × (length (now ranks) ≡ length (now calls)) × (length (now calls) ≤ length (now order)) ⌝ }
+    requires { ⌜ (length (now calls) ≤ 64) × (length (now marks) ≡ length (now calls)) × (length (now next) ≡ length (now calls))
+        × (length (now ranks) ≡ length (now calls)) × (length (now calls) ≤ length (now order)) ⌝ }
     ensures { λ z. ⌜ OrderedIn (now (t .entry)) (length (now (calls .entry))) (now (order .entry)) (now (order .exit)) ⌝ }
 {
     lake_calls::loops::mark_all(t, marks, next);
@@ -33,7 +34,8 @@ fn order_front(
     ranks: &mut [usize],
     order: &mut [u32],
 ) -> usize
-    requires { ⌜ (n ≤ 64) × (n ≤ length (now marks)) × (n ≤ length (now next)) × (n ≤ length (now calls)) × (n ≤ length (now ranks)) × (n ≤ length (now order)) ⌝ }
+    requires { ⌜ (n ≤ 64) × (n ≤ length (now marks)) × (n ≤ length (now next)) × (n ≤ length (now calls)) × (n ≤ length (now ranks))
+        × (n ≤ length (now order)) ⌝ }
     ensures { λ z. ⌜ OrderedIn (now (t .entry)) n (now (order .entry)) (now (order .exit)) ⌝ }
 {
     order_in(

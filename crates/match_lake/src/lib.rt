@@ -128,7 +128,8 @@ fn terminal_fails(t: &[u32], s: &[u8], alt: [u64; 2], i: usize, p: usize) -> boo
 
 fn terminals_fail(t: &[u32], s: &[u8], m: usize, alt: [u64; 2], p: usize) -> bool
     requires { ⌜ (m ≤ 64) × (length (now s) ≤ 65535) × (p ≤ length (now s)) ⌝ }
-    ensures { λ r. ⌜ ((cells : List ℕ) → (n : ℕ) → r ≡ noneMatches (now (s .entry)) cells n (terminalsIn alt 0 (drop 0 (upTo (leafIn (now (t .entry))) m))) p) ⌝ }
+    ensures { λ r. ⌜ ((cells : List ℕ) → (n : ℕ)
+        → r ≡ noneMatches (now (s .entry)) cells n (terminalsIn alt 0 (drop 0 (upTo (leafIn (now (t .entry))) m))) p) ⌝ }
 {
     let mut i: usize = 0;
     while i < m {

@@ -61,17 +61,21 @@ pub data Tries (g : Meant) (s : List ℕ) : ℕ → Ask → ℕ → ℕ → List
   sym-takes : {d r p m : ℕ} {ns : List Node} → Tries g s (suc d) (inside (g .body r)) p (suc m) ns → Tries g s d (exp (sym r)) p (suc m) (nd r p (p + m) d ∷ ns)
   sym-fails : {d r p : ℕ} {ns : List Node} → Tries g s (suc d) (inside (g .body r)) p 0 ns → Tries g s d (exp (sym r)) p 0 []
   seq-fails : {d p : ℕ} {a b : Exp ℕ} {ns : List Node} → Tries g s d (exp a) p 0 ns → Tries g s d (exp (seq a b)) p 0 []
-  seq-fails-later : {d p m : ℕ} {a b : Exp ℕ} {ns ms : List Node} → Tries g s d (exp a) p (suc m) ns → Tries g s d (exp b) (p + m) 0 ms → Tries g s d (exp (seq a b)) p 0 []
-  seq-takes : {d p m k : ℕ} {a b : Exp ℕ} {ns ms : List Node} → Tries g s d (exp a) p (suc m) ns → Tries g s d (exp b) (p + m) (suc k) ms → Tries g s d (exp (seq a b)) p (suc (m + k)) (ns ++ ms)
+  seq-fails-later : {d p m : ℕ} {a b : Exp ℕ} {ns ms : List Node} → Tries g s d (exp a) p (suc m) ns → Tries g s d (exp b) (p + m) 0 ms
+      → Tries g s d (exp (seq a b)) p 0 []
+  seq-takes : {d p m k : ℕ} {a b : Exp ℕ} {ns ms : List Node} → Tries g s d (exp a) p (suc m) ns → Tries g s d (exp b) (p + m) (suc k) ms
+      → Tries g s d (exp (seq a b)) p (suc (m + k)) (ns ++ ms)
   alt-first : {d p m : ℕ} {a b : Exp ℕ} {ns : List Node} → Tries g s d (exp a) p (suc m) ns → Tries g s d (exp (alt a b)) p (suc m) ns
   alt-second : {d p x : ℕ} {a b : Exp ℕ} {ns ms : List Node} → Tries g s d (exp a) p 0 ns → Tries g s d (exp b) p x ms → Tries g s d (exp (alt a b)) p x ms
   -- "A repeat ends at the first failing round or the first round that takes nothing; that round is dropped with its nodes"
   star-ends : {d p : ℕ} {a : Exp ℕ} {ns : List Node} → Tries g s d (exp a) p 0 ns → Tries g s d (exp (star a)) p 1 []
   star-idles : {d p : ℕ} {a : Exp ℕ} {ns : List Node} → Tries g s d (exp a) p 1 ns → Tries g s d (exp (star a)) p 1 []
-  star-goes : {d p m k : ℕ} {a : Exp ℕ} {ns ms : List Node} → Tries g s d (exp a) p (suc (suc m)) ns → Tries g s d (exp (star a)) (p + suc m) (suc k) ms → Tries g s d (exp (star a)) p (suc (suc m + k)) (ns ++ ms)
+  star-goes : {d p m k : ℕ} {a : Exp ℕ} {ns ms : List Node} → Tries g s d (exp a) p (suc (suc m)) ns
+      → Tries g s d (exp (star a)) (p + suc m) (suc k) ms → Tries g s d (exp (star a)) p (suc (suc m + k)) (ns ++ ms)
   -- "but the first round of `+` counts"
   plus-fails : {d p : ℕ} {a : Exp ℕ} {ns : List Node} → Tries g s d (exp a) p 0 ns → Tries g s d (exp (plus a)) p 0 []
-  plus-takes : {d p m k : ℕ} {a : Exp ℕ} {ns ms : List Node} → Tries g s d (exp a) p (suc m) ns → Tries g s d (exp (star a)) (p + m) (suc k) ms → Tries g s d (exp (plus a)) p (suc (m + k)) (ns ++ ms)
+  plus-takes : {d p m k : ℕ} {a : Exp ℕ} {ns ms : List Node} → Tries g s d (exp a) p (suc m) ns → Tries g s d (exp (star a)) (p + m) (suc k) ms
+      → Tries g s d (exp (plus a)) p (suc (m + k)) (ns ++ ms)
   -- `?` is no repeat: an empty success keeps its nodes
   opt-skips : {d p : ℕ} {a : Exp ℕ} {ns : List Node} → Tries g s d (exp a) p 0 ns → Tries g s d (exp (opt a)) p 1 []
   opt-takes : {d p m : ℕ} {a : Exp ℕ} {ns : List Node} → Tries g s d (exp a) p (suc m) ns → Tries g s d (exp (opt a)) p (suc m) ns
@@ -81,11 +85,16 @@ pub data Tries (g : Meant) (s : List ℕ) : ℕ → Ask → ℕ → ℕ → List
   never-fails : {d p m : ℕ} {a : Exp ℕ} {ns : List Node} → Tries g s d (exp a) p (suc m) ns → Tries g s d (exp (never a)) p 0 []
   by-rule : {d p x : ℕ} {e : Exp ℕ} {ns : List Node} → Tries g s d (exp e) p x ns → Tries g s d (inside (rule e)) p x ns
   -- "how a lake matches at a position (0 not, 1 by its rule, 2 by water, 3 by one skipped byte)": a byte is skipped where no alternative symbol matches
-  by-own : {d p m : ℕ} {o : Option (Exp ℕ)} {ss : List (Exp ℕ)} {ns : List Node} → Tries g s d (own o) p (suc m) ns → Tries g s d (inside (lake o ss)) p (suc m) ns
-  by-water : {d p m : ℕ} {o : Option (Exp ℕ)} {ss : List (Exp ℕ)} {ks ns : List Node} → Tries g s d (own o) p 0 ks → Tries g s d (wet (g .water)) p (suc m) ns → Tries g s d (inside (lake o ss)) p (suc m) ns
-  by-skip : {d p : ℕ} {o : Option (Exp ℕ)} {ss : List (Exp ℕ)} {ks js is : List Node} → Tries g s d (own o) p 0 ks → Tries g s d (wet (g .water)) p 0 js → Tries g s d (some-of ss) p 0 is → p < length s → Tries g s d (inside (lake o ss)) p 2 []
-  stopped : {d p m : ℕ} {o : Option (Exp ℕ)} {ss : List (Exp ℕ)} {ks js is : List Node} → Tries g s d (own o) p 0 ks → Tries g s d (wet (g .water)) p 0 js → Tries g s d (some-of ss) p (suc m) is → Tries g s d (inside (lake o ss)) p 0 []
-  at-end : {d p : ℕ} {o : Option (Exp ℕ)} {ss : List (Exp ℕ)} {ks js is : List Node} → Tries g s d (own o) p 0 ks → Tries g s d (wet (g .water)) p 0 js → Tries g s d (some-of ss) p 0 is → length s ≤ p → Tries g s d (inside (lake o ss)) p 0 []
+  by-own : {d p m : ℕ} {o : Option (Exp ℕ)} {ss : List (Exp ℕ)} {ns : List Node} → Tries g s d (own o) p (suc m) ns
+      → Tries g s d (inside (lake o ss)) p (suc m) ns
+  by-water : {d p m : ℕ} {o : Option (Exp ℕ)} {ss : List (Exp ℕ)} {ks ns : List Node} → Tries g s d (own o) p 0 ks
+      → Tries g s d (wet (g .water)) p (suc m) ns → Tries g s d (inside (lake o ss)) p (suc m) ns
+  by-skip : {d p : ℕ} {o : Option (Exp ℕ)} {ss : List (Exp ℕ)} {ks js is : List Node} → Tries g s d (own o) p 0 ks
+      → Tries g s d (wet (g .water)) p 0 js → Tries g s d (some-of ss) p 0 is → p < length s → Tries g s d (inside (lake o ss)) p 2 []
+  stopped : {d p m : ℕ} {o : Option (Exp ℕ)} {ss : List (Exp ℕ)} {ks js is : List Node} → Tries g s d (own o) p 0 ks
+      → Tries g s d (wet (g .water)) p 0 js → Tries g s d (some-of ss) p (suc m) is → Tries g s d (inside (lake o ss)) p 0 []
+  at-end : {d p : ℕ} {o : Option (Exp ℕ)} {ss : List (Exp ℕ)} {ks js is : List Node} → Tries g s d (own o) p 0 ks
+      → Tries g s d (wet (g .water)) p 0 js → Tries g s d (some-of ss) p 0 is → length s ≤ p → Tries g s d (inside (lake o ss)) p 0 []
   own-none : {d p : ℕ} → Tries g s d (own none) p 0 []
   own-is : {d p x : ℕ} {e : Exp ℕ} {ns : List Node} → Tries g s d (exp e) p x ns → Tries g s d (own (some e)) p x ns
   -- "`!.` where there is no such rule": then there is water only at the text's end, and it is empty
@@ -95,7 +104,8 @@ pub data Tries (g : Meant) (s : List ℕ) : ℕ → Ask → ℕ → ℕ → List
   wet-is : {d p x : ℕ} {w : Exp ℕ} {ns : List Node} → Tries g s d (exp w) p x ns → Tries g s d (wet (some w)) p x ns
   none-of : {d p : ℕ} → Tries g s d (some-of []) p 0 []
   this-one : {d p m : ℕ} {a : Exp ℕ} {ss : List (Exp ℕ)} {ns : List Node} → Tries g s d (exp a) p (suc m) ns → Tries g s d (some-of (a ∷ ss)) p (suc m) ns
-  later-one : {d p x : ℕ} {a : Exp ℕ} {ss : List (Exp ℕ)} {ks ns : List Node} → Tries g s d (exp a) p 0 ks → Tries g s d (some-of ss) p x ns → Tries g s d (some-of (a ∷ ss)) p x ns
+  later-one : {d p x : ℕ} {a : Exp ℕ} {ss : List (Exp ℕ)} {ks ns : List Node} → Tries g s d (exp a) p 0 ks → Tries g s d (some-of ss) p x ns
+      → Tries g s d (some-of (a ∷ ss)) p x ns
 
 abbrev pub Derives : Meant → List ℕ → ℕ → Exp ℕ → ℕ → ℕ → List Node → Type 0
 Derives g s d e p x ns = Tries g s d (exp e) p x ns

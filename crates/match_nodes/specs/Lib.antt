@@ -1,7 +1,3 @@
-pub mod Tasks
-pub mod Parts
-pub mod Turns
-pub mod Spans
 pub mod Nodes
-pub mod Passes
+pub mod steps
 pub mod laws

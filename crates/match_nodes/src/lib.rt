@@ -6,11 +6,11 @@ ghost use mathlib.Core.Path.{_≡_};
 ghost use lib.ListN.{length};
 ghost use Rattle.match_meaning.specs.Meaning.{nd};
 ghost use Rattle.match_nodes.specs.Nodes.{putNode, listOf, listingOf, wordsOf, roomOf};
-ghost use Rattle.match_nodes.specs.Passes.{out, putIf, note as noted, run, decode};
+ghost use Rattle.match_nodes.specs.steps.Passes.{out, putIf, note as noted, run, decode};
 ghost use Rattle.grammar_table.specs.Trees.{bodiesOf};
-ghost use Rattle.match_nodes.specs.Tasks.{walk, again, enter as entering, taskOf, takes, Able, depthOf, pushed, stackOf, Step};
-ghost use Rattle.match_nodes.specs.Parts.{Made, Picked, Chosen};
-ghost use Rattle.match_nodes.specs.Turns.{Ready, said, Moved, State, Turned};
+ghost use Rattle.match_nodes.specs.steps.Tasks.{walk, again, enter as entering, taskOf, takes, Able, depthOf, pushed, stackOf, Step};
+ghost use Rattle.match_nodes.specs.steps.Parts.{Made, Picked, Chosen};
+ghost use Rattle.match_nodes.specs.steps.Turns.{Ready, said, Moved, State, Turned};
 
 // All: how many nodes. Deep, Full: the number of the first node that is too deep, that has no room.
 pub enum Listed {
@@ -115,7 +115,8 @@ fn choose(t: &[u32], s: &[u8], cells: &[u32], n: usize, y: usize, z: usize, p: u
 // What walking expression x - 1 at p comes to: it matches there, so that nothing is evaluated but what is chosen by it.
 fn walk_plan(t: &[u32], s: &[u8], cells: &[u32], n: usize, x: usize, d: usize, p: usize) -> Plan
     requires { ⌜ (n ≤ 64) × (x < 2048) × (d ≤ 256) × (length (now s) ≤ 65535) × (p ≤ length (now s)) × (takes (now t) (now s) (now cells) n x p ≡ 0 → ⊥) ⌝ }
-    ensures { λ r. ⌜ Step (now (t .entry)) (now (s .entry)) (now (cells .entry)) n (walk x d) p (r .low) (r .high) (r .place) × (r .low < 4294967296) × (r .high < 4294967296) ⌝ }
+    ensures { λ r. ⌜ Step (now (t .entry)) (now (s .entry)) (now (cells .entry)) n (walk x d) p (r .low) (r .high) (r .place) × (r .low < 4294967296)
+        × (r .high < 4294967296) ⌝ }
 {
     if x == 0 {
         return Plan {
@@ -197,7 +198,8 @@ fn walk_plan(t: &[u32], s: &[u8], cells: &[u32], n: usize, x: usize, d: usize, p
 // What further rounds come to: up to the first that fails or takes nothing.
 fn again_plan(t: &[u32], s: &[u8], cells: &[u32], n: usize, x: usize, d: usize, p: usize) -> Plan
     requires { ⌜ (n ≤ 64) × (x < 2048) × (d ≤ 256) × (length (now s) ≤ 65535) × (p ≤ length (now s)) ⌝ }
-    ensures { λ r. ⌜ Step (now (t .entry)) (now (s .entry)) (now (cells .entry)) n (again x d) p (r .low) (r .high) (r .place) × (r .low < 4294967296) × (r .high < 4294967296) ⌝ }
+    ensures { λ r. ⌜ Step (now (t .entry)) (now (s .entry)) (now (cells .entry)) n (again x d) p (r .low) (r .high) (r .place) × (r .low < 4294967296)
+        × (r .high < 4294967296) ⌝ }
 {
     let a = match_cells::eval(t, s, cells, n, x, p);
     if a <= 1 {
@@ -267,8 +269,11 @@ fn enter(
     d: usize,
     p: usize,
 ) -> Move
-    requires { ⌜ Ready (now t) (now s) (now cells) n × (at < 4611686018427387904) × (d ≤ 256) × (r < 2048) × (p ≤ length (now s)) × (Able (now t) (now s) (now cells) n (entering r d) p) ⌝ }
-    ensures { λ g. ⌜ Moved (now (t .entry)) (now (s .entry)) (now (cells .entry)) n room write (out (now (nodes .entry)) at) (out (now (nodes .exit)) (g .at)) (entering r d) p (g .low) (g .high) (g .place) ⌝ }
+    requires { ⌜ Ready (now t) (now s) (now cells) n × (at < 4611686018427387904) × (d ≤ 256) × (r < 2048) × (p ≤ length (now s))
+        × (Able (now t) (now s) (now cells) n (entering r d) p) ⌝ }
+    ensures { λ g.
+        ⌜ Moved (now (t .entry)) (now (s .entry)) (now (cells .entry)) n room write (out (now (nodes .entry)) at) (out (now (nodes .exit)) (g .at))
+        (entering r d) p (g .low) (g .high) (g .place) ⌝ }
 {
     let c = match_cells::cell_at(s, cells, n, r, p);
     let b = base_words::word(
@@ -297,8 +302,11 @@ fn act(
     w: usize,
     p: usize,
 ) -> Move
-    requires { ⌜ Ready (now t) (now s) (now cells) n × (at < 4611686018427387904) × (w < 4294967296) × (p ≤ length (now s)) × Able (now t) (now s) (now cells) n (taskOf w) p × (depthOf (taskOf w) ≤ 256) ⌝ }
-    ensures { λ g. ⌜ Moved (now (t .entry)) (now (s .entry)) (now (cells .entry)) n room write (out (now (nodes .entry)) at) (out (now (nodes .exit)) (g .at)) (taskOf w) p (g .low) (g .high) (g .place) ⌝ }
+    requires { ⌜ Ready (now t) (now s) (now cells) n × (at < 4611686018427387904) × (w < 4294967296) × (p ≤ length (now s))
+        × Able (now t) (now s) (now cells) n (taskOf w) p × (depthOf (taskOf w) ≤ 256) ⌝ }
+    ensures { λ g.
+        ⌜ Moved (now (t .entry)) (now (s .entry)) (now (cells .entry)) n room write (out (now (nodes .entry)) at) (out (now (nodes .exit)) (g .at))
+        (taskOf w) p (g .low) (g .high) (g .place) ⌝ }
 {
     let x = w % 2048;
     let d = w / 8192;
@@ -358,8 +366,11 @@ fn turn(
     p: usize,
     at: usize,
 ) -> Stand
-    requires { ⌜ Ready (now t) (now s) (now cells) n × (at < 4611686018427387904) × (0 < h) × (length (now stack) ≡ 263168) × State (now t) (now s) (now cells) n (stackOf (now stack) h) p ⌝ }
-    ensures { λ g. ⌜ Turned (now (t .entry)) (now (s .entry)) (now (cells .entry)) n room write (out (now (nodes .entry)) at) (out (now (nodes .exit)) (g .at)) (stackOf (now (stack .entry)) h) p (stackOf (now (stack .exit)) (g .height)) (g .place) ⌝ }
+    requires { ⌜ Ready (now t) (now s) (now cells) n × (at < 4611686018427387904) × (0 < h) × (length (now stack) ≡ 263168)
+        × State (now t) (now s) (now cells) n (stackOf (now stack) h) p ⌝ }
+    ensures { λ g.
+        ⌜ Turned (now (t .entry)) (now (s .entry)) (now (cells .entry)) n room write (out (now (nodes .entry)) at) (out (now (nodes .exit)) (g .at))
+        (stackOf (now (stack .entry)) h) p (stackOf (now (stack .exit)) (g .height)) (g .place) ⌝ }
 {
     let w = base_words::word(stack, h - 1);
     let g = act(t, s, cells, n, nodes, room, write, at, w, p);
@@ -374,7 +385,8 @@ fn turn(
 // One pass: the count of all nodes or, above 2^62, the refusal. With flag 0 it only looks.
 fn pass(t: &[u32], s: &[u8], cells: &[u32], n: usize, nodes: &mut [u32], write: usize) -> usize
     requires { ⌜ Ready (now t) (now s) (now cells) n ⌝ }
-    ensures { λ v. ⌜ out (now (nodes .exit)) v ≡ run (roomOf (now (nodes .entry))) write (out (now (nodes .entry)) 0) (listOf (bodiesOf (now (t .entry))) (now (s .entry)) (now (cells .entry))) ⌝ }
+    ensures { λ v. ⌜ out (now (nodes .exit)) v
+        ≡ run (roomOf (now (nodes .entry))) write (out (now (nodes .entry)) 0) (listOf (bodiesOf (now (t .entry))) (now (s .entry)) (now (cells .entry))) ⌝ }
 {
     let c = match_cells::cell_at(s, cells, n, 0, 0);
     if c == 0 {
@@ -413,7 +425,9 @@ fn answer(room: usize, v: usize) -> Listed
 // The nodes of the start symbol at 0 into the lent words, all or none.
 pub fn list(t: &[u32], s: &[u8], cells: &[u32], n: usize, nodes: &mut [u32]) -> Listed
     requires { ⌜ Ready (now t) (now s) (now cells) n ⌝ }
-    ensures { λ r. ⌜ (said r ≡ listingOf (roomOf (now (nodes .entry))) 0 (listOf (bodiesOf (now (t .entry))) (now (s .entry)) (now (cells .entry)))) × (now (nodes .exit) ≡ wordsOf (roomOf (now (nodes .entry))) (now (nodes .entry)) (listOf (bodiesOf (now (t .entry))) (now (s .entry)) (now (cells .entry)))) ⌝ }
+    ensures { λ r. ⌜ (said r ≡ listingOf (roomOf (now (nodes .entry))) 0 (listOf (bodiesOf (now (t .entry))) (now (s .entry)) (now (cells .entry))))
+        × (now (nodes .exit)
+        ≡ wordsOf (roomOf (now (nodes .entry))) (now (nodes .entry)) (listOf (bodiesOf (now (t .entry))) (now (s .entry)) (now (cells .entry)))) ⌝ }
 {
     let room = nodes.len() / 4;
     let v = pass(t, s, cells, n, nodes, 0);

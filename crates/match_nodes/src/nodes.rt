@@ -3,7 +3,7 @@ ghost use Prim.Native.Nat.{ℕ, _-_, _≤_};
 ghost use mathlib.Core.Path.{_≡_};
 ghost use lib.ListN.{length, take, drop};
 ghost use Rattle.match_nodes.specs.Nodes.{soundAt, nodeText};
-ghost use Rattle.match_nodes.specs.Spans.{Spans};
+ghost use Rattle.match_nodes.specs.steps.Spans.{Spans};
 
 // From start to end.
 struct Range {

@@ -1,5 +1,4 @@
 pub mod Prepare
 pub mod Reads
-pub mod Loads
+pub mod steps
 pub mod laws
-pub mod Scanned

@@ -25,7 +25,8 @@ isRefused (VerdictRefused n p) = true
 abbrev pub readBy : Option Refusal → Prepared → Counted
 readBy (some r) p = record { symbols = 0; terminals = 0; expressions = 0; verdict = verdictOf (some r) }
 readBy none p =
-    record { symbols = length (p .grammar .names); terminals = length (p .grammar .terminals); expressions = expressionsOf (p .rules); verdict = verdictOf none }
+    record
+    { symbols = length (p .grammar .names); terminals = length (p .grammar .terminals); expressions = expressionsOf (p .rules); verdict = verdictOf none }
 
 unfoldable pub readOf : Mode → List ℕ → Counted
 readOf m t = readBy (refuses m t) (prepared m t)

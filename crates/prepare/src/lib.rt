@@ -4,10 +4,10 @@ ghost use mathlib.Core.Path.{_≡_};
 ghost use Prim.Native.Nat.{_≤_};
 ghost use lib.ListN.{length};
 ghost use Rattle.grammar_table.specs.Table.{tableWords, symbolCount, expressionCount};
-ghost use Rattle.lake_calls.specs.Marks.{LoopedAll};
+ghost use Rattle.lake_calls.specs.steps.Marks.{LoopedAll};
 ghost use Rattle.read_tokens.specs.Bounds.{expressionBound};
 ghost use Rattle.prepare.specs.Reads.{isRefused};
-ghost use Rattle.prepare.specs.Loads.{Loads, Translated, Ready, Plainly};
+ghost use Rattle.prepare.specs.steps.Loads.{Loads, Translated, Ready, Plainly};
 ghost use Rattle.prepare.specs.declared.Verdict.the-variants.{Refused as VerdictRefused};
 
 pub mod refusals;
@@ -94,7 +94,9 @@ fn translate(
     alts: &mut [[u64; 2]; 1024],
     out: &mut Table,
 ) -> Translation
-    ensures { λ r. ⌜ Translated (now (t .entry)) (now (mid .exit)) (now (marks .exit)) (now (sets .exit)) (now (eps .exit)) (now (succ .exit)) (now (alts .exit)) (now (out .exit)) (r .expressions) (r .rounds) ⌝ }
+    ensures { λ r.
+        ⌜ Translated (now (t .entry)) (now (mid .exit)) (now (marks .exit)) (now (sets .exit)) (now (eps .exit)) (now (succ .exit)) (now (alts .exit))
+        (now (out .exit)) (r .expressions) (r .rounds) ⌝ }
 {
     let n = lake_step_one::step_one(t, mid);
     if 1024 < n {
@@ -189,7 +191,9 @@ pub fn prepare(
     out: &mut Table,
 ) -> Prepared
     requires { ⌜ length (now t) ≡ tableWords ⌝ }
-    ensures { λ r. ⌜ Ready mode (now (text .entry)) (now (t .exit)) (now (mid .exit)) (now (marks .exit)) (now (sets .exit)) (now (eps .exit)) (now (succ .exit)) (now (alts .exit)) (now (out .exit)) (r .counted) (r .rounds) ⌝ }
+    ensures { λ r.
+        ⌜ Ready mode (now (text .entry)) (now (t .exit)) (now (mid .exit)) (now (marks .exit)) (now (sets .exit)) (now (eps .exit)) (now (succ .exit))
+        (now (alts .exit)) (now (out .exit)) (r .counted) (r .rounds) ⌝ }
 {
     let r = load(mode, text, t);
     let v = r.verdict;

@@ -1,8 +1,8 @@
 // Refusals 1 to 5 of a grammar text (01, Refusal numbers).
 ghost use mathlib.Core.Path.{_≡_};
 ghost use Rattle.read_tokens.specs.Bounds.{textBound};
-ghost use Rattle.read_syntax.specs.Found.{found};
-ghost use Rattle.prepare.specs.Scanned.{scanned};
+ghost use Rattle.read_syntax.specs.steps.Found.{found};
+ghost use Rattle.prepare.specs.steps.Scanned.{scanned};
 use read_syntax::syntax;
 use read_syntax::syntax::Found;
 use read_tokens::Mode;

@@ -11,11 +11,11 @@ use lib.Seq.{sets, drop-cons}
 use borrow.Author.Tests.{eq-eqb, ne-eqb, lt-ltb, le-ltb}
 use Rattle.read_tokens.specs.declared.Mode.{Mode}
 use Rattle.read_tokens.specs.Chars.{Char, char}
-use Rattle.read_tokens.specs.Code.{literalFrom, classAt}
+use Rattle.read_tokens.specs.steps.Code.{literalFrom, classAt}
 use Rattle.grammar_table.specs.Table.{expressionsAt, expressionWords, terminalWords, symbolWords, bodyAt, wordsFrom}
-use Rattle.grammar_table.specs.Rows.{cap}
+use Rattle.grammar_table.specs.steps.Rows.{cap}
 use Rattle.grammar_table.specs.laws.Words.{words-length, words-at}
-use Rattle.read_grammar.specs.Entries.{symbolRow, lakeOf, leafRow, bitOf, leafAt, pushBy, pushed, bodyBy, bodied, prefixOp, suffixOp}
+use Rattle.read_grammar.specs.steps.Entries.{symbolRow, lakeOf, leafRow, bitOf, leafAt, pushBy, pushed, bodyBy, bodied, prefixOp, suffixOp}
 
 -- ── stores into a record, one after the other ──
 pub store-on : (row : List ℕ) (k i b : ℕ) (l m : List ℕ) → l ≡ b ∷ m → sets row (k + i) l ≡ sets (set row (k + i) b) (k + (i + 1)) m

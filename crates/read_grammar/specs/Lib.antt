@@ -1,4 +1,2 @@
-pub mod Entries
-pub mod Lay
-pub mod Promises
+pub mod steps
 pub mod laws

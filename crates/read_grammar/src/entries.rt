@@ -3,9 +3,9 @@ ghost use Prim.Native.Nat.{suc, _+_, _*_, _<_, _≤_};
 ghost use mathlib.Core.Path.{_≡_};
 ghost use mathlib.Core.List.{map};
 ghost use lib.ListN.{length, getD, replicate};
-ghost use Rattle.read_tokens.specs.Code.{literalFrom};
-ghost use Rattle.grammar_table.specs.Rows.{cap, seek, kept, Noted};
-ghost use Rattle.read_grammar.specs.Entries.{symbolAt, symbolRow, lakeOf, leafRow, bitOf, leafAt};
+ghost use Rattle.read_tokens.specs.steps.Code.{literalFrom};
+ghost use Rattle.grammar_table.specs.steps.Rows.{cap, seek, kept, Noted};
+ghost use Rattle.read_grammar.specs.steps.Entries.{symbolAt, symbolRow, lakeOf, leafRow, bitOf, leafAt};
 ghost use Rattle.grammar_table.specs.Table.{symbolKey, symbolWords, symbolsAt, terminalKey, terminalWords, terminalsAt, wordsFrom};
 use base_words::put;
 use base_words::word;
@@ -78,7 +78,8 @@ pub fn note_symbol(text: &[u8], kind: u8, start: usize, size: usize, t: &mut [u3
 // The number of a symbol that is used; the number of symbols where it is none of them.
 pub fn symbol_number(text: &[u8], kind: u8, start: usize, size: usize, t: &[u32]) -> usize
     requires { ⌜ start + size ≤ 1048576 ⌝ }
-    ensures { λ r. ⌜ (r ≡ seek (now (t .entry)) (symbolAt (now (text .entry)) kind start size) symbolKey symbolWords symbolsAt (kept (now (t .entry)) 0)) × (r ≤ 64) ⌝ }
+    ensures { λ r. ⌜ (r ≡ seek (now (t .entry)) (symbolAt (now (text .entry)) kind start size) symbolKey symbolWords symbolsAt (kept (now (t .entry)) 0))
+        × (r ≤ 64) ⌝ }
 {
     let row = symbol_row(text, kind, start, size);
     let c = word(t, 0);

@@ -6,7 +6,7 @@ ghost use mathlib.Core.Bool.{_||_};
 ghost use lib.ListN.{length};
 ghost use Rattle.grammar.specs.Trees.{treeC, treeS, treeP, treeQ};
 ghost use Rattle.read_syntax.specs.Reader.{begins, isArrow, choiceP, seqP, prefP, primP};
-ghost use Rattle.read_grammar.specs.Promises.{toksAt, Over, Occurs, Matches, Grown, Suffixes, Ruled, Laid, Named, Marked, Built};
+ghost use Rattle.read_grammar.specs.steps.Promises.{toksAt, Over, Occurs, Matches, Grown, Suffixes, Ruled, Laid, Named, Marked, Built};
 
 pub mod entries;
 pub mod parts;

@@ -2,7 +2,7 @@
 ghost use Prim.Native.Nat.{_+_, _-_, _*_, _<_, _≤_};
 ghost use mathlib.Core.Path.{_≡_};
 ghost use lib.ListN.{getD};
-ghost use Rattle.read_grammar.specs.Entries.{pushed, bodied, prefixOp, suffixOp};
+ghost use Rattle.read_grammar.specs.steps.Entries.{pushed, bodied, prefixOp, suffixOp};
 use base_words::put;
 use base_words::word;
 use grammar_table::EXPRESSION_WORDS;

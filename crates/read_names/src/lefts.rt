@@ -8,12 +8,12 @@ ghost use Prim.Native.Nat.{ℕ, _+_, _/_, _%_, _≤_, _<_};
 ghost use lib.ListN.{length};
 ghost use Rattle.read_tokens.specs.Token.{Symbol, Tok};
 ghost use Rattle.read_tokens.specs.Tokens.{tokenAt, lexemes};
-ghost use Rattle.read_tokens.specs.Code.{coded};
+ghost use Rattle.read_tokens.specs.steps.Code.{coded};
 ghost use Rattle.read_tokens.specs.laws.Forward.{lexemesAt};
 ghost use Rattle.grammar.specs.Same.{sameSymbol, isIn};
 ghost use Rattle.read_syntax.specs.Reading.{before, leftsIn, second, unruled, lacks};
-ghost use Rattle.read_names.specs.Names.{bytesAt, symbolBy, placed, bad4};
-ghost use Rattle.read_names.specs.Lefts.{mixed, hashFrom, slotOf, symbolIn, inText, Index, Indexed, Stored, Kept, Whole, Passed};
+ghost use Rattle.read_names.specs.steps.Names.{bytesAt, symbolBy, placed, bad4};
+ghost use Rattle.read_names.specs.steps.Lefts.{mixed, hashFrom, slotOf, symbolIn, inText, Index, Indexed, Stored, Kept, Whole, Passed};
 use crate::is_left;
 use crate::name_start;
 use crate::reserved_name;
@@ -83,7 +83,9 @@ fn among(
     size: usize,
 ) -> bool
     requires { ⌜ (1 ≤ kind) × (kind ≤ 2) × (from + size ≤ length (now text)) × Indexed (now text) (now heads) (now links) (now places) ⌝ }
-    ensures { λ r. ⌜ ((n : ℕ) (lefts : List Symbol) → Index (now (text .entry)) n (now (heads .entry)) (now (links .entry)) (now (places .entry)) lefts → r ≡ isIn sameSymbol (symbolBy kind (bytesAt (now (text .entry)) from size)) lefts) ⌝ }
+    ensures { λ r. ⌜ ((n : ℕ) (lefts : List Symbol)
+        → Index (now (text .entry)) n (now (heads .entry)) (now (links .entry)) (now (places .entry)) lefts
+        → r ≡ isIn sameSymbol (symbolBy kind (bytesAt (now (text .entry)) from size)) lefts) ⌝ }
 {
     let j = slot(text, kind, from, size, heads.len());
     let mut c = word(heads, j);
@@ -109,7 +111,9 @@ fn store(
     places: &mut [u32],
 ) -> usize
     requires { ⌜ (1 ≤ kind) × (kind ≤ 2) × (from + size ≤ length (now text)) × (0 < length (now heads)) × (length (now links) < 4294967296) ⌝ }
-    ensures { λ r. ⌜ Stored (now (text .entry)) (symbolBy kind (bytesAt (now (text .entry)) from size)) count r (now (heads .entry)) (now (links .entry)) (now (places .entry)) (now (heads .exit)) (now (links .exit)) (now (places .exit)) ⌝ }
+    ensures { λ r.
+        ⌜ Stored (now (text .entry)) (symbolBy kind (bytesAt (now (text .entry)) from size)) count r (now (heads .entry)) (now (links .entry))
+        (now (places .entry)) (now (heads .exit)) (now (links .exit)) (now (places .exit)) ⌝ }
 {
     if links.len() <= count {
         return NONE;
@@ -140,8 +144,11 @@ fn keep(
     links: &mut [u32],
     places: &mut [u32],
 ) -> usize
-    requires { ⌜ (t ≡ coded (tokenAt mode (now text) at)) × (t .kind ≡ 0 → ⊥) × (length (now text) < 4294967296) × (0 < length (now heads)) × (length (now links) < 4294967296) ⌝ }
-    ensures { λ r. ⌜ Kept mode (now (text .entry)) at count r (now (heads .entry)) (now (links .entry)) (now (places .entry)) (now (heads .exit)) (now (links .exit)) (now (places .exit)) ⌝ }
+    requires { ⌜ (t ≡ coded (tokenAt mode (now text) at)) × (t .kind ≡ 0 → ⊥) × (length (now text) < 4294967296) × (0 < length (now heads))
+        × (length (now links) < 4294967296) ⌝ }
+    ensures { λ r.
+        ⌜ Kept mode (now (text .entry)) at count r (now (heads .entry)) (now (links .entry)) (now (places .entry)) (now (heads .exit))
+        (now (links .exit)) (now (places .exit)) ⌝ }
 {
     let kind = t.kind;
     if 2 < kind {
@@ -165,8 +172,12 @@ fn bad_left(
     at: usize,
     t: Token,
 ) -> bool
-    requires { ⌜ (t ≡ coded (tokenAt mode (now text) at)) × (t .kind ≡ 0 → ⊥) × (length (now text) < 4294967296) × Indexed (now text) (now heads) (now links) (now places) ⌝ }
-    ensures { λ r. ⌜ ((n : ℕ) (lefts : List Symbol) → Index (now (text .entry)) n (now (heads .entry)) (now (links .entry)) (now (places .entry)) lefts → (u : Tok) → tokenAt mode (now (text .entry)) at .is ≡ some u → r ≡ bad4 mode lefts u (before (lexemesAt mode (now (text .entry)) (tokenAt mode (now (text .entry)) at .next)))) ⌝ }
+    requires { ⌜ (t ≡ coded (tokenAt mode (now text) at)) × (t .kind ≡ 0 → ⊥) × (length (now text) < 4294967296)
+        × Indexed (now text) (now heads) (now links) (now places) ⌝ }
+    ensures { λ r. ⌜ ((n : ℕ) (lefts : List Symbol)
+        → Index (now (text .entry)) n (now (heads .entry)) (now (links .entry)) (now (places .entry)) lefts → (u : Tok)
+        → tokenAt mode (now (text .entry)) at .is ≡ some u
+        → r ≡ bad4 mode lefts u (before (lexemesAt mode (now (text .entry)) (tokenAt mode (now (text .entry)) at .next)))) ⌝ }
 {
     let kind = t.kind;
     if 2 < kind {
@@ -191,7 +202,8 @@ fn second_in(
     links: &mut [u32],
     places: &mut [u32],
 ) -> usize
-    requires { ⌜ (length (now text) < 4294967296) × (length (now links) < 4294967296) × ((n : ℕ) × Index (now text) n (now heads) (now links) (now places) []) ⌝ }
+    requires { ⌜ (length (now text) < 4294967296) × (length (now links) < 4294967296)
+        × ((n : ℕ) × Index (now text) n (now heads) (now links) (now places) []) ⌝ }
     ensures { λ r. ⌜ ((r ≡ 4294967296 → ⊥) → Passed mode (now (text .entry)) r (now (heads .exit)) (now (links .exit)) (now (places .exit))) ⌝ }
 {
     let mut at: usize = 0;
@@ -222,8 +234,11 @@ fn lacks_rule(
     at: usize,
     t: Token,
 ) -> bool
-    requires { ⌜ (t ≡ coded (tokenAt mode (now text) at)) × (t .kind ≡ 0 → ⊥) × (length (now text) < 4294967296) × Whole mode (now text) (now heads) (now links) (now places) ⌝ }
-    ensures { λ r. ⌜ ((u : Tok) → tokenAt mode (now (text .entry)) at .is ≡ some u → r ≡ lacks (leftsIn (lexemes mode (now (text .entry)))) u (before (lexemesAt mode (now (text .entry)) (tokenAt mode (now (text .entry)) at .next)))) ⌝ }
+    requires { ⌜ (t ≡ coded (tokenAt mode (now text) at)) × (t .kind ≡ 0 → ⊥) × (length (now text) < 4294967296)
+        × Whole mode (now text) (now heads) (now links) (now places) ⌝ }
+    ensures { λ r. ⌜ ((u : Tok) → tokenAt mode (now (text .entry)) at .is ≡ some u
+        → r ≡ lacks (leftsIn (lexemes mode (now (text .entry)))) u
+        (before (lexemesAt mode (now (text .entry)) (tokenAt mode (now (text .entry)) at .next)))) ⌝ }
 {
     let kind = t.kind;
     if kind != 1 {
@@ -261,7 +276,8 @@ fn unruled_in(
     links: &mut [u32],
     places: &mut [u32],
 ) -> usize
-    requires { ⌜ (length (now text) < 4294967296) × (length (now links) < 4294967296) × ((n : ℕ) × Index (now text) n (now heads) (now links) (now places) []) ⌝ }
+    requires { ⌜ (length (now text) < 4294967296) × (length (now links) < 4294967296)
+        × ((n : ℕ) × Index (now text) n (now heads) (now links) (now places) []) ⌝ }
     ensures { λ r. ⌜ ((r ≡ 4294967296 → ⊥) → r ≡ placed (unruled (leftsIn (lexemes mode (now (text .entry)))) (lexemes mode (now (text .entry))))) ⌝ }
 {
     let p = second_in(mode, text, heads, links, places);

@@ -8,11 +8,11 @@ ghost use Prim.Native.Nat.{ℕ, _+_, _≤_, _<_};
 ghost use lib.ListN.{length, drop, take};
 ghost use Rattle.read_tokens.specs.Token.{Tok};
 ghost use Rattle.read_tokens.specs.Tokens.{tokenAt, lexemes};
-ghost use Rattle.read_tokens.specs.Code.{coded};
+ghost use Rattle.read_tokens.specs.steps.Code.{coded};
 ghost use Rattle.read_tokens.specs.laws.Forward.{lexemesAt};
 ghost use Rattle.grammar.specs.Same.{sameBytes, sameSymbol, isIn};
 ghost use Rattle.read_syntax.specs.Reading.{before, begins, leftsIn, second, unruled, lacks};
-ghost use Rattle.read_names.specs.Names.{bytesAt, symbolBy, hitBy, walkTo, begun, placed, bad4, lakePrefix, reservedBy};
+ghost use Rattle.read_names.specs.steps.Names.{bytesAt, symbolBy, hitBy, walkTo, begun, placed, bad4, lakePrefix, reservedBy};
 
 pub mod lefts;
 
@@ -56,7 +56,9 @@ pub fn name_start(kind: u8, start: usize) -> usize
 // Whether the token t at `at` is the left side of the symbol of a kind whose name has `size` bytes from `from` on.
 pub fn hit(mode: Mode, text: &[u8], at: usize, t: Token, kind: u8, from: usize, size: usize) -> bool
     requires { ⌜ (t ≡ coded (tokenAt mode (now text) at)) × (1 ≤ kind) × (kind ≤ 2) × (from + size ≤ length (now text)) × (length (now text) < 4294967296) ⌝ }
-    ensures { λ r. ⌜ ((u : Tok) → tokenAt mode (now (text .entry)) at .is ≡ some u → r ≡ hitBy (symbolBy kind (bytesAt (now (text .entry)) from size)) u (before (lexemesAt mode (now (text .entry)) (tokenAt mode (now (text .entry)) at .next)))) ⌝ }
+    ensures { λ r. ⌜ ((u : Tok) → tokenAt mode (now (text .entry)) at .is ≡ some u
+        → r ≡ hitBy (symbolBy kind (bytesAt (now (text .entry)) from size)) u
+        (before (lexemesAt mode (now (text .entry)) (tokenAt mode (now (text .entry)) at .next)))) ⌝ }
 {
     let k = t.kind;
     if k != kind {
@@ -83,7 +85,8 @@ pub fn left_before(
     size: usize,
 ) -> bool
     requires { ⌜ (1 ≤ kind) × (kind ≤ 2) × (from + size ≤ length (now text)) × (length (now text) < 4294967296) ⌝ }
-    ensures { λ r. ⌜ ((k : ℕ) → walkTo mode (now (text .entry)) k .at ≡ limit → r ≡ isIn sameSymbol (symbolBy kind (bytesAt (now (text .entry)) from size)) (walkTo mode (now (text .entry)) k .seen)) ⌝ }
+    ensures { λ r. ⌜ ((k : ℕ) → walkTo mode (now (text .entry)) k .at ≡ limit
+        → r ≡ isIn sameSymbol (symbolBy kind (bytesAt (now (text .entry)) from size)) (walkTo mode (now (text .entry)) k .seen)) ⌝ }
 {
     let mut i: usize = 0;
     while i < limit {
@@ -157,7 +160,9 @@ pub fn reserved_name(mode: Mode, text: &[u8], from: usize, n: usize) -> bool
 // Whether the token t at `at` is a second left side or has a reserved name.
 fn bad_name(mode: Mode, text: &[u8], at: usize, t: Token) -> bool
     requires { ⌜ (t ≡ coded (tokenAt mode (now text) at)) × (t .kind ≡ 0 → ⊥) × (length (now text) < 4294967296) ⌝ }
-    ensures { λ r. ⌜ ((k : ℕ) → walkTo mode (now (text .entry)) k .at ≡ at → (u : Tok) → tokenAt mode (now (text .entry)) at .is ≡ some u → r ≡ bad4 mode (walkTo mode (now (text .entry)) k .seen) u (before (lexemesAt mode (now (text .entry)) (tokenAt mode (now (text .entry)) at .next)))) ⌝ }
+    ensures { λ r. ⌜ ((k : ℕ) → walkTo mode (now (text .entry)) k .at ≡ at → (u : Tok) → tokenAt mode (now (text .entry)) at .is ≡ some u
+        → r ≡ bad4 mode (walkTo mode (now (text .entry)) k .seen) u
+        (before (lexemesAt mode (now (text .entry)) (tokenAt mode (now (text .entry)) at .next)))) ⌝ }
 {
     let kind = t.kind;
     if 2 < kind {
@@ -195,7 +200,9 @@ pub fn second_walked(mode: Mode, text: &[u8]) -> usize
 // Whether the token t at `at` is the use of a nonterminal without a rule.
 fn lacking(mode: Mode, text: &[u8], at: usize, t: Token) -> bool
     requires { ⌜ (t ≡ coded (tokenAt mode (now text) at)) × (t .kind ≡ 0 → ⊥) × (length (now text) < 4294967296) ⌝ }
-    ensures { λ r. ⌜ ((u : Tok) → tokenAt mode (now (text .entry)) at .is ≡ some u → r ≡ lacks (leftsIn (lexemes mode (now (text .entry)))) u (before (lexemesAt mode (now (text .entry)) (tokenAt mode (now (text .entry)) at .next)))) ⌝ }
+    ensures { λ r. ⌜ ((u : Tok) → tokenAt mode (now (text .entry)) at .is ≡ some u
+        → r ≡ lacks (leftsIn (lexemes mode (now (text .entry)))) u
+        (before (lexemesAt mode (now (text .entry)) (tokenAt mode (now (text .entry)) at .next)))) ⌝ }
 {
     let kind = t.kind;
     if kind != 1 {

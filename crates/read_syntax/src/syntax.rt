@@ -9,8 +9,8 @@ ghost use Rattle.read_tokens.specs.Tokens.{lexemes};
 ghost use Rattle.grammar.specs.Refusal.{refusal};
 ghost use Rattle.read_syntax.specs.Machine.{accepting, judge, start};
 ghost use Rattle.read_syntax.specs.Reading.{offence};
-ghost use Rattle.read_syntax.specs.Numbers.{classBy, nextOf, moved, deep, stateOf, overBy};
-ghost use Rattle.read_syntax.specs.Found.{found};
+ghost use Rattle.read_syntax.specs.steps.Numbers.{classBy, nextOf, moved, deep, stateOf, overBy};
+ghost use Rattle.read_syntax.specs.steps.Found.{found};
 use read_tokens::Mode;
 
 // A refusal; number 0: none.
@@ -249,7 +249,8 @@ pub fn refuse(number: usize, place: usize) -> Found
 // Refusals 2 and 3: number 0 where there is neither.
 pub fn offending(mode: Mode, text: &[u8]) -> Found
     requires { ⌜ length (now text) < 4294967296 ⌝ }
-    ensures { λ r. ⌜ r ≡ found (offence (length (now (text .entry))) (lexemes mode (now (text .entry))) (judge mode 0 start (lexemes mode (now (text .entry))))) ⌝ }
+    ensures { λ r. ⌜ r
+        ≡ found (offence (length (now (text .entry))) (lexemes mode (now (text .entry))) (judge mode 0 start (lexemes mode (now (text .entry))))) ⌝ }
 {
     let mut c: u8 = 0;
     let mut d: usize = 0;

@@ -10,7 +10,7 @@ use lib.ListN.{length, drop, getD, List·getD-eq-default, drop-of-length-le}
 use lib.Seq.{getD-drop, drop-cons}
 use native.Mathlib.Numerals.{add-one}
 use borrow.Author.Tests.{eq-eqb, ne-eqb, le-leb, lt-leb, leb-true}
-use Rattle.base_facts.specs.Bools.{and-parts}
+use Rattle.base_facts.specs.laws.Bools.{and-parts}
 use Rattle.read_tokens.specs.Bounds.{firstOctal}
 use Rattle.read_tokens.specs.Chars.{Char, got, octal, octals, letters, four, char}
 

@@ -22,7 +22,7 @@ use Rattle.read_tokens.specs.laws.Marks.{paint, paintAll, turnAll, paint
 use Rattle.read_tokens.specs.laws.Turning.{turnFrom, turns, someFrom, somes}
 use Rattle.read_tokens.specs.laws.Passing.{from, passed}
 use Rattle.read_tokens.specs.laws.Forward.{Ended, body-ended}
-use Rattle.read_tokens.specs.Code.{itemIs, itemOf, Painted, caretAt, noClass, classIs, classAt, coded, made}
+use Rattle.read_tokens.specs.steps.Code.{itemIs, itemOf, Painted, caretAt, noClass, classIs, classAt, coded, made}
 use Rattle.read_tokens.proofs.CharSteps.{suffix, first-at, inside}
 
 -- ── an item ──

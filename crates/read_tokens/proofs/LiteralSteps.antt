@@ -12,7 +12,7 @@ use Rattle.read_tokens.specs.declared.chars.Char as declared
 use Rattle.read_tokens.specs.declared.chars.Count.{Count}
 use Rattle.read_tokens.specs.Chars.{char, Range, single, Body, shut, broken, also, byWidth, body}
 use Rattle.read_tokens.specs.Tokens.{lowOf, literalBy, badAt}
-use Rattle.read_tokens.specs.Code.{charOf, counted, coded, made}
+use Rattle.read_tokens.specs.steps.Code.{charOf, counted, coded, made}
 use Rattle.read_tokens.specs.laws.Passing.{from, passed}
 use Rattle.read_tokens.proofs.CharSteps.{suffix}
 

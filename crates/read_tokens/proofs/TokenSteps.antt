@@ -17,7 +17,7 @@ use Rattle.read_tokens.specs.declared.Token.{Token}
 use Rattle.read_tokens.specs.Token as spec
 use Rattle.read_tokens.specs.Token.{lake, symbol, arrow}
 use Rattle.read_tokens.specs.Tokens.{tok, badAt, blankBy, skip, nameByte, nameSpan, lakeBy, less, byKind, tokenFrom, tokenAt}
-use Rattle.read_tokens.specs.Code.{coded, made, named, laked}
+use Rattle.read_tokens.specs.steps.Code.{coded, made, named, laked}
 use Rattle.read_tokens.proofs.CharSteps.{suffix, first-at}
 use Rattle.read_tokens.proofs.LiteralSteps.{bad-is}
 

@@ -9,7 +9,8 @@ use lib.ListN.{drop, length}
 use Rattle.read_tokens.specs.Kinds.{kindAt}
 use Rattle.read_tokens.specs.declared.Mode.{Mode}
 use Rattle.read_tokens.specs.declared.Mode.the-variants.{Lake, Plain}
-use Rattle.read_tokens.specs.Token.{Symbol, Leaf, Prefix, Suffix, Tok, Token, Lexeme, name, lake, any, literal, class, amp, bang, query, asterisk, cross, symbol, leaf, pre, suf, arrow, slash, opens, closes, bad}
+use Rattle.read_tokens.specs.Token.{Symbol, Leaf, Prefix, Suffix, Tok, Token, Lexeme, name, lake, any, literal, class, amp, bang, query}
+use Rattle.read_tokens.specs.Token.{asterisk, cross, symbol, leaf, pre, suf, arrow, slash, opens, closes, bad}
 use Rattle.read_tokens.specs.Chars.{Range, Item, Body, shut, broken, single, listed, body}
 
 abbrev pub tok : Tok → ℕ → ℕ → Token

@@ -4,7 +4,7 @@ ghost use mathlib.Core.Path.{_≡_};
 ghost use mathlib.Core.Bool.{true};
 ghost use lib.ListN.{length, drop, getD};
 ghost use Rattle.read_tokens.specs.Chars.{got, octal, octals, letters, four, char, body, single};
-ghost use Rattle.read_tokens.specs.Code.{charOf, counted};
+ghost use Rattle.read_tokens.specs.steps.Code.{charOf, counted};
 
 fn wide(x: u8) -> u32
     ensures { λ r. ⌜ (r ≡ x) × (r < 256) ⌝ }

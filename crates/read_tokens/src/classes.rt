@@ -6,7 +6,7 @@ ghost use Rattle.read_tokens.specs.Chars.{listed, body};
 ghost use Rattle.read_tokens.specs.Tokens.{marked, classBy};
 ghost use Rattle.read_tokens.specs.laws.Marks.{paint};
 ghost use Rattle.read_tokens.specs.laws.Turning.{turnFrom, someFrom};
-ghost use Rattle.read_tokens.specs.Code.{itemIs, itemOf, Painted, caretAt, noClass, classIs, classAt};
+ghost use Rattle.read_tokens.specs.steps.Code.{itemIs, itemOf, Painted, caretAt, noClass, classIs, classAt};
 use super::Mode;
 use super::chars::byte_at;
 use super::chars::char_at;

@@ -6,7 +6,7 @@ ghost use lib.ListN.{length, drop};
 ghost use Rattle.read_tokens.specs.Chars.{body, single};
 ghost use Rattle.read_tokens.specs.Token.{pre, suf};
 ghost use Rattle.read_tokens.specs.Tokens.{nameSpan, literalBy, bracket, less, preOf, sufOf, tokenAt};
-ghost use Rattle.read_tokens.specs.Code.{kindOf, coded, named, laked, made};
+ghost use Rattle.read_tokens.specs.steps.Code.{kindOf, coded, named, laked, made};
 
 pub mod chars;
 pub mod classes;

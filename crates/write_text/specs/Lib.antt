@@ -1,5 +1,2 @@
-pub mod Pen
-pub mod Printed
-pub mod Turned
+pub mod steps
 pub mod laws
-pub mod Texts

@@ -4,7 +4,7 @@ ghost use mathlib.Core.List.{List, [], _∷_};
 ghost use Prim.Native.Nat.{ℕ, _≤_, _<_};
 ghost use lib.ListN.{length};
 ghost use Rattle.write_rules.specs.Writing.{byteText, litChar, classChar};
-ghost use Rattle.write_text.specs.Pen.{most, Penned};
+ghost use Rattle.write_text.specs.steps.Pen.{most, Penned};
 
 // One byte.
 pub fn emit(out: &mut [u8], write: bool, at: usize, b: u8) -> usize

@@ -8,9 +8,9 @@ ghost use lib.ListN.{length};
 ghost use Rattle.read_tokens.specs.Chars.{range};
 ghost use Rattle.grammar_table.specs.Table.{wordsFrom, marksFrom, leafIn};
 ghost use Rattle.write_rules.specs.Writing.{litChars, runText, runsText, runs, leafText, symbolText};
-ghost use Rattle.write_text.specs.Pen.{most, Penned};
-ghost use Rattle.write_text.specs.Printed.{low, lowLeaf, called};
-ghost use Rattle.write_text.specs.Turned.{Turned};
+ghost use Rattle.write_text.specs.steps.Pen.{most, Penned};
+ghost use Rattle.write_text.specs.steps.Printed.{low, lowLeaf, called};
+ghost use Rattle.write_text.specs.steps.Turned.{Turned};
 use crate::bytes;
 
 // A name's bytes.

@@ -7,8 +7,8 @@ ghost use lib.ListN.{length};
 ghost use Rattle.read_tokens.specs.Token.{Symbol};
 ghost use Rattle.grammar_table.specs.Trees.{treeOf};
 ghost use Rattle.write_rules.specs.Writing.{level, put, exprText};
-ghost use Rattle.write_text.specs.Pen.{most, Penned};
-ghost use Rattle.write_text.specs.Printed.{called, toned};
+ghost use Rattle.write_text.specs.steps.Pen.{most, Penned};
+ghost use Rattle.write_text.specs.steps.Printed.{called, toned};
 use crate::bytes;
 use crate::leaves;
 
@@ -104,7 +104,10 @@ pub fn wrapped(
     at: usize,
 ) -> usize
     requires { ⌜ (at ≤ most) × (x ≤ 4294967296) ⌝ }
-    ensures { λ r. ⌜ Penned write (put k (toned (called plain (now (t .entry))) (treeOf (now (t .entry)) x)) (exprText (toned (called plain (now (t .entry))) (treeOf (now (t .entry)) x)))) (now (out .entry)) at (now (out .exit)) r ⌝ }
+    ensures { λ r.
+        ⌜ Penned write
+        (put k (toned (called plain (now (t .entry))) (treeOf (now (t .entry)) x))
+        (exprText (toned (called plain (now (t .entry))) (treeOf (now (t .entry)) x)))) (now (out .entry)) at (now (out .exit)) r ⌝ }
 {
     if level_of(t, x) < k {
         let a = bytes::emit(out, write, at, 40);

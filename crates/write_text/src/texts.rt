@@ -7,14 +7,17 @@ ghost use lib.ListN.{length};
 ghost use Rattle.grammar_table.specs.Table.{bodyIn};
 ghost use Rattle.grammar_table.specs.Trees.{treeOf};
 ghost use Rattle.write_rules.specs.Writing.{ruleText, text};
-ghost use Rattle.write_text.specs.Pen.{most, Penned};
-ghost use Rattle.write_text.specs.Printed.{called, toned};
-ghost use Rattle.write_text.specs.Texts.{rulesIn, textOf, Paged};
+ghost use Rattle.write_text.specs.steps.Pen.{most, Penned};
+ghost use Rattle.write_text.specs.steps.Printed.{called, toned};
+ghost use Rattle.write_text.specs.steps.Texts.{rulesIn, textOf, Paged};
 
 // Symbol r's rule with expression x - 1 as its right side: "name, ` <- `, expression, LF".
 fn rule(t: &[u32], out: &mut [u8], write: bool, plain: bool, r: usize, x: usize, at: usize) -> usize
     requires { ⌜ (at ≤ most) × (r < 4294967296) × (x ≤ 4294967296) ⌝ }
-    ensures { λ u. ⌜ Penned write (ruleText (record { left = called plain (now (t .entry)) r; right = toned (called plain (now (t .entry))) (treeOf (now (t .entry)) x) })) (now (out .entry)) at (now (out .exit)) u ⌝ }
+    ensures { λ u.
+        ⌜ Penned write
+        (ruleText (record { left = called plain (now (t .entry)) r; right = toned (called plain (now (t .entry))) (treeOf (now (t .entry)) x) }))
+        (now (out .entry)) at (now (out .exit)) u ⌝ }
 {
     let a = crate::leaves::symbol(t, out, write, plain, at, r);
     let b = crate::bytes::emit4(out, write, a, 32, 60, 45, 32);

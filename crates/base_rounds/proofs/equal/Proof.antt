@@ -1,6 +1,6 @@
 use borrow.Author.Tests.{not-true, not-false}
 use borrow.Author.Count.{below-more}
-use Rattle.base_words.specs.Decides.{decides-true, decides-false}
+use Rattle.base_words.specs.steps.Decides.{decides-true, decides-false}
 use mathlib.Core.Path.{_≡_, refl, sym, ap, _∙_}
 use mathlib.Core.List.{List, [], _∷_}
 use Prim.Native.Nat.{ℕ, _≤_, _<_, _-_}

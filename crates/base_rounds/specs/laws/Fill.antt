@@ -7,7 +7,7 @@ use native.Mathlib.Decide.{ℕ-discrete}
 use native.Mathlib.Omega.{arith}
 use lib.ListN.{length, getD, set}
 use lib.Seq.{getD-set-same, getD-set-other}
-use Rattle.base_facts.specs.Numbers.{same?}
+use Rattle.base_facts.specs.laws.Numbers.{same?}
 
 pub fill-more : {A : Type 0} (d : A) (f : ℕ → A) (l : List A) (i : ℕ) (v : A) → ((j : ℕ) → j < i → getD l j d ≡ f j) → i < length l → v ≡ f i
     → (j : ℕ) → j < i + 1 → getD (set l i v) j d ≡ f j

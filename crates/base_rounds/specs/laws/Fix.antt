@@ -1,7 +1,7 @@
 -- The least fixpoint of a monotone round by iteration from the bottom, over any state with a size. Once for all.
 -- `iter k` is round k. The first k whose next round is equal is unique, is at most the greatest size, and its round is contained in every state that a
 -- round does not leave. Assumes nothing.
-use Rattle.base_facts.specs.Numbers.{lt-or-ge}
+use Rattle.base_facts.specs.laws.Numbers.{lt-or-ge}
 use Rattle.base_rounds.specs.Rounds.{iter, First}
 use mathlib.Core.Path.{_≡_, refl, sym, ap, _∙_, subst}
 use mathlib.Core.Logic.{_⊎_, inl, inr, ⊎-elim}

@@ -7,7 +7,7 @@ use native.Mathlib.Decide.{ℕ-discrete}
 use native.Mathlib.Omega.{arith}
 use lib.ListN.{length, getD, set, length-set, replicate, length-replicate, getD-replicate}
 use lib.Seq.{getD-set-same, getD-set-other}
-use Rattle.base_facts.specs.Numbers.{same?}
+use Rattle.base_facts.specs.laws.Numbers.{same?}
 use Rattle.base_rounds.specs.Flow.{Edge, put, flow}
 use Rattle.base_rounds.specs.Rounds.{First, iter}
 use Rattle.base_rounds.specs.laws.Fix.{Lattice, rounds-bound, iter-below, iter-good}

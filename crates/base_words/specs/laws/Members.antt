@@ -14,7 +14,7 @@ use lib.Seq.{getD-set-same, getD-set-other, ext-getD}
 use lib.Dec.{eqb}
 use lib.Arith.{digits-mod}
 use lib.Bits.{bitAnd, bitOr, or-shr, or-step}
-use Rattle.base_facts.specs.Numbers.{same?}
+use Rattle.base_facts.specs.laws.Numbers.{same?}
 use Rattle.base_words.specs.Set.{bit, unionOf, memberOf, withOf}
 
 pub bit-lt : (x k : ℕ) → bit x k < 2

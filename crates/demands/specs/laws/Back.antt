@@ -19,15 +19,15 @@ use Rattle.grammar.specs.Trees.{trees}
 use Rattle.grammar.specs.Numbers.{Grammar, symbolsOf, terminalsOf, expressionsOf, numbered}
 use Rattle.grammar.specs.Refusal.{Refusal, refusal, refuseIf, _▸_}
 use Rattle.read_syntax.specs.Reading.{tooMany, refusesText, rulesOf}
-use Rattle.prepare.specs.Scanned.{scanned}
+use Rattle.prepare.specs.steps.Scanned.{scanned}
 use Rattle.prepare.specs.laws.Chain.{text-by-scan}
 use Rattle.lake_sets.specs.Analysis.{analysis}
 use Rattle.grammar_table.specs.laws.Parts.{total}
 use Rattle.lake_step_two.specs.Plain.{plainRules, sizes, tooLarge}
 use Rattle.lake_calls.specs.Calls.{order, looping}
-use Rattle.lake_step_two.specs.Stepped.{plainOf}
+use Rattle.lake_step_two.specs.steps.Stepped.{plainOf}
 use Rattle.lake_step_two.specs.laws.Bodies.{sizes-total}
-use Rattle.read_grammar.specs.Promises.{Sound}
+use Rattle.read_grammar.specs.steps.Promises.{Sound}
 use Rattle.match_cells.specs.Cells.{cells}
 use Rattle.write_rules.specs.Writing.{text}
 use Rattle.write_back.specs.laws.Own.{own-again, too-long-again}

@@ -9,7 +9,7 @@ use native.Mathlib.Omega.{arith}
 use lib.ListN.{length, getD}
 use lib.Dec.{ltb, leb, eqb}
 use borrow.Author.Tests.{ltb-true, ltb-false, lt-ltb, le-ltb, le-leb, ne-eqb}
-use Rattle.base_facts.specs.Bools.{and-parts}
+use Rattle.base_facts.specs.laws.Bools.{and-parts}
 use Rattle.read_tokens.specs.Token.{name}
 use Rattle.read_tokens.specs.Bounds.{inputBound}
 use Rattle.read_tokens.specs.declared.Mode.{Mode}

@@ -9,7 +9,7 @@ use mathlib.Core.Option.{none}
 use native.Mathlib.Omega.{arith}
 use native.Mathlib.Nat.{pow-suc, eq-or-lt-of-le}
 use lib.ListN.{length, getD}
-use Rattle.base_facts.specs.Bools.{or-holds}
+use Rattle.base_facts.specs.laws.Bools.{or-holds}
 use Rattle.read_tokens.specs.declared.Mode.{Mode}
 use Rattle.read_tokens.specs.Token.{Symbol, name}
 use Rattle.grammar.specs.Numbers.{Grammar, isLake}

@@ -6,7 +6,7 @@ use mathlib.Core.Bool.{Bool, true, false, not, _&&_, _||_, true≢false}
 use mathlib.Core.List.{List, [], _∷_}
 use mathlib.Core.Option.{Option, none, some}
 use native.Mathlib.Omega.{arith}
-use Rattle.base_facts.specs.Bools.{or-holds}
+use Rattle.base_facts.specs.laws.Bools.{or-holds}
 use Rattle.read_tokens.specs.declared.Mode.{Mode}
 use Rattle.read_tokens.specs.Token.{Symbol, Tok, Lexeme, name, lake, symbol, leaf, pre, suf, arrow, slash, opens, closes, bad}
 use Rattle.grammar.specs.Same.{sameSymbol, isIn}

@@ -5,7 +5,7 @@ use mathlib.Core.Bool.{Bool, true, false, false≢true}
 use mathlib.Core.List.{List, [], _∷_}
 use lib.Dec.{eqb}
 use borrow.Author.Tests.{eqb-true, eq-eqb}
-use Rattle.base_facts.specs.Bools.{and-both, and-left, and-right}
+use Rattle.base_facts.specs.laws.Bools.{and-both, and-left, and-right}
 use Rattle.read_tokens.specs.Token.{Leaf, any, literal, class}
 use Rattle.grammar.specs.Same.{sameBytes, sameMark, sameMarks, sameLeaf}
 

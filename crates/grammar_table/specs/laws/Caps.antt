@@ -5,7 +5,7 @@ use mathlib.Core.Bool.{Bool, true, false, cond}
 use native.Mathlib.Omega.{arith}
 use lib.Dec.{ltb}
 use borrow.Author.Tests.{lt-ltb, le-ltb, ltb-true}
-use Rattle.grammar_table.specs.Rows.{cap}
+use Rattle.grammar_table.specs.steps.Rows.{cap}
 
 pub cap-low : (a b : ℕ) → a < b → a ≡ cap b a
 unfolding cap

@@ -2,7 +2,7 @@
 use mathlib.Core.Path.{_≡_, refl, sym, ap, _∙_}
 use mathlib.Core.Bool.{Bool, true, false, _||_}
 use mathlib.Core.List.{List, [], _∷_, _++_, append-assoc, append-nil}
-use Rattle.base_facts.specs.Bools.{or-false}
+use Rattle.base_facts.specs.laws.Bools.{or-false}
 use Rattle.grammar.specs.Same.{isIn, newIn}
 use Rattle.grammar_table.specs.laws.Rows.{also, adds, also-in, also-new, in-append}
 

@@ -13,7 +13,7 @@ use lib.ListN.{length, getD, set, length-append, length-set, List·getD-append}
 use lib.Seq.{sets, getD-set-same, getD-set-other, getD-append-seam, length-sets}
 use Rattle.grammar.specs.Same.{isIn, indexOf}
 use Rattle.grammar_table.specs.Table.{wordsFrom}
-use Rattle.grammar_table.specs.Rows.{cap, rowIs, seek, kept, Noted}
+use Rattle.grammar_table.specs.steps.Rows.{cap, rowIs, seek, kept, Noted}
 use Rattle.grammar_table.specs.laws.Caps.{cap-low, cap-high, cap-le}
 use Rattle.grammar_table.specs.laws.Words.{words-length, words-get, sets-out, sets-in, no-more}
 use Rattle.grammar_table.specs.laws.Rows.{or-right, At, at-row, row-at, also, also-in, also-new, All, all-left, all-last, index-in, index-out, index-stays, index-new}

@@ -8,7 +8,7 @@ use native.Mathlib.Decide.{decLt, ℕ-discrete}
 use native.Mathlib.Numerals.{add-one}
 use lib.ListN.{length, getD, set, length-append, List·getD-append, List·getD-eq-default}
 use lib.Seq.{getD-append-seam, getD-at, ext-getD}
-use Rattle.base_facts.specs.Numbers.{lt-or-ge, same?}
+use Rattle.base_facts.specs.laws.Numbers.{lt-or-ge, same?}
 use Rattle.grammar_table.specs.Table.{upTo}
 
 -- inside a list the default does not matter

@@ -11,10 +11,10 @@ use lib.Dec.{eqb}
 use lib.ListN.{length, getD, set, length-append, length-set, List·getD-append}
 use lib.Seq.{sets, getD-set-same, getD-set-other, getD-append-seam, length-sets}
 use borrow.Author.Tests.{eqb-true, eq-eqb}
-use Rattle.base_facts.specs.Bools.{and-both, and-left, and-right}
+use Rattle.base_facts.specs.laws.Bools.{and-both, and-left, and-right}
 use Rattle.grammar.specs.Same.{sameBytes, isIn, indexOf}
 use Rattle.grammar_table.specs.Table.{wordsFrom}
-use Rattle.grammar_table.specs.Rows.{cap, rowIs, seek, kept, Noted}
+use Rattle.grammar_table.specs.steps.Rows.{cap, rowIs, seek, kept, Noted}
 use Rattle.grammar_table.specs.laws.Caps.{cap-low, cap-high, cap-le}
 use Rattle.grammar_table.specs.laws.Words.{words-ext, words-places, words-length, words-get, sets-out, sets-in}
 use Rattle.grammar.specs.laws.Same.{bytes-sound, bytes-refl}

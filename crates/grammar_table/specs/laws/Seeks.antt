@@ -3,7 +3,7 @@ use Prim.Native.Nat.{ℕ, zero, suc, _+_, _≤_}
 use mathlib.Core.Bool.{Bool, true, false, cond}
 use mathlib.Core.List.{List}
 use native.Mathlib.Omega.{arith}
-use Rattle.grammar_table.specs.Rows.{rowIs, seek}
+use Rattle.grammar_table.specs.steps.Rows.{rowIs, seek}
 
 module _ (t rec : List ℕ) (o w : ℕ) where
   pub seek-within : (b n : ℕ) → seek t rec o w b n ≤ n

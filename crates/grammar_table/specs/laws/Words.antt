@@ -9,7 +9,7 @@ use lib.Dec.{eqb}
 use lib.ListN.{length, getD, set, length-set}
 use lib.Seq.{sets, getD-set-same, getD-set-other}
 use borrow.Author.Tests.{eqb-true, eq-eqb}
-use Rattle.base_facts.specs.Bools.{and-both, and-left, and-right}
+use Rattle.base_facts.specs.laws.Bools.{and-both, and-left, and-right}
 use Rattle.grammar.specs.Same.{sameBytes}
 use Rattle.grammar_table.specs.Table.{wordsFrom}
 

@@ -3,7 +3,7 @@ use Prim.Native.Nat.{_+_, _*_}
 use mathlib.Core.Path.{_≡_, refl, sym, _∙_}
 use native.Mathlib.Omega.{arith}
 use lib.ListN.{length}
-use Rattle.base_facts.specs.Bools.{not-false, not-true}
+use Rattle.base_facts.specs.laws.Bools.{not-false, not-true}
 use Rattle.gurkenmond.specs.laws.Matches.{need-small}
 use Rattle.gurkenmond.specs.laws.Asks.{standing-same, standing-few, standing-terminals, asked-long, asked-few, asked-past, asked-other, asked-behind, asked-all}
 use borrow.Author.Needs.{needs}

@@ -1,6 +1,6 @@
 -- `gurkenmond::not_asked` meets its contract. Assumes nothing.
 use mathlib.Core.Path.{_≡_, sym, ap}
-use Rattle.gurkenmond.specs.Asks.{notAsked}
+use Rattle.gurkenmond.specs.steps.Asks.{notAsked}
 use borrow.Author.Needs.{needs}
 use Rattle.gurkenmond.proofs.not_asked.Statement.{statement}
 use Rattle.gurkenmond.proofs.not_asked.Tie as tie

@@ -1,6 +1,6 @@
 -- `gurkenmond::not_written` meets its contract. Assumes nothing.
 use mathlib.Core.Path.{_≡_, sym, ap}
-use Rattle.gurkenmond.specs.Puts.{notWritten}
+use Rattle.gurkenmond.specs.steps.Puts.{notWritten}
 use borrow.Author.Needs.{needs}
 use Rattle.gurkenmond.proofs.not_written.Statement.{statement}
 use Rattle.gurkenmond.proofs.not_written.Tie as tie

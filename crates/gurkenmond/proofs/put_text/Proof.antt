@@ -1,7 +1,7 @@
 -- `gurkenmond::put_text` meets its contract. Assumes nothing.
 use mathlib.Core.Path.{_≡_, sym, ap}
 use mathlib.Core.Bool.{Bool}
-use Rattle.gurkenmond.specs.Puts.{answerBy}
+use Rattle.gurkenmond.specs.steps.Puts.{answerBy}
 use borrow.Author.Needs.{needs}
 use Rattle.gurkenmond.proofs.put_text.Statement.{statement}
 use Rattle.gurkenmond.proofs.put_text.Tie as tie

@@ -3,7 +3,7 @@ use Prim.Native.Nat.{_+_, _*_}
 use mathlib.Core.Path.{_≡_, refl, sym, _∙_}
 use native.Mathlib.Omega.{arith}
 use lib.ListN.{length}
-use Rattle.match_nodes.specs.Turns.{Ready}
+use Rattle.match_nodes.specs.steps.Turns.{Ready}
 use Rattle.gurkenmond.specs.laws.Matches.{need-small, ran-long, ran-few, ran-none, ready, ran-all}
 use borrow.Author.Needs.{needs}
 use Rattle.gurkenmond.proofs.run.Statement.{statement}

@@ -8,7 +8,7 @@ use native.Mathlib.Omega.{arith}
 use lib.ListN.{length, getD}
 use lib.Dec.{leb}
 use borrow.Author.Tests.{lt-ltb, le-ltb, lt-leb, le-leb}
-use Rattle.base_facts.specs.Bools.{not-false, not-true}
+use Rattle.base_facts.specs.laws.Bools.{not-false, not-true}
 use Rattle.read_tokens.specs.Token.{name}
 use Rattle.read_tokens.specs.declared.Mode.{Mode}
 use Rattle.grammar.specs.Numbers.{Grammar, numbered, isLake}
@@ -19,12 +19,12 @@ use Rattle.grammar_table.specs.laws.Lists.{up-length}
 use Rattle.read_syntax.specs.Reading.{rulesOf}
 use Rattle.base_words.specs.Set.{empty}
 use Rattle.lake_sets.specs.Analysis.{analysis, altOf}
-use Rattle.lake_sets.specs.Steps.{rootIn}
-use Rattle.lake_analysis.specs.Lent.{lakeIn}
+use Rattle.lake_sets.specs.steps.Steps.{rootIn}
+use Rattle.lake_analysis.specs.steps.Lent.{lakeIn}
 use Rattle.lake_analysis.specs.laws.Skip.{lake-is, alt-is}
-use Rattle.lake_step_two.specs.Stepped.{plainOf}
+use Rattle.lake_step_two.specs.steps.Stepped.{plainOf}
 use Rattle.lake_calls.specs.laws.Trees.{bodies-are}
-use Rattle.match_cells.specs.Runs.{Plain, Fills}
+use Rattle.match_cells.specs.steps.Runs.{Plain, Fills}
 use Rattle.match_lake.specs.Asking.{wayIn}
 use Rattle.match_lake.specs.laws.Tables.{way-is}
 use Rattle.prepare.specs.declared.Counted.{Counted}
@@ -32,11 +32,11 @@ use Rattle.prepare.specs.declared.Verdict.{Verdict}
 use Rattle.prepare.specs.declared.Verdict.the-variants.{Refused as VerdictRefused}
 use Rattle.prepare.specs.Prepare.{Prepared, prepared, preparedBy}
 use Rattle.prepare.specs.Reads.{verdictOf, isRefused, readOf}
-use Rattle.prepare.specs.Loads.{Stands}
+use Rattle.prepare.specs.steps.Loads.{Stands}
 use Rattle.prepare.specs.laws.Reads.{clear-good, clear-loop}
 use Rattle.gurkenmond.specs.declared.Way.{Way}
 use Rattle.gurkenmond.specs.Calls.{LakeAnswer, refusesInput, filled, isLakeAt, wayOf, lakeAfter, lakeOf}
-use Rattle.gurkenmond.specs.Asks.{notAsked, Standing, SaysWay, Asked}
+use Rattle.gurkenmond.specs.steps.Asks.{notAsked, Standing, SaysWay, Asked}
 use Rattle.gurkenmond.specs.Runs.{Loopless}
 use Rattle.gurkenmond.specs.laws.Verdicts.{handed}
 use Rattle.gurkenmond.specs.laws.Matches.{plain-is, loopless, input-long, input-few, enough}

@@ -17,18 +17,18 @@ use Rattle.grammar.specs.Refusal.{Refusal, refusal, refuseIf, _▸_}
 use Rattle.grammar_table.specs.Table.{symbolCount}
 use Rattle.grammar_table.specs.Holds.{Holds}
 use Rattle.read_syntax.specs.Reading.{rulesOf}
-use Rattle.lake_step_one.specs.Made.{withBodies}
-use Rattle.lake_step_two.specs.Stepped.{plainOf}
+use Rattle.lake_step_one.specs.steps.Made.{withBodies}
+use Rattle.lake_step_two.specs.steps.Stepped.{plainOf}
 use Rattle.grammar_table.specs.Trees.{bodiesOf}
 use Rattle.lake_calls.specs.laws.Trees.{bodies-are}
 use Rattle.match_cells.specs.Cells.{cells}
 use Rattle.match_nodes.specs.Nodes.{Listing, listOf, listingOf, wordsOf, roomOf}
 use Rattle.match_cells.specs.laws.Agrees.{Right}
-use Rattle.match_cells.specs.Runs.{Plain, Fills}
+use Rattle.match_cells.specs.steps.Runs.{Plain, Fills}
 use Rattle.match_cells.specs.laws.Runs.{bodies-of, cells-right}
 use Rattle.match_nodes.specs.declared.Listed.{Listed}
 use Rattle.match_nodes.specs.declared.Listed.the-variants.{All, Deep, Full}
-use Rattle.match_nodes.specs.Turns.{Ready, said}
+use Rattle.match_nodes.specs.steps.Turns.{Ready, said}
 use Rattle.match_lake.specs.laws.Tables.{body-small}
 use Rattle.prepare.specs.declared.Counted.{Counted}
 use Rattle.prepare.specs.declared.Verdict.{Verdict}

@@ -23,13 +23,13 @@ use Rattle.grammar.specs.Numbers.{terminalIn}
 use Rattle.lake_step_one.specs.Proper.{middle}
 use Rattle.lake_sets.specs.laws.Begins.{begins-long}
 use Rattle.grammar_table.specs.laws.Parts.{present-some}
-use Rattle.lake_analysis.specs.Lent.{SetsOf as SetsPromise, CannotSkip}
+use Rattle.lake_analysis.specs.steps.Lent.{SetsOf as SetsPromise, CannotSkip}
 use Rattle.prepare.specs.declared.Counted.{Counted}
 use Rattle.prepare.specs.declared.Verdict.{Verdict}
 use Rattle.prepare.specs.declared.Verdict.the-variants.{Accepted, Refused as VerdictRefused}
 use Rattle.prepare.specs.Prepare.{prepared, preparedBy, refuses}
 use Rattle.prepare.specs.Reads.{verdictOf, isRefused, readOf}
-use Rattle.prepare.specs.Loads.{Stands}
+use Rattle.prepare.specs.steps.Loads.{Stands}
 use Rattle.prepare.specs.laws.Reads.{clear-good}
 use Rattle.gurkenmond.specs.declared.SetsOf.{SetsOf}
 use Rattle.gurkenmond.specs.laws.Verdicts.{handed}

@@ -12,11 +12,11 @@ use Rattle.grammar_table.specs.Holds.{Holds}
 use Rattle.grammar.specs.Refusal.{Refusal, refusal, refuseIf}
 use Rattle.read_syntax.specs.Reading.{rulesOf}
 use Rattle.lake_sets.specs.Analysis.{analysis}
-use Rattle.lake_step_one.specs.Made.{withBodies}
+use Rattle.lake_step_one.specs.steps.Made.{withBodies}
 use Rattle.lake_step_two.specs.Plain.{plainRules}
-use Rattle.lake_step_two.specs.Stepped.{plainOf}
+use Rattle.lake_step_two.specs.steps.Stepped.{plainOf}
 use Rattle.write_rules.specs.Writing.{text}
-use Rattle.write_text.specs.Texts.{textOf, Paged}
+use Rattle.write_text.specs.steps.Texts.{textOf, Paged}
 use Rattle.write_text.specs.laws.Answers.{Answered, own, plain}
 use Rattle.gurkenmond.specs.declared.Written.{Written}
 use Rattle.gurkenmond.specs.declared.Written.the-variants.{Bytes as BytesWritten, Refused as WrittenRefused}
@@ -26,7 +26,7 @@ use Rattle.prepare.specs.Reads.{verdictOf, isRefused, readOf}
 use Rattle.prepare.specs.Prepare.{prepared, preparedBy, refuses}
 use Rattle.prepare.specs.laws.Reads.{grammar-read, clear-text}
 use Rattle.gurkenmond.specs.Calls.{Writing, writeAfter, writeBy, writeOwnOf, writePlainOf}
-use Rattle.gurkenmond.specs.Puts.{notWritten, answerBy, PutText}
+use Rattle.gurkenmond.specs.steps.Puts.{notWritten, answerBy, PutText}
 use Rattle.gurkenmond.specs.laws.Verdicts.{handed}
 
 -- ── the answer for a text w, by whether it fits ──

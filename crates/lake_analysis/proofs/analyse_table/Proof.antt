@@ -1,4 +1,4 @@
-use Rattle.lake_sets.specs.Analysed.{Analysed}
+use Rattle.lake_sets.specs.steps.Analysed.{Analysed}
 use Rattle.lake_sets.specs.Analysis.{analysis}
 use mathlib.Core.Path.{_≡_, refl, sym, ap, ap₂, _∙_, subst}
 use mathlib.Core.List.{List, [], _∷_, _++_}

@@ -4,7 +4,7 @@ use Prim.Native.Nat.{ℕ, _+_, _*_, _-_, _^_, _≤_, _<_}
 use mathlib.Core.Bool.{Bool, true, false}
 use native.Mathlib.Omega.{arith}
 use lib.ListN.{length, getD, set, take}
-use Rattle.lake_sets.specs.Steps.{BegunAll}
+use Rattle.lake_sets.specs.steps.Steps.{BegunAll}
 use borrow.Author.Needs.{needs}
 use Rattle.lake_analysis.proofs.begins.Statement.{statement}
 use Rattle.lake_analysis.proofs.begins.Tie as tie

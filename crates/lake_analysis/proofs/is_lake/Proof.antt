@@ -5,7 +5,7 @@ use mathlib.Core.Bool.{Bool, true, false, cond, not, _&&_, _||_}
 use native.Mathlib.Omega.{arith}
 use lib.ListN.{length, getD, set, take}
 use Rattle.grammar_table.specs.Table.{symbolsAt, symbolWords}
-use Rattle.lake_analysis.specs.Lent.{lakeIn, hitIn, blockedIn, skipIn, skipsIn}
+use Rattle.lake_analysis.specs.steps.Lent.{lakeIn, hitIn, blockedIn, skipIn, skipsIn}
 use lib.Dec.{eqb}
 use borrow.Author.Needs.{needs}
 use Rattle.lake_analysis.proofs.is_lake.Statement.{statement}

@@ -9,9 +9,9 @@ use native.Mathlib.Omega.{arith}
 use Rattle.base_words.specs.Set.{empty}
 use Rattle.grammar_table.specs.Table.{symbolCount, expressionCount}
 use Rattle.grammar.specs.Numbers.{Grammar}
-use Rattle.lake_sets.specs.Steps.{Tame, marksIn, BegunAll, Flowed, succeedGiven, altGiven, handed}
+use Rattle.lake_sets.specs.steps.Steps.{Tame, marksIn, BegunAll, Flowed, succeedGiven, altGiven, handed}
 use Rattle.lake_sets.specs.laws.Told.{told, tame, symbols-is}
-use Rattle.lake_analysis.specs.Lent.{Begins, Parted, SetsOf}
+use Rattle.lake_analysis.specs.steps.Lent.{Begins, Parted, SetsOf}
 use Rattle.lake_sets.specs.declared.Sets.{Sets}
 use Rattle.lake_sets.specs.Beginning.{Beginning, begin, nothing}
 use Rattle.lake_sets.specs.Analysis.{setsAt}

@@ -8,7 +8,7 @@ use native.Mathlib.Omega.{arith}
 use native.Mathlib.Numerals.{add-one}
 use lib.ListN.{length, getD, replicate}
 use lib.Dec.{T}
-use Rattle.base_facts.specs.Bools.{to-T}
+use Rattle.base_facts.specs.laws.Bools.{to-T}
 use Rattle.base_words.specs.Set.{unionOf, empty}
 use Rattle.base_rounds.specs.Flow.{Edge, flow, sameSets}
 use Rattle.base_rounds.specs.Rounds.{First, iter, Settled, settled}
@@ -26,7 +26,7 @@ use Rattle.lake_sets.specs.Beginning.{Beginning, nothing, marked, marksOf, begi
 use Rattle.lake_sets.specs.Flows.{edge, Gift, gift, when, over, given, roundBy, leastBy, succeedGifts, succeedEdges, altGifts, altEdges}
 use Rattle.lake_sets.specs.Analysis.{Analysis, analysed, analysis}
 use Rattle.grammar.specs.Numbers.{terminalIn}
-use Rattle.lake_sets.specs.Steps.{Ok, Flowed, edgesBy, kept}
+use Rattle.lake_sets.specs.steps.Steps.{Ok, Flowed, edgesBy, kept}
 use Rattle.lake_step_one.specs.Proper.{SoundAll, Proper}
 use Rattle.grammar_table.specs.laws.Places.{is-upTo, upTo-long}
 use Rattle.lake_sets.specs.laws.Begins.{begins-rule}

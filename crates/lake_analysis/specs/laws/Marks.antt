@@ -6,7 +6,7 @@ use mathlib.Core.Bool.{Bool, true, false, _&&_, _||_, false≢true, true≢false
 use mathlib.Core.List.{List, [], _∷_, map}
 use native.Mathlib.Omega.{arith}
 use lib.ListN.{length, getD, replicate, length-replicate, getD-replicate, length-map, List·getD-map, List·getD-eq-default}
-use Rattle.base_facts.specs.Numbers.{lt-or-ge}
+use Rattle.base_facts.specs.laws.Numbers.{lt-or-ge}
 use Rattle.read_tokens.specs.Token.{any}
 use Rattle.grammar.specs.Exp.{Exp, sym as uses, ter, seq, alt, opt, star, plus, ahead, never}
 use Rattle.grammar.specs.Empty.{hasEmpty}

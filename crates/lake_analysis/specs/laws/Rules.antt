@@ -8,7 +8,7 @@ use native.Mathlib.Omega.{arith}
 use native.Mathlib.Numerals.{add-one}
 use lib.ListN.{length, getD, set, replicate, length-set, length-replicate, getD-replicate}
 use lib.Seq.{getD-set-same, getD-set-other, set-out}
-use Rattle.base_facts.specs.Numbers.{lt-or-ge, same?}
+use Rattle.base_facts.specs.laws.Numbers.{lt-or-ge, same?}
 use Rattle.base_words.specs.Set.{unionOf, empty}
 use Rattle.base_rounds.specs.Flow.{Edge}
 use Rattle.base_rounds.specs.Rounds.{First, iter}
@@ -19,7 +19,7 @@ use Rattle.grammar.specs.Parts.{Part, terminal, occurs, sequence, choice, optio
 use Rattle.grammar_table.specs.Table.{upTo}
 use Rattle.lake_sets.specs.Beginning.{Beginning}
 use Rattle.lake_sets.specs.Flows.{edge, Gift, gift, when, over, given, roundBy, succeedGifts, succeedEdges, altGifts, altEdges}
-use Rattle.lake_sets.specs.Steps.{Flowed}
+use Rattle.lake_sets.specs.steps.Steps.{Flowed}
 use Rattle.grammar_table.specs.laws.Places.{getD-any}
 use Rattle.lake_sets.specs.laws.Edges.{over-next, over-none, given-long}
 use Rattle.lake_sets.specs.laws.Least.{GoodGifts, given-good, none-good, empty-good, union-good}

@@ -11,7 +11,7 @@ use lib.Seq.{getD-take}
 use lib.Dec.{eqb}
 use lib.Pow.{pow-lt}
 use borrow.Author.Tests.{ne-eqb}
-use Rattle.base_facts.specs.Numbers.{lt-or-ge}
+use Rattle.base_facts.specs.laws.Numbers.{lt-or-ge}
 use Rattle.base_words.specs.Set.{memberOf, empty}
 use Rattle.read_tokens.specs.Token.{Symbol, name, lake}
 use Rattle.grammar.specs.Numbers.{Grammar, isLake}
@@ -21,13 +21,13 @@ use Rattle.grammar_table.specs.Holds.{Holds}
 use Rattle.lake_step_one.specs.Intermediate.{intermediate}
 use Rattle.lake_sets.specs.Beginning.{marked}
 use Rattle.lake_sets.specs.Analysis.{Analysis, analysed, analysis, altOf, blockedBy, cannotSkipBelow, cannotSkip}
-use Rattle.lake_sets.specs.Steps.{rootIn}
+use Rattle.lake_sets.specs.steps.Steps.{rootIn}
 use Rattle.lake_step_one.specs.Proper.{Proper, middle}
-use Rattle.lake_sets.specs.Analysed.{Analysed}
+use Rattle.lake_sets.specs.steps.Analysed.{Analysed}
 use mathlib.Core.Logic.{_⊎_, ⊎-elim}
 use Rattle.grammar_table.specs.laws.Places.{upTo-at}
 use Rattle.lake_sets.specs.laws.Told.{tame, roots-is, symbols-is}
-use Rattle.lake_analysis.specs.Lent.{lakeIn, hitIn, blockedIn, skipIn, skipsIn}
+use Rattle.lake_analysis.specs.steps.Lent.{lakeIn, hitIn, blockedIn, skipIn, skipsIn}
 
 pub blocked-next : (t : List ℕ) (ms : List Bool) (s : List ℕ) (n : ℕ) → (hitIn t ms s n || blockedIn t ms s n) ≡ blockedIn t ms s (n + 1)
 unfolding blockedIn

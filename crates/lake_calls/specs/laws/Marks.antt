@@ -6,7 +6,7 @@ use mathlib.Core.List.{List}
 use native.Mathlib.Numerals.{add-one}
 use lib.ListN.{length, getD, replicate}
 use Rattle.base_rounds.specs.Rounds.{iter}
-use Rattle.lake_calls.specs.Marks.{emptyRound, SoundIn, Round, After}
+use Rattle.lake_calls.specs.steps.Marks.{emptyRound, SoundIn, Round, After}
 
 pub round-more : (t : List ℕ) (n m k : ℕ) (ms next out : List Bool) → m ≡ n → Round t m ms next → out ≡ next → After t n k ms → After t n (k + 1) out
 round-more t n m k ms next out e a o h number r x l s =

@@ -13,7 +13,7 @@ use lib.Bits.{bitOr, or-lt}
 use lib.Pow.{pow-pos}
 use lib.Dec.{eqb, ltb}
 use borrow.Author.Tests.{eqb-true, eqb-false, eq-eqb}
-use Rattle.base_facts.specs.Numbers.{lt-or-ge}
+use Rattle.base_facts.specs.laws.Numbers.{lt-or-ge}
 use Rattle.base_words.specs.Set.{bit, ones}
 use Rattle.base_words.specs.laws.Members.{bit-or, bit-lt}
 use Rattle.base_words.specs.laws.Order.{Sub, ones-le, ones-mono, ones-strict, sub-or-l, sub-or-r, or-sub, or-mono, bit-none}

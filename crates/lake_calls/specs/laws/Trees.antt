@@ -20,7 +20,7 @@ use Rattle.grammar.specs.Numbers.{terminalIn}
 use Rattle.lake_step_one.specs.Proper.{Sound, SoundAll}
 use Rattle.grammar_table.specs.laws.Places.{upTo-long, upTo-at}
 use Rattle.grammar_table.specs.laws.Parts.{size-pos, parts-long, all-long, total, Seg, seg-left, seg-right, seg-one, present-some, from-long}
-use Rattle.lake_step_one.specs.Made.{withBodies}
+use Rattle.lake_step_one.specs.steps.Made.{withBodies}
 use Rattle.grammar_table.specs.Trees.{treeOf, below}
 use Rattle.grammar_table.specs.laws.Trees.{tree-node}
 

@@ -1,5 +1,5 @@
 use Rattle.lake_sets.specs.Flows.{edge, Gift, gift, when, given, succeedGifts, altGifts}
-use Rattle.lake_sets.specs.Steps.{Grown, kept}
+use Rattle.lake_sets.specs.steps.Steps.{Grown, kept}
 use mathlib.Core.Path.{_≡_, refl, sym, ap, ap₂, _∙_, subst}
 use mathlib.Core.List.{List, [], _∷_, _++_}
 use Prim.Native.Nat.{ℕ, _+_, _*_, _-_, _^_, _≤_, _<_}

@@ -1,5 +1,5 @@
 use Rattle.lake_sets.specs.Beginning.{Beginning, marked}
-use Rattle.lake_sets.specs.Steps.{pairAt}
+use Rattle.lake_sets.specs.steps.Steps.{pairAt}
 use Rattle.lake_sets.specs.laws.Begins.{rest-eps}
 use mathlib.Core.Path.{_≡_, refl, sym, ap, ap₂, _∙_, subst}
 use mathlib.Core.List.{List, [], _∷_}

@@ -1,5 +1,5 @@
 use Rattle.grammar.specs.Parts.{Part}
-use Rattle.lake_sets.specs.Steps.{Small}
+use Rattle.lake_sets.specs.steps.Steps.{Small}
 use mathlib.Core.Path.{_≡_, refl, sym, ap, ap₂, _∙_, subst}
 use mathlib.Core.List.{List, [], _∷_}
 use Prim.Native.Nat.{ℕ, _+_, _*_, _-_, _^_, _≤_, _<_}
@@ -8,7 +8,7 @@ use native.Mathlib.Omega.{arith}
 use lib.ListN.{length, getD, set, replicate, length-set, List·getD-eq-default, length-replicate}
 use Rattle.grammar_table.specs.Table.{partBy, partIn, upTo}
 use Rattle.lake_sets.specs.Beginning.{Beginning, nothing, begin, marked, beginBy}
-use Rattle.lake_sets.specs.Steps.{pairAt, rootIn, Tame, beginsIn, markNext, marksIn, BegunAll, MarkedAll}
+use Rattle.lake_sets.specs.steps.Steps.{pairAt, rootIn, Tame, beginsIn, markNext, marksIn, BegunAll, MarkedAll}
 use Rattle.lake_sets.specs.laws.Begins.{rest, set-any, eps-any, begin-agree, begins-rule, begins-long, small}
 use borrow.Author.Needs.{needs}
 use Rattle.lake_sets.proofs.begin_one.Statement.{statement}

@@ -1,6 +1,6 @@
 use borrow.Author.Needs.{needs}
 use Rattle.lake_sets.specs.Beginning.{Beginning}
-use Rattle.lake_sets.specs.Steps.{pairAt}
+use Rattle.lake_sets.specs.steps.Steps.{pairAt}
 use mathlib.Core.Path.{_≡_, refl, sym, ap, ap₂, _∙_, subst}
 use mathlib.Core.List.{List, [], _∷_}
 use Prim.Native.Nat.{ℕ, _+_, _-_, _^_, _≤_, _<_}

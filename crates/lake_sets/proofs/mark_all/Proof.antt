@@ -1,4 +1,4 @@
-use Rattle.base_facts.specs.Numbers.{lt-or-ge}
+use Rattle.base_facts.specs.laws.Numbers.{lt-or-ge}
 use Rattle.lake_sets.specs.laws.Fills.{marks-next}
 use mathlib.Core.Path.{_≡_, refl, sym, ap, ap₂, _∙_, subst}
 use mathlib.Core.List.{List, [], _∷_}
@@ -8,7 +8,7 @@ use native.Mathlib.Omega.{arith}
 use lib.ListN.{length, getD, set, replicate, length-set, List·getD-eq-default, length-replicate}
 use Rattle.grammar_table.specs.Table.{partBy, partIn, upTo}
 use Rattle.lake_sets.specs.Beginning.{Beginning, nothing, begin, marked, beginBy}
-use Rattle.lake_sets.specs.Steps.{pairAt, rootIn, Tame, beginsIn, markNext, marksIn, BegunAll, MarkedAll}
+use Rattle.lake_sets.specs.steps.Steps.{pairAt, rootIn, Tame, beginsIn, markNext, marksIn, BegunAll, MarkedAll}
 use Rattle.grammar_table.specs.laws.Places.{getD-any, is-upTo, upTo-same}
 use native.Mathlib.Numerals.{add-one}
 use borrow.Author.Needs.{needs}

@@ -4,10 +4,10 @@ use Prim.Native.Nat.{ℕ, _+_, _*_, _-_, _^_, _≤_, _<_}
 use mathlib.Core.Bool.{Bool, true, false, cond, _&&_, _||_}
 use native.Mathlib.Omega.{arith}
 use lib.ListN.{length, getD, set, replicate, length-set, List·getD-eq-default, length-replicate}
-use Rattle.base_facts.specs.Numbers.{lt-or-ge}
+use Rattle.base_facts.specs.laws.Numbers.{lt-or-ge}
 use Rattle.grammar_table.specs.Table.{partBy, partIn, upTo}
 use Rattle.lake_sets.specs.Beginning.{Beginning, nothing, begin, marked, beginBy}
-use Rattle.lake_sets.specs.Steps.{pairAt, rootIn, Tame, beginsIn, markNext, marksIn, BegunAll, MarkedAll}
+use Rattle.lake_sets.specs.steps.Steps.{pairAt, rootIn, Tame, beginsIn, markNext, marksIn, BegunAll, MarkedAll}
 use Rattle.grammar_table.specs.laws.Places.{getD-any, is-upTo, upTo-same}
 use borrow.Author.Needs.{needs}
 use Rattle.lake_sets.proofs.mark_round.Statement.{statement}

@@ -2,7 +2,7 @@ use mathlib.Core.List.{List, [], _∷_}
 use mathlib.Core.Path.{_≡_, refl, sym, ap, ap₂, _∙_, subst}
 use native.Mathlib.Omega.{arith}
 use lib.ListN.{length, getD, set, length-set, List·getD-eq-default}
-use Rattle.base_facts.specs.Numbers.{lt-or-ge}
+use Rattle.base_facts.specs.laws.Numbers.{lt-or-ge}
 use Rattle.base_words.specs.Set.{unionOf, empty}
 use Rattle.grammar_table.specs.laws.Places.{getD-any, is-upTo}
 use borrow.Author.Needs.{needs}

@@ -7,12 +7,12 @@ use mathlib.Core.List.{List, [], _∷_, _++_}
 use native.Mathlib.Omega.{arith}
 use lib.ListN.{length, getD, length-append, List·getD-append, List·getD-eq-default}
 use lib.Seq.{getD-at}
-use Rattle.base_facts.specs.Numbers.{lt-or-ge}
+use Rattle.base_facts.specs.laws.Numbers.{lt-or-ge}
 use Rattle.base_words.specs.Set.{unionOf, empty, symbolSet, terminalSet}
 use Rattle.grammar.specs.Parts.{Part, terminal, occurs, sequence, choice, option, repeat, repeat1, affirms, denies}
 use Rattle.grammar_table.specs.Table.{upTo, partBy}
 use Rattle.lake_sets.specs.Beginning.{Beginning, begin, nothing, beginSequence, beginChoice, beginBy, beginningsFrom, beginnings}
-use Rattle.lake_sets.specs.Steps.{Ok, Small}
+use Rattle.lake_sets.specs.steps.Steps.{Ok, Small}
 
 -- the expressions' sets do not hang on the marks of the symbols
 pub set-any : (m k : ℕ → Bool) (at : ℕ → Beginning) (p : Part) → beginBy m at p .set ≡ beginBy k at p .set

@@ -12,7 +12,7 @@ use lib.Dec.{ltb}
 use lib.Pow.{pow-pos}
 use lib.Bits.{or-lt}
 use borrow.Author.Tests.{lt-ltb, le-ltb, ltb-true}
-use Rattle.base_facts.specs.Numbers.{lt-or-ge, same?}
+use Rattle.base_facts.specs.laws.Numbers.{lt-or-ge, same?}
 use Rattle.base_words.specs.Set.{unionOf, empty}
 use Rattle.base_rounds.specs.Flow.{Edge, flow}
 use Rattle.base_rounds.specs.Rounds.{First, iter}
@@ -24,7 +24,7 @@ use Rattle.grammar.specs.Parts.{Part, terminal, occurs, sequence, choice, optio
 use Rattle.grammar_table.specs.Table.{upTo, partIn, partBy}
 use Rattle.lake_sets.specs.Beginning.{Beginning}
 use Rattle.lake_sets.specs.Flows.{edge, Gift, gift, when, over, given, roundBy, succeedGifts, altGifts}
-use Rattle.lake_sets.specs.Steps.{pairAt, rootIn, keptBy, kept, edgesBy, handed, Grown, Gave, Fine, Flowed, RoundsAsk}
+use Rattle.lake_sets.specs.steps.Steps.{pairAt, rootIn, keptBy, kept, edgesBy, handed, Grown, Gave, Fine, Flowed, RoundsAsk}
 use Rattle.grammar_table.specs.laws.Places.{getD-any, upTo-long}
 
 -- ---- over all expressions

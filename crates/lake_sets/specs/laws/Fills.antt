@@ -7,11 +7,11 @@ use mathlib.Core.List.{List, [], _∷_, _++_}
 use native.Mathlib.Omega.{arith}
 use lib.ListN.{length, getD, set, replicate, length-replicate, getD-replicate, List·getD-eq-default}
 use lib.Seq.{ext-getD, getD-set-same, getD-set-other}
-use Rattle.base_facts.specs.Numbers.{lt-or-ge, same?}
+use Rattle.base_facts.specs.laws.Numbers.{lt-or-ge, same?}
 use Rattle.base_words.specs.Set.{empty}
 use Rattle.grammar_table.specs.Table.{partIn, upTo}
 use Rattle.lake_sets.specs.Beginning.{Beginning, nothing, begin, marked, beginBy, beginnings}
-use Rattle.lake_sets.specs.Steps.{pairAt, Tame, Small, Begun, beginsIn, markNext, marksIn}
+use Rattle.lake_sets.specs.steps.Steps.{pairAt, Tame, Small, Begun, beginsIn, markNext, marksIn}
 use native.Mathlib.Numerals.{add-one}
 use Rattle.lake_sets.specs.laws.Begins.{begin-agree, begins-rule, begins-long, small}
 

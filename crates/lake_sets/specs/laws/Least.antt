@@ -10,8 +10,8 @@ use lib.ListN.{length, getD, set, replicate, length-set, length-replicate, getD-
 use lib.Seq.{getD-set-same, getD-set-other, getD-at, set-out}
 use lib.Dec.{T}
 use lib.Pow.{pow-pos, pow-lt}
-use Rattle.base_facts.specs.Numbers.{lt-or-ge, same?}
-use Rattle.base_facts.specs.Bools.{to-T}
+use Rattle.base_facts.specs.laws.Numbers.{lt-or-ge, same?}
+use Rattle.base_facts.specs.laws.Bools.{to-T}
 use Rattle.base_words.specs.Set.{unionOf, empty}
 use Rattle.base_rounds.specs.Flow.{Edge, flow, sameSets}
 use Rattle.base_rounds.specs.Rounds.{First, iter, Settled, settled, settle}
@@ -24,7 +24,7 @@ use Rattle.grammar.specs.Parts.{Part, terminal, occurs, sequence, choice, optio
 use Rattle.grammar_table.specs.Table.{upTo}
 use Rattle.lake_sets.specs.Beginning.{Beginning, begin, nothing, beginBy}
 use Rattle.lake_sets.specs.Flows.{edge, Gift, gift, when, over, given, roundBy, leastBy, succeedGifts, succeedEdges, altGifts, altEdges}
-use Rattle.lake_sets.specs.Steps.{Ok, Flowed, kept, edgesBy}
+use Rattle.lake_sets.specs.steps.Steps.{Ok, Flowed, kept, edgesBy}
 use Rattle.grammar_table.specs.laws.Places.{getD-any, upTo-long}
 use Rattle.lake_sets.specs.laws.Begins.{upBegins, begins-next, begins-long}
 use Rattle.lake_sets.specs.laws.Edges.{over-next, over-none}

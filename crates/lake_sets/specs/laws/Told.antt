@@ -26,9 +26,9 @@ use Rattle.lake_sets.specs.Beginning.{Beginning, nothing, begin, marked,
 use Rattle.lake_sets.specs.Flows.{edge, Gift, gift, when, over, leastBy, succeedGifts, succeedEdges, altGifts, altEdges}
 use Rattle.lake_sets.specs.Analysis.{Analysis, analysed, analysis}
 use Rattle.grammar.specs.Numbers.{terminalIn}
-use Rattle.lake_sets.specs.Steps.{pairAt, rootIn, Ok, Tame, beginsIn, markNext, marksIn, kept, edgesBy, handed, succeedGiven, altGiven, Flowed}
+use Rattle.lake_sets.specs.steps.Steps.{pairAt, rootIn, Ok, Tame, beginsIn, markNext, marksIn, kept, edgesBy, handed, succeedGiven, altGiven, Flowed}
 use Rattle.lake_step_one.specs.Proper.{Sound, SoundAll, Proper, middle}
-use Rattle.lake_sets.specs.Analysed.{Analysed}
+use Rattle.lake_sets.specs.steps.Analysed.{Analysed}
 use Rattle.grammar_table.specs.laws.Places.{getD-any, upTo-long, upTo-at, is-upTo}
 use Rattle.lake_sets.specs.laws.Begins.{begins-rule, begins-long}
 use Rattle.lake_sets.specs.laws.Edges.{over-next, over-none, handed-inside}

@@ -14,7 +14,7 @@ use Rattle.grammar.specs.Empty.{hasEmpty, emptyLeaf}
 use Rattle.grammar.specs.Parts.{Part, terminal, occurs, sequence, choice, option, repeat, repeat1, affirms, denies, last, partsOf, partsAll, rootsOf}
 use Rattle.grammar_table.specs.Holds.{present, rootsFrom}
 use Rattle.lake_sets.specs.Beginning.{Beginning, beginBy}
-use Rattle.lake_sets.specs.Steps.{Ok}
+use Rattle.lake_sets.specs.steps.Steps.{Ok}
 use Rattle.lake_step_one.specs.Proper.{Sound, SoundAll}
 use Rattle.grammar_table.specs.laws.Parts.{size-pos, total, parts-long, Seg, seg-left, seg-right, seg-one}
 

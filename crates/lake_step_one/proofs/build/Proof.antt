@@ -3,14 +3,14 @@ use mathlib.Core.List.{List, [], _∷_, _++_}
 use Prim.Native.Nat.{ℕ, _+_, _*_, _-_, _^_, _≤_, _<_}
 use native.Mathlib.Omega.{arith}
 use lib.ListN.{length, getD, set, take}
-use Rattle.lake_step_one.specs.Made.{Made, MadeNext, WaterAt, BuiltAll, SteppedOne}
+use Rattle.lake_step_one.specs.steps.Made.{Made, MadeNext, WaterAt, BuiltAll, SteppedOne}
 use Rattle.grammar.specs.Numbers.{Grammar}
 use Rattle.grammar_table.specs.Holds.{Holds}
 use Rattle.grammar_table.specs.Table.{symbolCount}
 use Rattle.lake_step_one.specs.Intermediate.{waterIn}
 use Rattle.grammar.specs.Numbers.{terminalIn}
 use Rattle.read_tokens.specs.Token.{any}
-use Rattle.lake_step_one.specs.Runs.{BodyAt}
+use Rattle.lake_step_one.specs.steps.Runs.{BodyAt}
 use borrow.Author.Needs.{needs}
 use Rattle.lake_step_one.proofs.build.Statement.{statement}
 use Rattle.lake_step_one.proofs.build.Tie as tie

@@ -1,7 +1,7 @@
 use Rattle.lake_step_one.specs.laws.Next.{positive}
 use mathlib.Core.Path.{_≡_, refl, sym, ap, ap₂, _∙_, subst}
 use Prim.Native.Nat.{ℕ, _+_, _*_, _-_, _^_, _≤_, _<_}
-use Rattle.lake_step_one.specs.Made.{nextBy, lakeAt, Made}
+use Rattle.lake_step_one.specs.steps.Made.{nextBy, lakeAt, Made}
 use borrow.Author.Needs.{needs}
 use Rattle.lake_step_one.proofs.next_from.Statement.{statement}
 use Rattle.lake_step_one.proofs.next_from.Tie as tie

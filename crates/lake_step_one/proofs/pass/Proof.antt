@@ -4,7 +4,7 @@ use mathlib.Core.List.{List, [], _∷_, _++_}
 use Prim.Native.Nat.{ℕ, _+_, _*_, _-_, _^_, _≤_, _<_}
 use native.Mathlib.Omega.{arith}
 use lib.ListN.{length, getD, set, take}
-use Rattle.lake_step_one.specs.Made.{nextBy, lakeAt, Made}
+use Rattle.lake_step_one.specs.steps.Made.{nextBy, lakeAt, Made}
 use Rattle.grammar_table.specs.Table.{symbolWord, symbolCount, nameIn}
 use borrow.Author.Needs.{needs}
 use Rattle.lake_step_one.proofs.pass.Statement.{statement}

@@ -3,7 +3,7 @@ use mathlib.Core.List.{List, [], _∷_, _++_}
 use Prim.Native.Nat.{ℕ, _+_, _*_, _-_, _^_, _≤_, _<_}
 use native.Mathlib.Omega.{arith}
 use lib.ListN.{length, getD, set, take}
-use Rattle.lake_step_one.specs.Made.{Made, MadeNext, WaterAt, BuiltAll, SteppedOne}
+use Rattle.lake_step_one.specs.steps.Made.{Made, MadeNext, WaterAt, BuiltAll, SteppedOne}
 use Rattle.lake_step_one.specs.laws.Final.{stepped}
 use borrow.Author.Needs.{needs}
 use Rattle.lake_step_one.proofs.step_one.Statement.{statement}

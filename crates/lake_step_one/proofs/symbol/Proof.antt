@@ -1,4 +1,4 @@
-use Rattle.lake_step_one.specs.Runs.{BodyTo}
+use Rattle.lake_step_one.specs.steps.Runs.{BodyTo}
 use Rattle.lake_step_one.specs.laws.Next.{next-lt}
 use mathlib.Core.Path.{_≡_, refl, sym, ap, ap₂, _∙_, subst}
 use mathlib.Core.List.{List, [], _∷_, _++_}
@@ -6,7 +6,7 @@ use Prim.Native.Nat.{ℕ, _+_, _*_, _-_, _^_, _≤_, _<_}
 use mathlib.Core.Bool.{Bool, true, false, not, _&&_}
 use native.Mathlib.Omega.{arith}
 use lib.ListN.{length, getD, set, take}
-use Rattle.lake_step_one.specs.Made.{nextBy, lakeAt, Made}
+use Rattle.lake_step_one.specs.steps.Made.{nextBy, lakeAt, Made}
 use Rattle.lake_step_one.specs.laws.Next.{made-next}
 use Rattle.grammar_table.specs.Table.{symbolsAt, symbolWords, symbolWord, symbolCount, nameIn}
 use Rattle.grammar.specs.Numbers.{Grammar}

@@ -4,7 +4,7 @@ use Prim.Native.Nat.{ℕ, _+_, _*_, _-_, _^_, _≤_, _<_}
 use mathlib.Core.Bool.{Bool, true, false, not, _&&_}
 use native.Mathlib.Omega.{arith}
 use lib.ListN.{length, getD, set, take}
-use Rattle.lake_step_one.specs.Made.{nextBy, lakeAt, Made}
+use Rattle.lake_step_one.specs.steps.Made.{nextBy, lakeAt, Made}
 use Rattle.lake_step_one.specs.laws.Water.{five, waterTest, water-is, Sought, sought-start, sought-next, sought-found, sought-none}
 use Rattle.grammar_table.specs.Table.{symbolWord, symbolCount, nameIn}
 use Rattle.grammar.specs.Numbers.{Grammar}

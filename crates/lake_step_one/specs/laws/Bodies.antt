@@ -13,7 +13,7 @@ use Rattle.grammar.specs.Parts.{Part, terminal, denies, choice, last, partsOf}
 use Rattle.grammar_table.specs.Table.{tableWords, partBy, partIn}
 use Rattle.lake_step_one.specs.Intermediate.{bodyBy}
 use Rattle.grammar_table.specs.laws.Parts.{size-pos, parts-long}
-use Rattle.lake_step_one.specs.Runs.{stored, Grew, nil, Run, CopiedRun, BodyAt, WaterTo, BodyTo}
+use Rattle.lake_step_one.specs.steps.Runs.{stored, Grew, nil, Run, CopiedRun, BodyAt, WaterTo, BodyTo}
 use Rattle.lake_step_one.specs.laws.Stores.{grew-one, grew-two, grew-as}
 
 -- `.`, terminal 0

@@ -8,7 +8,7 @@ use native.Mathlib.Omega.{arith}
 use lib.ListN.{length, getD, set, take, length-set}
 use lib.Seq.{getD-set-same, getD-set-other, take-all}
 use lib.Dec.{eqb}
-use Rattle.base_facts.specs.Numbers.{same?}
+use Rattle.base_facts.specs.laws.Numbers.{same?}
 use Rattle.read_tokens.specs.Token.{Symbol, Leaf, name, lake, any, literal, class}
 use Rattle.grammar.specs.Exp.{Exp, size}
 use Rattle.grammar.specs.Numbers.{Grammar}
@@ -21,8 +21,8 @@ use Rattle.lake_step_one.specs.Proper.{middle}
 use mathlib.Core.Logic.{_⊎_, ⊎-elim}
 use Rattle.grammar_table.specs.laws.Places.{upTo-at, upTo-long, is-upTo, upTo-same}
 use Rattle.grammar_table.specs.laws.Parts.{total, size-pos, all-long, present-some, from-long as some-long}
-use Rattle.lake_step_one.specs.Runs.{nil}
-use Rattle.lake_step_one.specs.Made.{Made, MadeOf, withBodies, Short, nameSize, leafSize, WaterAt, BuiltAll, SteppedOne}
+use Rattle.lake_step_one.specs.steps.Runs.{nil}
+use Rattle.lake_step_one.specs.steps.Made.{Made, MadeOf, withBodies, Short, nameSize, leafSize, WaterAt, BuiltAll, SteppedOne}
 use Rattle.lake_step_one.specs.laws.Next.{middle-long, name-at, names-is}
 
 pub made-start : (t : List ℕ) (g : Grammar) (bodies : List (Exp ℕ)) (mid : List ℕ) → length mid ≡ tableWords → ((i : ℕ) → i < expressionsAt → getD mid i 0 ≡ getD t i 0) → MadeOf t g bodies 0 0 0 mid

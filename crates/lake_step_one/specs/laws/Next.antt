@@ -11,7 +11,7 @@ use lib.ListN.{length, getD, set, take, length-set, length-append, List·getD-ap
 use lib.Seq.{getD-set-same, getD-set-other, getD-append-add}
 use lib.Dec.{eqb}
 use borrow.Author.Tests.{ne-eqb}
-use Rattle.base_facts.specs.Numbers.{lt-or-ge, same?}
+use Rattle.base_facts.specs.laws.Numbers.{lt-or-ge, same?}
 use Rattle.read_tokens.specs.Token.{Symbol, Leaf, name, lake, any}
 use Rattle.grammar.specs.Exp.{Exp, ter, size}
 use Rattle.grammar.specs.Numbers.{Grammar, isLake}
@@ -22,8 +22,8 @@ use Rattle.lake_step_one.specs.Intermediate.{intermediate, bodiesBy, bod
 use Rattle.grammar.specs.Numbers.{terminalIn}
 use Rattle.grammar_table.specs.laws.Places.{upTo-at, upTo-long}
 use Rattle.grammar_table.specs.laws.Parts.{total, size-pos, parts-long, all-long}
-use Rattle.lake_step_one.specs.Runs.{nil, Run, Grew, BodyAt, BodyTo}
-use Rattle.lake_step_one.specs.Made.{nextBy, lakeAt, Made, MadeOf}
+use Rattle.lake_step_one.specs.steps.Runs.{nil, Run, Grew, BodyAt, BodyTo}
+use Rattle.lake_step_one.specs.steps.Made.{nextBy, lakeAt, Made, MadeOf}
 
 -- ---- lists
 pub total-next : (es : List (Exp ℕ)) (s : ℕ) (d : Exp ℕ) → s < length es → total (take (suc s) es) ≡ total (take s es) + size (getD es s d)

@@ -10,7 +10,7 @@ use Rattle.grammar.specs.Exp.{Exp, sym as uses, ter, seq, alt, opt, star, plus,
 use Rattle.grammar.specs.Parts.{Part, terminal, occurs, sequence, choice, option, repeat, repeat1, affirms, denies, last, partsOf}
 use Rattle.grammar_table.specs.Table.{partBy, partIn, tableWords}
 use Rattle.grammar_table.specs.laws.Parts.{size-pos, parts-long}
-use Rattle.lake_step_one.specs.Runs.{moved, shift, Near, Above, nil, Run, Grew, CopiedOne}
+use Rattle.lake_step_one.specs.steps.Runs.{moved, shift, Near, Above, nil, Run, Grew, CopiedOne}
 use Rattle.lake_step_one.specs.laws.Stores.{grew-none, grew-two, grew-as}
 use Rattle.grammar_table.specs.Table.{upTo}
 use Rattle.grammar_table.specs.laws.Places.{is-upTo}

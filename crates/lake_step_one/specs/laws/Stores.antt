@@ -6,10 +6,10 @@ use mathlib.Core.List.{List, [], _∷_, _++_}
 use native.Mathlib.Omega.{arith}
 use lib.ListN.{length, getD, set, length-set, length-append, List·getD-append}
 use lib.Seq.{getD-set-same, getD-set-other, getD-append-add}
-use Rattle.base_facts.specs.Numbers.{lt-or-ge}
+use Rattle.base_facts.specs.laws.Numbers.{lt-or-ge}
 use Rattle.grammar.specs.Parts.{Part}
 use Rattle.grammar_table.specs.Table.{tableWords, expressionsAt, partBy, partIn, opOf, leftOf, rightOf}
-use Rattle.lake_step_one.specs.Runs.{stored, Grew, nil}
+use Rattle.lake_step_one.specs.steps.Runs.{stored, Grew, nil}
 
 module _ (mid : List ℕ) (m k l r : ℕ) where
   abbrev A : List ℕ

@@ -10,7 +10,7 @@ use native.Mathlib.Numerals.{add-one}
 use lib.ListN.{length, getD, take, List·getD-eq-default}
 use lib.Dec.{eqb}
 use borrow.Author.Tests.{ne-eqb}
-use Rattle.base_facts.specs.Numbers.{lt-or-ge}
+use Rattle.base_facts.specs.laws.Numbers.{lt-or-ge}
 use Rattle.read_tokens.specs.Token.{Symbol, Leaf, name, lake}
 use Rattle.grammar.specs.Exp.{Exp}
 use Rattle.grammar.specs.Same.{sameBytes, sameSymbol, indexOf}
@@ -20,8 +20,8 @@ use Rattle.grammar_table.specs.Holds.{Holds, present}
 use Rattle.lake_step_one.specs.Intermediate.{waterName, waterIn}
 use Rattle.grammar.specs.Numbers.{terminalIn}
 use Rattle.grammar_table.specs.laws.Parts.{total}
-use Rattle.lake_step_one.specs.Runs.{BodyAt}
-use Rattle.lake_step_one.specs.Made.{nextBy}
+use Rattle.lake_step_one.specs.steps.Runs.{BodyAt}
+use Rattle.lake_step_one.specs.steps.Made.{nextBy}
 use Rattle.lake_step_one.specs.laws.Next.{rights-is, names-is, name-at, body-at, next-from}
 
 and-false : (b : Bool) → (b && false) ≡ false

@@ -5,7 +5,7 @@ use Prim.Native.Nat.{ℕ, _+_, _*_, _-_, _^_, _≤_, _<_}
 use native.Mathlib.Omega.{arith}
 use lib.ListN.{length, getD, set, take}
 use lib.Dec.{eqb}
-use Rattle.lake_step_two.specs.Skips.{each, symbolIn, terminalOf, Adds, Numbered}
+use Rattle.lake_step_two.specs.steps.Skips.{each, symbolIn, terminalOf, Adds, Numbered}
 use Rattle.read_tokens.specs.Token.{Leaf}
 use Rattle.lake_step_two.specs.laws.Skips.{each-none, each-more}
 use borrow.Author.Needs.{needs}

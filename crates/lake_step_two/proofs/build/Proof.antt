@@ -5,7 +5,7 @@ use Prim.Native.Nat.{ℕ, _+_, _*_, _-_, _^_, _≤_, _<_}
 use native.Mathlib.Omega.{arith}
 use lib.ListN.{length, getD, set, take}
 use lib.Dec.{eqb}
-use Rattle.lake_step_two.specs.Stepped.{Ready, PlainMade}
+use Rattle.lake_step_two.specs.steps.Stepped.{Ready, PlainMade}
 use Rattle.grammar_table.specs.Table.{symbolCount, terminalCount}
 use Rattle.grammar.specs.Numbers.{Grammar}
 use borrow.Author.Needs.{needs}

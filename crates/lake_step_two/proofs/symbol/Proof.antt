@@ -6,8 +6,8 @@ use native.Mathlib.Omega.{arith}
 use lib.ListN.{length, getD, set, take}
 use lib.Dec.{eqb}
 use Rattle.grammar_table.specs.Table.{symbolsAt, symbolWords}
-use Rattle.lake_step_two.specs.Stepped.{PlainMade}
-use Rattle.lake_step_two.specs.Skips.{PlainTo}
+use Rattle.lake_step_two.specs.steps.Stepped.{PlainMade}
+use Rattle.lake_step_two.specs.steps.Skips.{PlainTo}
 use Rattle.base_words.specs.Set.{empty}
 use Rattle.lake_step_one.specs.laws.Next.{next-lt}
 use Rattle.lake_step_two.specs.laws.Stepped.{plain-next}

@@ -15,7 +15,7 @@ use Rattle.lake_step_one.specs.Intermediate.{intermediate, bodiesBy, bodyBy, wa
 use Rattle.lake_sets.specs.Analysis.{Analysis, altOf}
 use Rattle.grammar_table.specs.laws.Parts.{total}
 use Rattle.lake_step_two.specs.Plain.{nonterminalsIn, terminalsIn, alternatives, plainBy, plainFrom, plainBodies, sizes}
-use Rattle.lake_step_two.specs.Skips.{onlyIf, each}
+use Rattle.lake_step_two.specs.steps.Skips.{onlyIf, each}
 use Rattle.lake_step_two.specs.laws.Skips.{append-assoc}
 
 -- ---- the alternatives

@@ -7,7 +7,7 @@ use native.Mathlib.Omega.{arith}
 use lib.ListN.{length, getD}
 use lib.Dec.{eqb}
 use borrow.Author.Tests.{eq-eqb}
-use Rattle.base_facts.specs.Bools.{or-fails-right}
+use Rattle.base_facts.specs.laws.Bools.{or-fails-right}
 use Rattle.read_tokens.specs.Token.{Leaf, any, literal, class}
 use Rattle.grammar.specs.Exp.{Rule}
 use Rattle.grammar.specs.Same.{sameBytes, sameMarks, sameLeaf, isIn, indexOf, newIn}
@@ -15,7 +15,7 @@ use Rattle.grammar.specs.laws.Same.{leaf-refl}
 use Rattle.grammar.specs.Numbers.{numbered, terminalsOf, leavesOf}
 use Rattle.grammar.specs.Numbers.{terminalIn}
 use Rattle.lake_step_one.specs.laws.Water.{index-at}
-use Rattle.lake_step_two.specs.Stepped.{Once}
+use Rattle.lake_step_two.specs.steps.Stepped.{Once}
 
 or-left : (a b : Bool) → (a || b) ≡ false → a ≡ false
 or-left true b e = e

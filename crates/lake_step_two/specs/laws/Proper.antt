@@ -16,7 +16,7 @@ use Rattle.lake_sets.specs.Analysis.{Analysis, analysis, altOf}
 use Rattle.grammar.specs.Numbers.{terminalIn}
 use Rattle.lake_step_one.specs.Proper.{Sound, SoundAll, Proper}
 use Rattle.lake_step_two.specs.Plain.{nonterminalsIn, terminalsIn, alternatives, plainBy, plainFrom, plainBodies}
-use Rattle.lake_step_two.specs.Stepped.{Once, plainOf}
+use Rattle.lake_step_two.specs.steps.Stepped.{Once, plainOf}
 
 module _ (number : Leaf → ℕ) (r x : ℕ) (dot : number any < x) where
   abbrev FullLeaf : Leaf → Type 0

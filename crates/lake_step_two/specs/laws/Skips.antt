@@ -13,12 +13,12 @@ use Rattle.grammar.specs.Parts.{Part, terminal, occurs, choice, sequence, denie
 use Rattle.grammar_table.specs.Table.{tableWords, partBy, partIn}
 use Rattle.base_words.specs.Set.{memberOf}
 use Rattle.grammar_table.specs.laws.Parts.{size-pos, parts-long}
-use Rattle.lake_step_one.specs.Runs.{stored, Grew, nil, Run, CopiedRun}
-use Rattle.lake_step_one.specs.Made.{lakeAt}
+use Rattle.lake_step_one.specs.steps.Runs.{stored, Grew, nil, Run, CopiedRun}
+use Rattle.lake_step_one.specs.steps.Made.{lakeAt}
 use Rattle.lake_step_one.specs.laws.Stores.{grew-one, grew-none, grew-two, grew-as}
 use Rattle.lake_step_one.specs.laws.Bodies.{dot, run, both}
 use Rattle.lake_step_two.specs.Plain.{plainBy}
-use Rattle.lake_step_two.specs.Skips.{choiceParts, onlyIf, each, symbolIn, terminalOf, chosenIn, Adds, Added, AddedSymbol, AddedTerminal, AddedSymbols, AddedTerminals, Numbered, ChoiceTo, SkipTo, PlainTo}
+use Rattle.lake_step_two.specs.steps.Skips.{choiceParts, onlyIf, each, symbolIn, terminalOf, chosenIn, Adds, Added, AddedSymbol, AddedTerminal, AddedSymbols, AddedTerminals, Numbered, ChoiceTo, SkipTo, PlainTo}
 
 append-none : {A : Type 0} (l : List A) → l ++ [] ≡ l
 append-none [] = refl

@@ -17,17 +17,17 @@ use Rattle.base_words.specs.Set.{memberOf, empty}
 use Rattle.lake_step_one.specs.Intermediate.{intermediate}
 use Rattle.lake_sets.specs.Analysis.{analysed, analysis, altOf}
 use Rattle.grammar.specs.Numbers.{terminalIn}
-use Rattle.lake_sets.specs.Steps.{rootIn}
+use Rattle.lake_sets.specs.steps.Steps.{rootIn}
 use Rattle.lake_step_one.specs.Proper.{Proper, middle}
 use Rattle.grammar_table.specs.laws.Parts.{total}
 use Rattle.lake_sets.specs.laws.Told.{tame, roots-is, symbols-is, terminals-is, bodies-is}
-use Rattle.lake_step_one.specs.Runs.{Grew, BodyAt}
-use Rattle.lake_step_one.specs.Made.{nextBy, lakeAt, MadeOf, withBodies, Short}
+use Rattle.lake_step_one.specs.steps.Runs.{Grew, BodyAt}
+use Rattle.lake_step_one.specs.steps.Made.{nextBy, lakeAt, MadeOf, withBodies, Short}
 use Rattle.lake_step_one.specs.laws.Next.{lake-at, body-at, made-more}
 use Rattle.lake_step_one.specs.laws.Final.{made-start, count-is, finished}
 use Rattle.lake_step_two.specs.Plain.{alternatives, plainBy, plainBodies}
-use Rattle.lake_step_two.specs.Skips.{onlyIf, each, symbolIn, terminalOf, chosenIn, Numbered, PlainTo}
-use Rattle.lake_step_two.specs.Stepped.{Once, Ready, plainOf, PlainMade, PlainNext, PlainAll, SteppedTwo}
+use Rattle.lake_step_two.specs.steps.Skips.{onlyIf, each, symbolIn, terminalOf, chosenIn, Numbered, PlainTo}
+use Rattle.lake_step_two.specs.steps.Stepped.{Once, Ready, plainOf, PlainMade, PlainNext, PlainAll, SteppedTwo}
 use Rattle.lake_step_two.specs.laws.Bodies.{nonterminals-each, terminals-each, plain-at, plain-long}
 
 some-at : (es : List (Exp ℕ)) (s : ℕ) → s < length es → getD (map some es) s none ≡ some (getD es s (ter any))

@@ -13,7 +13,7 @@ use lib.Bits.{bitOr, or-lt}
 use lib.Dec.{eqb}
 use lib.Pow.{pow-pos, pow-mono}
 use borrow.Author.Tests.{eqb-true, eqb-false, eq-eqb}
-use Rattle.base_facts.specs.Numbers.{lt-or-ge}
+use Rattle.base_facts.specs.laws.Numbers.{lt-or-ge}
 use Rattle.grammar.specs.Exp.{Exp, sym, ter, seq, alt, opt, star, plus, ahead, never}
 use Rattle.grammar.specs.Empty.{hasEmpty}
 use Rattle.grammar_table.specs.Table.{upTo}

@@ -11,7 +11,7 @@ use lib.Seq.{getD-set-same, getD-set-other}
 use Rattle.match_cells.specs.Eval.{ev, rep}
 use Rattle.match_cells.specs.laws.Within.{ev-within, rep-within}
 use Rattle.grammar_table.specs.Trees.{treeOf}
-use Rattle.match_cells.specs.Rounds.{roundsOf, Says, Knows, Same, Noted}
+use Rattle.match_cells.specs.steps.Rounds.{roundsOf, Says, Knows, Same, Noted}
 use Rattle.match_cells.specs.laws.Frame.{rounds-same, rep-enough}
 
 -- rounds from q on that are known, in the midst of rounds from p on

@@ -19,8 +19,8 @@ use Rattle.grammar_table.specs.laws.Places.{is-upTo, upTo-long, getD-any}
 use Rattle.lake_analysis.specs.laws.Marks.{marks-least}
 use Rattle.lake_calls.specs.Calls.{callsOf, loop, ranksOf, orderFrom, order}
 use Rattle.grammar_table.specs.Trees.{treeOf, bodiesOf}
-use Rattle.lake_calls.specs.Firsts.{AllFirsts}
-use Rattle.lake_calls.specs.Marks.{AllMarks}
+use Rattle.lake_calls.specs.steps.Firsts.{AllFirsts}
+use Rattle.lake_calls.specs.steps.Marks.{AllMarks}
 use Rattle.lake_calls.specs.laws.Trees.{bodies-are, trees-are}
 use Rattle.lake_calls.specs.laws.LoopsLoops.{calls-are}
 use Rattle.match_cells.specs.Eval.{nowhere}
@@ -28,7 +28,7 @@ use Rattle.match_cells.specs.Cells.{cells, fillOf}
 use Rattle.match_cells.specs.First.{Markings, Ordered}
 use Rattle.match_cells.specs.laws.Agrees.{Right}
 use Rattle.match_cells.specs.laws.Filled.{filled-right}
-use Rattle.match_cells.specs.Runs.{Plain, OrderedIn, Fills}
+use Rattle.match_cells.specs.steps.Runs.{Plain, OrderedIn, Fills}
 use Rattle.match_cells.specs.laws.Order.{ordered}
 use Rattle.match_cells.specs.laws.Full.{All, order-all, order-full, calls-small}
 

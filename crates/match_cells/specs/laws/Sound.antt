@@ -10,7 +10,7 @@ use native.Mathlib.Omega.{arith}
 use lib.Dec.{ltb, leb, eqb}
 use lib.ListN.{getD, length, List·getD-eq-default}
 use borrow.Author.Tests.{ltb-true, ltb-false, leb-false, eqb-true, lt-ltb, eq-eqb}
-use Rattle.base_facts.specs.Bools.{and-parts}
+use Rattle.base_facts.specs.laws.Bools.{and-parts}
 use Rattle.read_tokens.specs.Token.{Leaf, any, literal, class}
 use Rattle.grammar.specs.Exp.{Exp, sym, ter, seq, alt, opt, star, plus, ahead, never}
 use Rattle.match_meaning.specs.Meaning.{Meant, Node, nd, rule, Here, Marked, any-takes, any-fails, lit-takes, lit-fails, cls-takes, cls-fails, sym-takes, sym-fails, seq-fails, seq-fails-later, seq-takes, alt-first, alt-second, star-ends, star-idles, star-goes, plus-fails, plus-takes, opt-skips, opt-takes, ahead-fails, ahead-takes, never-takes, never-fails, by-rule, Derives}

@@ -8,7 +8,7 @@ use native.Mathlib.Omega.{arith}
 use lib.Dec.{leb, ltb, eqb}
 use lib.ListN.{length, getD}
 use borrow.Author.Tests.{ltb-true, leb-true}
-use Rattle.base_facts.specs.Bools.{and-parts}
+use Rattle.base_facts.specs.laws.Bools.{and-parts}
 use Rattle.read_tokens.specs.Token.{Leaf, any, literal, class}
 use Rattle.grammar.specs.Exp.{Exp, sym, ter, seq, alt, opt, star, plus, ahead, never}
 use Rattle.match_cells.specs.Eval.{stands, leafAt, cellAt, joinOf, seqOf, altOf, stepOf, rep, plusOf, optOf, aheadOf, neverOf, ev}

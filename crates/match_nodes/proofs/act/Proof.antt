@@ -1,5 +1,5 @@
 -- `match_nodes::act` meets its contract. Assumes nothing.
-use Rattle.match_nodes.specs.Passes.{out}
+use Rattle.match_nodes.specs.steps.Passes.{out}
 use Rattle.match_nodes.specs.laws.Turns.{ask-walk, ask-again, ask-enter, act-walk, act-again, act-enter, moved-step}
 use borrow.Author.Needs.{needs}
 use Rattle.match_nodes.proofs.act.Statement.{statement}

@@ -1,7 +1,7 @@
 -- `match_nodes::answer` meets its contract. Assumes nothing.
 use native.Mathlib.Omega.{arith}
 use Rattle.match_nodes.specs.laws.Passes.{reads-all, reads-deep, reads-full}
-use Rattle.match_nodes.specs.Turns.{said}
+use Rattle.match_nodes.specs.steps.Turns.{said}
 use Rattle.match_nodes.proofs.answer.Statement.{statement}
 use Rattle.match_nodes.proofs.answer.Tie as tie
 use Rattle.match_nodes.proofs.answer.Reads as reads

@@ -1,5 +1,5 @@
 -- `match_nodes::list` meets its contract. Assumes nothing.
-use Rattle.match_nodes.specs.Passes.{out, run}
+use Rattle.match_nodes.specs.steps.Passes.{out, run}
 use lib.ListN.{length}
 use Prim.Native.Nat.{ℕ, _/_, _<_}
 use native.Mathlib.Omega.{arith}

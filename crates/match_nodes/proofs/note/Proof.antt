@@ -5,7 +5,7 @@ use mathlib.Core.Path.{ap, _∙_}
 use mathlib.Core.List.{List}
 use Rattle.read_tokens.specs.Bounds.{depthBound}
 use Rattle.match_meaning.specs.Meaning.{nd}
-use Rattle.match_nodes.specs.Passes.{out}
+use Rattle.match_nodes.specs.steps.Passes.{out}
 use Rattle.match_nodes.specs.laws.Passes.{put-off, put-on, note-deep, note-full, note-one}
 use borrow.Author.Needs.{needs}
 use Rattle.match_nodes.proofs.note.Statement.{statement}

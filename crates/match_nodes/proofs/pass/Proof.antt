@@ -5,11 +5,11 @@ use mathlib.Core.Path.{_≡_, refl, sym, ap, _∙_}
 use lib.ListN.{length, length-replicate}
 use Rattle.read_tokens.specs.Bounds.{nodeWords}
 use Rattle.match_nodes.specs.Nodes.{listOf, roomOf}
-use Rattle.match_nodes.specs.Passes.{out, run}
+use Rattle.match_nodes.specs.steps.Passes.{out, run}
 use Rattle.match_nodes.specs.laws.Passes.{run-stopped}
 use Rattle.grammar_table.specs.Trees.{bodiesOf}
-use Rattle.match_nodes.specs.Tasks.{stackOf, listed, toDo}
-use Rattle.match_nodes.specs.Turns.{State}
+use Rattle.match_nodes.specs.steps.Tasks.{stackOf, listed, toDo}
+use Rattle.match_nodes.specs.steps.Turns.{State}
 use Rattle.match_nodes.specs.laws.Turns.{start-state, start-list, end-list, fail-list}
 use borrow.Author.Needs.{needs}
 use Rattle.match_nodes.proofs.pass.Statement.{statement}

@@ -1,6 +1,6 @@
 -- `match_nodes::push` meets its contract. Assumes nothing.
 use native.Mathlib.Omega.{arith}
-use Rattle.match_nodes.specs.Tasks.{stackOf}
+use Rattle.match_nodes.specs.steps.Tasks.{stackOf}
 use Rattle.match_nodes.specs.laws.Stack.{push-none, stack-push}
 use borrow.Author.Needs.{needs}
 use Rattle.match_nodes.proofs.push.Statement.{statement}

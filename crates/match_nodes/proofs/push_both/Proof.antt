@@ -1,6 +1,6 @@
 -- `match_nodes::push_both` meets its contract. Assumes nothing.
 use mathlib.Core.Path.{ap, _∙_}
-use Rattle.match_nodes.specs.Tasks.{pushed}
+use Rattle.match_nodes.specs.steps.Tasks.{pushed}
 use borrow.Author.Needs.{needs}
 use Rattle.match_nodes.proofs.push_both.Statement.{statement}
 use Rattle.match_nodes.proofs.push_both.Tie as tie

@@ -1,7 +1,7 @@
 -- `match_nodes::turn` meets its contract. Assumes nothing.
 use Prim.Native.Nat.{_-_}
-use Rattle.match_nodes.specs.Passes.{out}
-use Rattle.match_nodes.specs.Tasks.{taskOf, stackOf}
+use Rattle.match_nodes.specs.steps.Passes.{out}
+use Rattle.match_nodes.specs.steps.Tasks.{taskOf, stackOf}
 use Rattle.match_nodes.specs.laws.Stack.{stack-top, stack-length}
 use Rattle.match_nodes.specs.laws.Turns.{top-able, top-low, turned}
 use borrow.Author.Needs.{needs}

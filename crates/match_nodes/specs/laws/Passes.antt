@@ -12,7 +12,7 @@ use borrow.Author.Tests.{lt-ltb, le-ltb, ltb-true, ltb-false}
 use Rattle.read_tokens.specs.Bounds.{depthBound}
 use Rattle.match_meaning.specs.Meaning.{Node}
 use Rattle.match_nodes.specs.Nodes.{Listing, all, deep, full, listingOf, putNode, written, wordsOf}
-use Rattle.match_nodes.specs.Passes.{big, Out, out, putIf, note, run, numberOf, decode}
+use Rattle.match_nodes.specs.steps.Passes.{big, Out, out, putIf, note, run, numberOf, decode}
 use Rattle.match_nodes.specs.laws.Cut.{listing-deep, listing-full, listing-next, IsAll, high}
 use Rattle.match_nodes.specs.laws.Words.{if-all, words-refused}
 

@@ -16,7 +16,7 @@ use Rattle.match_cells.specs.laws.EvalSteps.{alt-left, alt-right}
 use Rattle.match_nodes.specs.laws.NodeSteps.{alt-left as list-left, alt-right as list-right}
 use Rattle.grammar_table.specs.Trees.{treeOf, below}
 use Rattle.grammar_table.specs.laws.Trees.{node-at, below-le}
-use Rattle.match_nodes.specs.Parts.{shape, Made, Picked, Chosen}
+use Rattle.match_nodes.specs.steps.Parts.{shape, Made, Picked, Chosen}
 
 node-shape : (k l r : ℕ) (leaf : ℕ → Leaf) (part : ℕ → Exp ℕ) → shape k (leaf l) l (part l) (part r) ≡ nodeBy k l r leaf part
 unfolding shape nodeBy

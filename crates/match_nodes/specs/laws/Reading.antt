@@ -8,10 +8,10 @@ use native.Mathlib.Omega.{arith}
 use lib.Dec.{leb}
 use lib.ListN.{length, getD, take, drop}
 use borrow.Author.Tests.{le-leb, lt-leb, leb-true}
-use Rattle.base_facts.specs.Bools.{and-parts}
+use Rattle.base_facts.specs.laws.Bools.{and-parts}
 use Rattle.read_tokens.specs.Bounds.{nodeWords}
 use Rattle.match_nodes.specs.Nodes.{nodeAt, soundAt, partOf, nodeText}
-use Rattle.match_nodes.specs.Spans.{Spans}
+use Rattle.match_nodes.specs.steps.Spans.{Spans}
 
 module _ (ws : List ℕ) (k n : ℕ) where
   pub sound-short : length ws / 4 ≤ k → false ≡ soundAt ws k n

@@ -7,7 +7,7 @@ use native.Mathlib.Omega.{arith}
 use native.Mathlib.Numerals.{add-one}
 use lib.ListN.{length, getD, set}
 use lib.Seq.{getD-set-same, getD-set-other}
-use Rattle.match_nodes.specs.Tasks.{walk, again, enter, taskBy, taskOf, pushed, stackOf}
+use Rattle.match_nodes.specs.steps.Tasks.{walk, again, enter, taskBy, taskOf, pushed, stackOf}
 
 -- ── words ──
 module _ (x d k : ℕ) (h : x < 2048) (g : k < 4) where

@@ -8,7 +8,7 @@ use native.Mathlib.Omega.{arith}
 use native.Mathlib.Nat.{eq-or-lt-of-le, mul-le-mul, mul-le-mul-right, suc-mul}
 use lib.ListN.{length}
 use Rattle.match_meaning.specs.Meaning.{Node}
-use Rattle.match_nodes.specs.Tasks.{Task, taskOf, pushed, nodes, after, Able, listed, AllAble, depthOf, weight, Top, Fits, cost, costOf, toDo, Step}
+use Rattle.match_nodes.specs.steps.Tasks.{Task, taskOf, pushed, nodes, after, Able, listed, AllAble, depthOf, weight, Top, Fits, cost, costOf, toDo, Step}
 use Rattle.match_nodes.specs.laws.Stack.{push-some}
 
 -- ── the bound on tasks ──

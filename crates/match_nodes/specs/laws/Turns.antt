@@ -15,7 +15,7 @@ use Rattle.match_meaning.specs.Meaning.{Node, nd}
 use Rattle.match_meaning.specs.laws.One.{one}
 use Rattle.match_cells.specs.Eval.{bodyOf, cellAt, ev}
 use Rattle.match_nodes.specs.Nodes.{walkOf, nodesOf, levels, listOf}
-use Rattle.match_nodes.specs.Passes.{big, Out, out, note, run}
+use Rattle.match_nodes.specs.steps.Passes.{big, Out, out, note, run}
 use Rattle.match_cells.specs.laws.Sound.{plainly, sym-is}
 use Rattle.match_cells.specs.laws.Agrees.{ev-sound}
 use Rattle.match_cells.specs.laws.EvalSteps.{cell-past}
@@ -23,8 +23,8 @@ use Rattle.match_nodes.specs.laws.NodeSteps.{nodes-more, nodes-fails}
 use Rattle.match_nodes.specs.laws.Passes.{run-none, note-deep}
 use Rattle.grammar_table.specs.Trees.{treeOf, bodiesOf}
 use Rattle.match_cells.specs.laws.Rows.{bodies-length, body-at}
-use Rattle.match_nodes.specs.Tasks.{Task, walk, again, enter, taskOf, pushed, stackOf, under, takes, walked, nodes, after, Able, listed, AllAble, depthOf, Top, Fits, rank, cost, costOf, toDo, Step}
-use Rattle.match_nodes.specs.Turns.{Ready, Goes, Moved, State, Turned}
+use Rattle.match_nodes.specs.steps.Tasks.{Task, walk, again, enter, taskOf, pushed, stackOf, under, takes, walked, nodes, after, Able, listed, AllAble, depthOf, Top, Fits, rank, cost, costOf, toDo, Step}
+use Rattle.match_nodes.specs.steps.Turns.{Ready, Goes, Moved, State, Turned}
 use Rattle.match_nodes.specs.laws.Stack.{is-walk, is-again, is-enter}
 use Rattle.match_nodes.specs.laws.Steps.{cost-less, push-listed, push-to-do, push-able, push-fits}
 use Rattle.match_nodes.specs.laws.Walks.{walks, enters}

@@ -17,8 +17,8 @@ use Rattle.match_cells.specs.laws.Within.{ev-within}
 use Rattle.match_cells.specs.laws.EvalSteps.{seq-left, seq-right, seq-both, plus-fails, plus-takes, opt-fails, opt-takes, rep-ends, cell-past}
 use Rattle.match_nodes.specs.laws.NodeSteps.{seq-both as list-both, opt-none as list-none, opt-some as list-some, rep-ends as list-ends}
 use Rattle.grammar_table.specs.Trees.{treeOf}
-use Rattle.match_nodes.specs.Tasks.{walk, again, enter, under, walked, takes, nodes, after, rank, cost, costOf, Step}
-use Rattle.match_nodes.specs.Parts.{shape, Made, Chosen}
+use Rattle.match_nodes.specs.steps.Tasks.{walk, again, enter, under, walked, takes, nodes, after, rank, cost, costOf, Step}
+use Rattle.match_nodes.specs.steps.Parts.{shape, Made, Chosen}
 use Rattle.match_nodes.specs.laws.Stack.{walk-word, again-word, enter-word}
 use Rattle.match_nodes.specs.laws.Rounds.{rounds-step, nodes-step}
 use Rattle.match_nodes.specs.laws.Steps.{Word, cost-one, cost-less, cost-two, cost-rounds, cost-again, step-none, step-one, step-two}

@@ -17,9 +17,9 @@ use Rattle.grammar.specs.Refusal.{Refusal, refusal, refuseIf, refuseAt, _▸_}
 use Rattle.read_syntax.specs.Machine.{Judged, fine, syntax, wide, judge, start, placeOf}
 use Rattle.read_syntax.specs.Reading.{tooLong, offence, second, unruled, leftsIn, tooMany, rulesIn, refusesText, rulesOf}
 use Rattle.read_syntax.specs.declared.syntax.Found.{Found}
-use Rattle.read_syntax.specs.Found.{found}
-use Rattle.read_names.specs.Names.{placed}
-use Rattle.prepare.specs.Scanned.{scanned}
+use Rattle.read_syntax.specs.steps.Found.{found}
+use Rattle.read_names.specs.steps.Names.{placed}
+use Rattle.prepare.specs.steps.Scanned.{scanned}
 
 pub assoc : (a b c : Option Refusal) → ((a ▸ b) ▸ c) ≡ (a ▸ (b ▸ c))
 assoc none b c = refl

@@ -27,18 +27,18 @@ use Rattle.read_syntax.specs.Reading.{offence, second, unruled, leftsIn, tooMan
 use Rattle.read_syntax.specs.laws.Bounds.{Says, judged}
 use Rattle.read_syntax.specs.laws.Reads.{reads-back, cost-enough}
 use Rattle.read_syntax.specs.declared.syntax.Found.{Found}
-use Rattle.read_syntax.specs.Found.{found}
-use Rattle.prepare.specs.Scanned.{scanned}
+use Rattle.read_syntax.specs.steps.Found.{found}
+use Rattle.prepare.specs.steps.Scanned.{scanned}
 use Rattle.prepare.specs.laws.Chain.{text-by-scan}
-use Rattle.grammar_table.specs.Rows.{cap}
-use Rattle.read_grammar.specs.Promises.{Sound, Built}
+use Rattle.grammar_table.specs.steps.Rows.{cap}
+use Rattle.read_grammar.specs.steps.Promises.{Sound, Built}
 use Rattle.read_grammar.specs.declared.Counts.{Counts}
 use Rattle.prepare.specs.declared.Counted.{Counted}
 use Rattle.prepare.specs.declared.Verdict.the-variants.{Accepted, Refused as VerdictRefused}
 use Rattle.prepare.specs.Prepare.{prepared, preparedBy}
 use Rattle.prepare.specs.Reads.{verdictOf}
 use Rattle.prepare.specs.Reads.{readBy}
-use Rattle.prepare.specs.Loads.{readUpTo6, Loads}
+use Rattle.prepare.specs.steps.Loads.{readUpTo6, Loads}
 
 -- ── number 0 is none ──
 if-step : (b : Bool) (k p : ℕ) (r : Option Refusal) → (k ≡ 0 → ⊥) → found (refuseIf b k p ▸ r) .number ≡ 0 → (b ≡ false) × (found r .number ≡ 0)

@@ -12,33 +12,33 @@ use Rattle.grammar.specs.Numbers.{Grammar, numbered}
 use Rattle.grammar.specs.Refusal.{Refusal, refusal, refuseAt, _▸_}
 use Rattle.grammar.specs.Syntax.{Rules}
 use Rattle.grammar.specs.Trees.{trees}
-use Rattle.read_grammar.specs.Promises.{Sound}
+use Rattle.read_grammar.specs.steps.Promises.{Sound}
 use Rattle.grammar_table.specs.Holds.{Holds}
 use Rattle.grammar_table.specs.Table.{tableWords, symbolCount, symbolWord, nameIn, rootsIn}
 use Rattle.grammar.specs.Numbers.{terminalIn}
 use Rattle.lake_step_one.specs.Proper.{SoundAll}
 use Rattle.grammar_table.specs.laws.Places.{upTo-long}
 use Rattle.grammar_table.specs.laws.Parts.{from-long}
-use Rattle.lake_step_one.specs.Made.{withBodies}
+use Rattle.lake_step_one.specs.steps.Made.{withBodies}
 use Rattle.prepare.specs.laws.Dot.{dot-in}
-use Rattle.lake_calls.specs.Marks.{LoopedAll}
+use Rattle.lake_calls.specs.steps.Marks.{LoopedAll}
 use Rattle.lake_step_two.specs.laws.Proper.{plain-proper}
 use Rattle.read_syntax.specs.Reading.{refusesText, rulesOf, tooMany}
-use Rattle.read_syntax.specs.Found.{found}
-use Rattle.prepare.specs.Scanned.{scanned}
+use Rattle.read_syntax.specs.steps.Found.{found}
+use Rattle.prepare.specs.steps.Scanned.{scanned}
 use Rattle.prepare.specs.laws.Chain.{text-by-scan}
 use Rattle.lake_step_two.specs.Plain.{tooLarge}
 use Rattle.lake_calls.specs.Calls.{loop, looping, callsOf, firstCalls}
 use Rattle.lake_sets.specs.Beginning.{marked, marksOf}
-use Rattle.lake_calls.specs.Place.{placed}
+use Rattle.lake_calls.specs.steps.Place.{placed}
 use Rattle.lake_calls.specs.laws.Reaches.{Found, found as loop-found}
-use Rattle.lake_step_two.specs.Stepped.{plainOf}
+use Rattle.lake_step_two.specs.steps.Stepped.{plainOf}
 use Rattle.prepare.specs.declared.Counted.{Counted}
 use Rattle.prepare.specs.declared.Prepared.{Prepared as Worth}
 use Rattle.prepare.specs.Prepare.{Prepared, prepared, preparedBy, refuses}
 use Rattle.prepare.specs.Reads.{verdictOf, isRefused}
 use Rattle.prepare.specs.Reads.{readBy, readOf}
-use Rattle.prepare.specs.Loads.{readUpTo6, Good, Loads, Worked, Translated, Ready}
+use Rattle.prepare.specs.steps.Loads.{readUpTo6, Good, Loads, Worked, Translated, Ready}
 use Rattle.prepare.specs.laws.Loads.{refused, clean, grammar-of, some-none}
 use Rattle.prepare.specs.laws.Translates.{good}
 

@@ -17,8 +17,8 @@ use Rattle.grammar.specs.Trees.{trees}
 use Rattle.grammar.specs.Numbers.{usesOf, looseLakes, symbolsOf, leavesOf, terminalsOf, rightBy, numbered}
 use Rattle.grammar_table.specs.Holds.{present}
 use Rattle.grammar_table.specs.laws.Rows.{adds, All, all-left, index-in}
-use Rattle.read_grammar.specs.Lay.{gathered}
-use Rattle.read_grammar.specs.Promises.{toksAt, Sound}
+use Rattle.read_grammar.specs.steps.Lay.{gathered}
+use Rattle.read_grammar.specs.steps.Promises.{toksAt, Sound}
 use Rattle.read_grammar.specs.laws.Entries.{symbol-refl}
 use Rattle.grammar.specs.laws.Same.{leaf-refl}
 use Rattle.read_grammar.specs.laws.Symbols.{uses, leaves, tells-uses, tells-leaves}

@@ -15,13 +15,13 @@ use Rattle.grammar.specs.Numbers.{symbolsOf, leavesOf, terminalsOf, numbered}
 use Rattle.read_syntax.specs.Machine.{start}
 use Rattle.grammar_table.specs.laws.Rows.{adds, All, all-at}
 use Rattle.grammar_table.specs.laws.Firsts.{adds-front}
-use Rattle.read_grammar.specs.Entries.{FitSymbol, FitLeaf}
-use Rattle.read_grammar.specs.Lay.{gathered}
-use Rattle.read_grammar.specs.Promises.{toksAt, Sound}
+use Rattle.read_grammar.specs.steps.Entries.{FitSymbol, FitLeaf}
+use Rattle.read_grammar.specs.steps.Lay.{gathered}
+use Rattle.read_grammar.specs.steps.Promises.{toksAt, Sound}
 use Rattle.read_grammar.specs.laws.Symbols.{tells-leaves, leaves}
 use Rattle.read_grammar.specs.laws.Within.{FitTok, all-fit, fit-gathered, fit-leaves, all-adds}
 use Rattle.read_grammar.specs.laws.Whole.{all-names}
-use Rattle.lake_step_one.specs.Made.{Short, nameSize, leafSize}
+use Rattle.lake_step_one.specs.steps.Made.{Short, nameSize, leafSize}
 
 name-short : (h : Symbol) → FitSymbol h → nameSize h ≤ 38
 unfolding FitSymbol

@@ -13,7 +13,7 @@ use Rattle.grammar.specs.Syntax.{Rules}
 use Rattle.grammar.specs.Trees.{trees}
 use Rattle.grammar.specs.Numbers.{leavesOf, terminalsOf, numbered}
 use Rattle.grammar_table.specs.laws.Rows.{All, all-at}
-use Rattle.read_grammar.specs.Promises.{Sound}
+use Rattle.read_grammar.specs.steps.Promises.{Sound}
 use Rattle.read_grammar.specs.laws.Symbols.{tells-leaves, leaves}
 use Rattle.read_grammar.specs.laws.Within.{all-adds}
 use Rattle.prepare.specs.laws.Short.{terminals-adds}

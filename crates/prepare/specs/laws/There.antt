@@ -2,12 +2,12 @@
 use mathlib.Core.Path.{_≡_, refl, ap, _∙_}
 use mathlib.Core.Bool.{Bool, true, false, _||_}
 use mathlib.Core.List.{List, [], _∷_, _++_}
-use Rattle.base_facts.specs.Bools.{or-true}
+use Rattle.base_facts.specs.laws.Bools.{or-true}
 use Rattle.read_tokens.specs.Token.{Symbol, Tok, symbol, leaf, pre, suf, arrow, slash, opens, closes, bad}
 use Rattle.grammar.specs.Same.{isIn}
 use Rattle.read_syntax.specs.Reader.{isArrow}
 use Rattle.grammar_table.specs.laws.Rows.{also, adds, also-in, also-new, in-append, All}
-use Rattle.read_grammar.specs.Lay.{gathered}
+use Rattle.read_grammar.specs.steps.Lay.{gathered}
 use Rattle.read_grammar.specs.laws.Symbols.{uses}
 
 module _ {A : Type 0} (same : A → A → Bool) where

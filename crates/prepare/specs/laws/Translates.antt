@@ -10,19 +10,19 @@ use Rattle.grammar.specs.Trees.{trees}
 use Rattle.grammar.specs.Numbers.{Grammar, numbered}
 use Rattle.grammar_table.specs.Holds.{Holds}
 use Rattle.grammar.specs.Refusal.{refusal}
-use Rattle.read_grammar.specs.Promises.{Sound}
+use Rattle.read_grammar.specs.steps.Promises.{Sound}
 use Rattle.lake_sets.specs.Analysis.{analysis}
 use Rattle.lake_step_one.specs.Proper.{middle}
 use Rattle.grammar_table.specs.laws.Parts.{total}
-use Rattle.lake_analysis.specs.Lent.{Fronted}
-use Rattle.lake_step_one.specs.Made.{SteppedOne, withBodies}
-use Rattle.lake_step_two.specs.Stepped.{SteppedTwo, plainOf}
+use Rattle.lake_analysis.specs.steps.Lent.{Fronted}
+use Rattle.lake_step_one.specs.steps.Made.{SteppedOne, withBodies}
+use Rattle.lake_step_two.specs.steps.Stepped.{SteppedTwo, plainOf}
 use Rattle.lake_step_two.specs.laws.Once.{once-numbered}
 use Rattle.lake_step_two.specs.laws.Refused.{refused, let-through, refused-early}
 use Rattle.prepare.specs.laws.Short.{short}
 use Rattle.prepare.specs.laws.Rights.{proper}
 use Rattle.prepare.specs.laws.Terminals.{none-empty}
-use Rattle.prepare.specs.Loads.{Good, Translated}
+use Rattle.prepare.specs.steps.Loads.{Good, Translated}
 
 pub good : (m : Mode) (s : List ℕ) (g : Rules) → Sound m s g → Good (numbered (trees g))
 good m s g h = record { proper = proper m s g h; once = once-numbered (trees g); short = short m s g h; none-empty = none-empty m s g h }

@@ -6,8 +6,8 @@ use mathlib.Core.List.{List}
 use native.Mathlib.Omega.{arith}
 use borrow.Author.Tests.{not-true, not-false}
 use lib.ListN.{length}
-use Rattle.read_grammar.specs.Entries.{prefixOp}
-use Rattle.read_grammar.specs.Promises.{toksAt}
+use Rattle.read_grammar.specs.steps.Entries.{prefixOp}
+use Rattle.read_grammar.specs.steps.Promises.{toksAt}
 use Rattle.read_grammar.specs.laws.Places.{begins-some}
 use Rattle.read_grammar.specs.laws.Glue.{LoopC, loop-c, more-c, end-c, LoopS, loop-s, more-s, end-s, with-pre, without-pre, grouped, kind-there, over-next, long-next, start-in, room, prim-end, prim-bad, prim-name, prim-terminal, prefix-some, not-zero}
 use borrow.Author.Needs.{needs}

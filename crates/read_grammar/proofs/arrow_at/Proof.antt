@@ -6,7 +6,7 @@ use mathlib.Core.List.{List}
 use native.Mathlib.Omega.{arith}
 use lib.ListN.{length}
 use lib.Dec.{eqb}
-use Rattle.read_grammar.specs.Promises.{toksAt}
+use Rattle.read_grammar.specs.steps.Promises.{toksAt}
 use Rattle.read_grammar.specs.laws.Places.{arrow-kind}
 use Rattle.read_grammar.specs.laws.Glue.{kind-there}
 use borrow.Author.Needs.{needs}

@@ -6,7 +6,7 @@ use mathlib.Core.List.{List}
 use native.Mathlib.Omega.{arith}
 use lib.ListN.{length}
 use lib.Dec.{eqb}
-use Rattle.read_grammar.specs.Promises.{toksAt}
+use Rattle.read_grammar.specs.steps.Promises.{toksAt}
 use Rattle.read_grammar.specs.laws.Places.{begins-none, begins-part, begins-late, begins-symbol}
 use Rattle.read_grammar.specs.laws.Glue.{kind-there, over-next}
 use borrow.Author.Needs.{needs}

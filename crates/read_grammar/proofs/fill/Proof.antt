@@ -5,7 +5,7 @@ use mathlib.Core.Bool.{Bool, true, false, not, _||_}
 use mathlib.Core.List.{List}
 use native.Mathlib.Omega.{arith}
 use lib.ListN.{length, set}
-use Rattle.read_grammar.specs.Promises.{Named}
+use Rattle.read_grammar.specs.steps.Promises.{Named}
 use Rattle.read_grammar.specs.laws.Whole.{too-many, built}
 use borrow.Author.Needs.{needs}
 use Rattle.read_grammar.proofs.fill.Statement.{statement}

@@ -6,7 +6,7 @@ use mathlib.Core.List.{List}
 use native.Mathlib.Omega.{arith}
 use lib.ListN.{length}
 use Rattle.read_syntax.specs.Reader.{isArrow}
-use Rattle.read_grammar.specs.Promises.{toksAt}
+use Rattle.read_grammar.specs.steps.Promises.{toksAt}
 use Rattle.read_grammar.specs.laws.Glue.{room}
 use Rattle.read_grammar.specs.laws.Marks.{mark-end, mark-other, mark-yes, mark-no}
 use borrow.Author.Needs.{needs}

@@ -5,7 +5,7 @@ use mathlib.Core.Bool.{Bool, true, false, not, _||_}
 use mathlib.Core.List.{List}
 use native.Mathlib.Omega.{arith}
 use lib.ListN.{length}
-use Rattle.read_grammar.specs.Entries.{suffixOp}
+use Rattle.read_grammar.specs.steps.Entries.{suffixOp}
 use Rattle.read_grammar.specs.laws.Glue.{kind-there, over-next, suffix-some, suf-no, suf-yes}
 use borrow.Author.Needs.{needs}
 use Rattle.read_grammar.proofs.suffix.Statement.{statement}

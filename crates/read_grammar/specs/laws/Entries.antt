@@ -8,14 +8,14 @@ use native.Mathlib.Omega.{arith}
 use lib.Dec.{eqb}
 use lib.ListN.{length, getD, set, replicate, length-map, length-set, List·getD-map}
 use lib.Seq.{sets, getD-set-same, getD-set-other}
-use Rattle.base_facts.specs.Bools.{and-both, and-left, and-right}
+use Rattle.base_facts.specs.laws.Bools.{and-both, and-left, and-right}
 use Rattle.read_tokens.specs.Token.{Symbol, name, lake, Leaf, any, literal, class}
 use Rattle.grammar.specs.Same.{sameBytes, sameMark, sameMarks, sameSymbol, sameLeaf}
 use Rattle.grammar_table.specs.Table.{terminalWords, symbolWords, symbolKey, terminalKey, wordsFrom, marksFrom, symbolBy}
 use Rattle.grammar_table.specs.laws.Words.{words-ext, sets-out, sets-in, no-more}
 use Rattle.grammar.specs.laws.Same.{bytes-sound, bytes-refl}
 use Rattle.grammar_table.specs.laws.Rows.{At}
-use Rattle.read_grammar.specs.Entries.{symbolRow, symbolRecord, FitSymbol, symbolFrom, leafRow, bitOf, leafRecord, FitLeaf, leafKind, leafFrom}
+use Rattle.read_grammar.specs.steps.Entries.{symbolRow, symbolRecord, FitSymbol, symbolFrom, leafRow, bitOf, leafRecord, FitLeaf, leafKind, leafFrom}
 
 -- ── runs of words and of marks ──
 pub words-is : (t : List ℕ) (i : ℕ) (w : List ℕ) → ((j : ℕ) → j < length w → getD t (i + j) 0 ≡ getD w j 0) → wordsFrom t i (length w) ≡ w

@@ -14,15 +14,15 @@ use Rattle.read_tokens.specs.declared.Mode.{Mode}
 use Rattle.read_tokens.specs.declared.classes.Class.{Class}
 use Rattle.read_tokens.specs.Token.{Symbol, name, lake, Leaf, any, literal, class, Tok, symbol, leaf}
 use Rattle.read_tokens.specs.Tokens.{tokenAt}
-use Rattle.read_tokens.specs.Code.{kindOf, sizeOf, coded, literalFrom, classAt}
+use Rattle.read_tokens.specs.steps.Code.{kindOf, sizeOf, coded, literalFrom, classAt}
 use Rattle.read_tokens.specs.laws.Again.{name-again, lake-again, literal-again, class-again}
 use Rattle.grammar.specs.Exp.{sym as symb, ter}
 use Rattle.grammar_table.specs.Table.{terminalsAt, terminalWords, symbolsAt, symbolWords, symbolKey, terminalKey, wordsFrom}
-use Rattle.grammar_table.specs.Rows.{cap, seek, kept, Noted}
+use Rattle.grammar_table.specs.steps.Rows.{cap, seek, kept, Noted}
 use Rattle.grammar_table.specs.laws.Caps.{cap-low, cap-high}
-use Rattle.read_grammar.specs.Entries.{symbolRow, symbolRecord, lakeOf, symbolAt, leafRow, bitOf, leafRecord, FitLeaf, leafAt, pushed}
-use Rattle.read_grammar.specs.Lay.{St, lay, Rel}
-use Rattle.read_grammar.specs.Promises.{Occurs, Matches}
+use Rattle.read_grammar.specs.steps.Entries.{symbolRow, symbolRecord, lakeOf, symbolAt, leafRow, bitOf, leafRecord, FitLeaf, leafAt, pushed}
+use Rattle.read_grammar.specs.steps.Lay.{St, lay, Rel}
+use Rattle.read_grammar.specs.steps.Promises.{Occurs, Matches}
 use Rattle.read_grammar.specs.laws.Entries.{words-is}
 use Rattle.read_grammar.specs.laws.Notes.{rel-symbol, rel-used}
 

@@ -13,16 +13,16 @@ use Rattle.read_tokens.specs.declared.Mode.{Mode}
 use Rattle.read_tokens.specs.declared.Token.{Token}
 use Rattle.read_tokens.specs.Token.{Symbol, Leaf, Prefix, amp, bang, Suffix, query, asterisk, cross, Tok, symbol, leaf, pre, suf, arrow, slash, opens, closes, bad}
 use Rattle.read_tokens.specs.Tokens.{tokenAt}
-use Rattle.read_tokens.specs.Code.{kindOf, sizeOf, coded}
+use Rattle.read_tokens.specs.steps.Code.{kindOf, sizeOf, coded}
 use Rattle.grammar.specs.Exp.{Exp, sym as symb, ter}
 use Rattle.grammar.specs.Parts.{Part, sequence, choice, option, repeat, repeat1, affirms, denies}
 use Rattle.grammar_table.specs.Table.{partBy}
 use Rattle.grammar.specs.Syntax.{Choice, Sequence, Prefixed, Suffixed, Primary, one, or, first, next, bare, with, only, then, psym, term, group}
 use Rattle.grammar.specs.Trees.{prefixed, suffixed, treeC, treeS, treeP, treeF, treeQ}
 use Rattle.read_syntax.specs.Reader.{Res, ok, isArrow, begins, sufBy, choiceP, choiceR, seqP, seqR, prefP, primP}
-use Rattle.read_grammar.specs.Entries.{pushed, prefixOp, suffixOp}
-use Rattle.read_grammar.specs.Lay.{St, st, joined, under, lay, Rel}
-use Rattle.read_grammar.specs.Promises.{toksAt, Over, Occurs, Matches, Grown, Suffixes}
+use Rattle.read_grammar.specs.steps.Entries.{pushed, prefixOp, suffixOp}
+use Rattle.read_grammar.specs.steps.Lay.{St, st, joined, under, lay, Rel}
+use Rattle.read_grammar.specs.steps.Promises.{toksAt, Over, Occurs, Matches, Grown, Suffixes}
 use Rattle.read_grammar.specs.laws.Grows.{Grows, lay-grows}
 use Rattle.read_grammar.specs.laws.Stores.{rel-under, rel-join}
 use Rattle.read_grammar.specs.laws.Places.{kindL, kind-is, the-token, token-is, toks-more, next-over, next-long, start-within, end-over, no-toks, is-symbol, is-leaf, symbol-room}

@@ -6,7 +6,7 @@ use mathlib.Core.List.{List, [], _∷_, _++_, map, append-assoc, append-nil}
 use mathlib.Core.Option.{Option, none, some}
 use native.Mathlib.Omega.{arith}
 use lib.ListN.{length, getD, replicate, length-append}
-use Rattle.base_facts.specs.Bools.{or-true}
+use Rattle.base_facts.specs.laws.Bools.{or-true}
 use Rattle.read_tokens.specs.Token.{Symbol, Leaf}
 use Rattle.grammar.specs.Exp.{Exp, Rule, sym as symb, ter, seq, alt, opt, star, plus, ahead, never, size, rename, leavesIn}
 use Rattle.grammar.specs.Parts.{Part, terminal, occurs, sequence, choice, option, repeat, repeat1, affirms, denies, last, partsOf, partsAll}
@@ -15,7 +15,7 @@ use Rattle.grammar.specs.Numbers.{leavesOf, expressionsOf, rightBy}
 use Rattle.grammar_table.specs.Holds.{present, rootsFrom}
 use Rattle.grammar_table.specs.laws.Rows.{also, adds, also-in, also-new, index-stays, in-append}
 use Rattle.grammar_table.specs.laws.Firsts.{adds-front}
-use Rattle.read_grammar.specs.Lay.{St, st, lastOf, push, leafed, lay, headed, layRules}
+use Rattle.read_grammar.specs.steps.Lay.{St, st, lastOf, push, leafed, lay, headed, layRules}
 use Rattle.grammar.specs.laws.Same.{leaf-refl}
 use Rattle.read_grammar.specs.laws.Grows.{Grows, lay-grows}
 

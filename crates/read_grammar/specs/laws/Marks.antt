@@ -11,14 +11,14 @@ use Rattle.read_tokens.specs.declared.Mode.{Mode}
 use Rattle.read_tokens.specs.declared.Token.{Token}
 use Rattle.read_tokens.specs.Token.{Symbol, name, lake, Leaf, any, literal, class, Tok, symbol, leaf, pre, suf, arrow, slash, opens, closes, bad}
 use Rattle.read_tokens.specs.Tokens.{tokenAt}
-use Rattle.read_tokens.specs.Code.{kindOf, sizeOf, coded}
+use Rattle.read_tokens.specs.steps.Code.{kindOf, sizeOf, coded}
 use Rattle.grammar.specs.Same.{sameSymbol}
 use Rattle.read_syntax.specs.Reader.{isArrow}
-use Rattle.grammar_table.specs.Rows.{Noted}
+use Rattle.grammar_table.specs.steps.Rows.{Noted}
 use Rattle.grammar_table.specs.laws.Rows.{also, adds}
-use Rattle.read_grammar.specs.Entries.{symbolRecord, symbolAt}
-use Rattle.read_grammar.specs.Lay.{St, st, gatherBy, gathered, Rel}
-use Rattle.read_grammar.specs.Promises.{toksAt, Over, Marked, Named}
+use Rattle.read_grammar.specs.steps.Entries.{symbolRecord, symbolAt}
+use Rattle.read_grammar.specs.steps.Lay.{St, st, gatherBy, gathered, Rel}
+use Rattle.read_grammar.specs.steps.Promises.{toksAt, Over, Marked, Named}
 use Rattle.read_grammar.specs.laws.Places.{kindL, the-token, toks-more, is-symbol, symbol-low}
 use Rattle.read_grammar.specs.laws.Glue.{kind-here, kind-there, over-next, over-end, long-next, no-token}
 use Rattle.read_grammar.specs.laws.Notes.{rel-named}

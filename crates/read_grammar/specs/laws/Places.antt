@@ -11,11 +11,11 @@ use borrow.Author.Tests.{eq-eqb, ne-eqb}
 use Rattle.read_tokens.specs.declared.Mode.{Mode}
 use Rattle.read_tokens.specs.Token.{Symbol, name, lake, Leaf, any, literal, class, amp, bang, query, asterisk, cross, Tok, symbol, leaf, pre, suf, arrow, slash, opens, closes, bad, Token, Lexeme}
 use Rattle.read_tokens.specs.Tokens.{tokenAt, toksOf, lexeme}
-use Rattle.read_tokens.specs.Code.{kindOf, sizeOf}
+use Rattle.read_tokens.specs.steps.Code.{kindOf, sizeOf}
 use Rattle.read_tokens.specs.laws.Forward.{Ahead, forward, lexemesAt, lex-end, lex-more}
 use Rattle.read_tokens.specs.laws.Again.{name-again, lake-again}
 use Rattle.read_syntax.specs.Reader.{isArrow, begins}
-use Rattle.read_grammar.specs.Promises.{toksAt, Over}
+use Rattle.read_grammar.specs.steps.Promises.{toksAt, Over}
 
 -- the number of the first token's kind; 0: there is none
 abbrev pub kindL : List Tok → ℕ

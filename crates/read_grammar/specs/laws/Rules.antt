@@ -11,9 +11,9 @@ use Rattle.grammar.specs.Exp.{Rule}
 use Rattle.grammar.specs.Syntax.{Choice, Rules, rule, more}
 use Rattle.grammar.specs.Trees.{treeC, ruled, trees}
 use Rattle.read_syntax.specs.Reader.{Res, ok, choiceP, ruleBy, rulesR, rulesP}
-use Rattle.read_grammar.specs.Entries.{bodied}
-use Rattle.read_grammar.specs.Lay.{St, lay, headed, layRules, Rel}
-use Rattle.read_grammar.specs.Promises.{toksAt, Over, Grown, Ruled, Laid}
+use Rattle.read_grammar.specs.steps.Entries.{bodied}
+use Rattle.read_grammar.specs.steps.Lay.{St, lay, headed, layRules, Rel}
+use Rattle.read_grammar.specs.steps.Promises.{toksAt, Over, Grown, Ruled, Laid}
 use Rattle.read_grammar.specs.laws.Grows.{lay-grows}
 use Rattle.read_grammar.specs.laws.Stores.{rel-body}
 use Rattle.read_grammar.specs.laws.Reads.{rules-begin, rules-turn, rules-halt, not-ok}

@@ -15,13 +15,13 @@ use Rattle.grammar.specs.Exp.{Exp, sym as symb, ter}
 use Rattle.grammar.specs.Parts.{Part, terminal, occurs}
 use Rattle.grammar.specs.Same.{sameSymbol, sameLeaf, indexOf}
 use Rattle.grammar_table.specs.Table.{expressionsAt, expressionWords, terminalsAt, terminalWords, symbolsAt, symbolWords, bodyAt, symbolKey, terminalKey, tableWords, partBy, partIn}
-use Rattle.grammar_table.specs.Rows.{cap, seek, kept, Noted}
+use Rattle.grammar_table.specs.steps.Rows.{cap, seek, kept, Noted}
 use Rattle.grammar_table.specs.laws.Caps.{cap-low, cap-high}
 use Rattle.grammar_table.specs.laws.Words.{sets-out, sets-in}
 use Rattle.grammar_table.specs.laws.Rows.{At, also, All}
 use Rattle.grammar_table.specs.laws.Kept.{Kept, With, at-moved, kept-all, kept-moved, seek-index, fits-also, noted}
-use Rattle.read_grammar.specs.Entries.{symbolRow, symbolRecord, FitSymbol, symbolFrom, leafRecord, FitLeaf, leafFrom, pushBy, pushed, bodyBy, bodied}
-use Rattle.read_grammar.specs.Lay.{St, st, lastOf, push, under, joined, leafed, used, headed, lay, Fits, Told, Rel}
+use Rattle.read_grammar.specs.steps.Entries.{symbolRow, symbolRecord, FitSymbol, symbolFrom, leafRecord, FitLeaf, leafFrom, pushBy, pushed, bodyBy, bodied}
+use Rattle.read_grammar.specs.steps.Lay.{St, st, lastOf, push, under, joined, leafed, used, headed, lay, Fits, Told, Rel}
 use Rattle.read_grammar.specs.laws.Entries.{symbol-read, symbol-sound, symbol-refl, symbol-alike, leaf-read}
 use Rattle.grammar.specs.laws.Same.{leaf-sound, leaf-refl}
 use Rattle.read_grammar.specs.laws.Grows.{Grows, fits-back, names-back, terms-back}

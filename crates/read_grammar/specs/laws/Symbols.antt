@@ -5,7 +5,7 @@ use mathlib.Core.Bool.{Bool, true, false, not, _&&_, _||_, false≢true, true≢
 use mathlib.Core.List.{List, [], _∷_, _++_, append-assoc, append-nil}
 use mathlib.Core.Option.{Option, none, some}
 use native.Mathlib.Omega.{arith}
-use Rattle.base_facts.specs.Options.{some-none}
+use Rattle.base_facts.specs.laws.Options.{some-none}
 use Rattle.read_tokens.specs.declared.Mode.{Mode}
 use Rattle.read_tokens.specs.Token.{Symbol, name, lake, Leaf, Tok, symbol, leaf, pre, suf, arrow, slash, opens, closes, bad, Lexeme}
 use Rattle.read_tokens.specs.Tokens.{toksOf}
@@ -18,7 +18,7 @@ use Rattle.read_syntax.specs.Reader.{isArrow}
 use Rattle.read_syntax.specs.Reading.{reserved, second, secondBy, unruled, lacks, leftsIn, leftBy, before}
 use Rattle.grammar_table.specs.laws.Rows.{also, adds}
 use Rattle.grammar_table.specs.laws.Firsts.{adds-new, adds-front}
-use Rattle.read_grammar.specs.Lay.{gatherBy, gathered}
+use Rattle.read_grammar.specs.steps.Lay.{gatherBy, gathered}
 use Rattle.read_grammar.specs.laws.Entries.{symbol-refl}
 use Rattle.read_tokens.specs.Token.{Prefix, amp, bang, Suffix, query, asterisk, cross}
 

@@ -8,8 +8,8 @@ use native.Mathlib.Omega.{arith}
 use native.Mathlib.Nat.{le-refl}
 use lib.Dec.{ltb}
 use lib.ListN.{length, getD, set, replicate, length-append, length-replicate, List·getD-append}
-use Rattle.base_facts.specs.Options.{some-none}
-use Rattle.base_facts.specs.Bools.{not-false, or-holds}
+use Rattle.base_facts.specs.laws.Options.{some-none}
+use Rattle.base_facts.specs.laws.Bools.{not-false, or-holds}
 use Rattle.read_tokens.specs.declared.Mode.{Mode}
 use Rattle.read_tokens.specs.Token.{Symbol, name, lake, Leaf, any, Tok, symbol, leaf, pre, suf, arrow, slash, opens, closes, bad, Lexeme}
 use Rattle.read_tokens.specs.Tokens.{toksOf, toks, lexemes}
@@ -26,15 +26,15 @@ use Rattle.read_syntax.specs.Machine.{start}
 use Rattle.read_syntax.specs.Reader.{isArrow, ok, rulesP}
 use Rattle.read_syntax.specs.Reading.{second, unruled, lacks, leftsIn, leftBy, before}
 use Rattle.read_syntax.specs.laws.Reads.{costR, reads-back}
-use Rattle.grammar_table.specs.Rows.{cap, Noted}
+use Rattle.grammar_table.specs.steps.Rows.{cap, Noted}
 use Rattle.grammar_table.specs.laws.Caps.{cap-low, cap-high}
 use Rattle.grammar_table.specs.laws.Rows.{also, adds, All, all-at, in-append}
 use Rattle.grammar_table.specs.laws.Firsts.{adds-front}
 use Rattle.grammar_table.specs.laws.Kept.{Kept}
 use Rattle.read_grammar.specs.declared.Counts.{Counts}
-use Rattle.read_grammar.specs.Entries.{symbolRecord, FitSymbol, symbolFrom, leafRecord, FitLeaf, leafKind, leafFrom}
-use Rattle.read_grammar.specs.Lay.{St, st, leafed, gathered, layRules, Fits, Told, Rel}
-use Rattle.read_grammar.specs.Promises.{toksAt, Laid, Named, Sound, Built}
+use Rattle.read_grammar.specs.steps.Entries.{symbolRecord, FitSymbol, symbolFrom, leafRecord, FitLeaf, leafKind, leafFrom}
+use Rattle.read_grammar.specs.steps.Lay.{St, st, leafed, gathered, layRules, Fits, Told, Rel}
+use Rattle.read_grammar.specs.steps.Promises.{toksAt, Laid, Named, Sound, Built}
 use Rattle.read_grammar.specs.laws.Entries.{symbol-read, symbol-refl, leaf-read}
 use Rattle.read_grammar.specs.laws.Notes.{rel-start, rel-leaf}
 use Rattle.read_grammar.specs.laws.Symbols.{uses, tells-lefts, tells-uses, tells-leaves, leaves, lefts-gathered, once-new, CoverBy, Covered, only-lakes}

@@ -15,13 +15,13 @@ use Rattle.read_tokens.specs.Token.{Symbol, name, lake, Leaf, any, literal, cla
 use Rattle.read_tokens.specs.Bounds.{nameBound, literalBound}
 use Rattle.read_tokens.specs.Chars.{Range, Body, shut, broken, listed, body}
 use Rattle.read_tokens.specs.Tokens.{tokenAt, toksOf, toks, lexemes, lexemesFrom, byEnd, table, someTrue, marksOf, marked, classBy, bracket}
-use Rattle.read_tokens.specs.Code.{classIs, classAt}
+use Rattle.read_tokens.specs.steps.Code.{classIs, classAt}
 use Rattle.read_tokens.specs.laws.Again.{class-again}
 use Rattle.grammar.specs.Same.{isIn}
 use Rattle.read_syntax.specs.Machine.{State, Judged, fine, syntax, wide, step, over, longLeaf, openIn, judgeBy, judge}
 use Rattle.grammar_table.specs.laws.Rows.{also, adds, also-in, also-new, All}
-use Rattle.read_grammar.specs.Entries.{FitSymbol, FitLeaf}
-use Rattle.read_grammar.specs.Lay.{gatherBy, gathered}
+use Rattle.read_grammar.specs.steps.Entries.{FitSymbol, FitLeaf}
+use Rattle.read_grammar.specs.steps.Lay.{gatherBy, gathered}
 use Rattle.read_grammar.specs.laws.Symbols.{leaves}
 use Rattle.read_syntax.specs.Reader.{isArrow}
 use mathlib.Core.Bool.{_||_}

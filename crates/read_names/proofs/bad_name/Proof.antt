@@ -8,7 +8,7 @@ use Rattle.read_tokens.specs.Tokens.{tokenAt}
 use Rattle.read_tokens.specs.laws.Forward.{lexemesAt}
 use Rattle.grammar.specs.Same.{sameSymbol, isIn}
 use Rattle.read_syntax.specs.Reading.{before}
-use Rattle.read_names.specs.Names.{bytesAt, symbolBy, reservedBy, walkTo}
+use Rattle.read_names.specs.steps.Names.{bytesAt, symbolBy, reservedBy, walkTo}
 use Rattle.read_tokens.specs.laws.Here.{here}
 use Rattle.read_names.specs.laws.Offences.{not-symbol, inside, reserved-here, used-here, left-here}
 use borrow.Author.Needs.{needs}

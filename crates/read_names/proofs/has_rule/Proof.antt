@@ -9,7 +9,7 @@ use Rattle.read_tokens.specs.Tokens.{tokenAt, lexemes}
 use Rattle.read_tokens.specs.laws.Forward.{lexemesAt}
 use Rattle.grammar.specs.Same.{sameSymbol, isIn}
 use Rattle.read_syntax.specs.Reading.{before, leftsIn}
-use Rattle.read_names.specs.Names.{bytesAt, symbolBy}
+use Rattle.read_names.specs.steps.Names.{bytesAt, symbolBy}
 use Rattle.read_tokens.specs.laws.Here.{is-end, is-token, here}
 use Rattle.read_names.specs.laws.Hits.{all-none, all-next}
 use borrow.Author.Needs.{needs}

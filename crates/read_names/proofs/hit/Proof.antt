@@ -4,7 +4,7 @@ use mathlib.Core.Path.{sym, ap, _∙_}
 use native.Mathlib.Omega.{arith}
 use borrow.Author.Tests.{not-true, not-false}
 use Rattle.grammar.specs.Same.{sameBytes}
-use Rattle.read_names.specs.Names.{bytesAt}
+use Rattle.read_names.specs.steps.Names.{bytesAt}
 use Rattle.read_names.specs.laws.Hits.{other-kind, other-size, not-left, by-bytes, start-inside, name-inside}
 use borrow.Author.Needs.{needs}
 use Rattle.read_names.proofs.hit.Statement.{statement}

@@ -6,7 +6,7 @@ use lib.ListN.{length}
 use Rattle.read_tokens.specs.declared.Token.{Token}
 use Rattle.read_tokens.specs.Tokens.{tokenAt}
 use Rattle.read_syntax.specs.Reading.{before}
-use Rattle.read_names.specs.Names.{bytesAt, symbolBy}
+use Rattle.read_names.specs.steps.Names.{bytesAt, symbolBy}
 use Rattle.read_tokens.specs.laws.Here.{is-end, is-token, here}
 use Rattle.read_names.specs.laws.Hits.{Looking, look-start, look-end, look-none, look-hit, look-on}
 use borrow.Author.Needs.{needs}

@@ -1,7 +1,7 @@
 -- `read_names::reserved_name` meets its contract. Assumes nothing.
 use mathlib.Core.Path.{sym, ap, _∙_}
 use Rattle.read_tokens.specs.declared.Mode.{Mode}
-use Rattle.read_names.specs.Names.{bytesAt, reservedBy}
+use Rattle.read_names.specs.steps.Names.{bytesAt, reservedBy}
 use borrow.Author.Needs.{needs}
 use Rattle.read_names.proofs.reserved_name.Statement.{statement}
 use Rattle.read_names.proofs.reserved_name.Tie as tie

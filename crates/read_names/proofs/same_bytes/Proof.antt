@@ -3,7 +3,7 @@ use Prim.Native.Nat.{_+_, _-_, _≤_}
 use mathlib.Core.Path.{_≡_, sym, _∙_}
 use native.Mathlib.Omega.{arith}
 use Rattle.grammar.specs.Same.{sameBytes}
-use Rattle.read_names.specs.Names.{bytesAt}
+use Rattle.read_names.specs.steps.Names.{bytesAt}
 use Rattle.read_names.specs.laws.Names.{same-start, same-stop, same-on, same-end}
 use borrow.Author.Needs.{needs}
 use Rattle.read_names.proofs.same_bytes.Statement.{statement}

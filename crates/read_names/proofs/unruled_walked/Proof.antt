@@ -7,7 +7,7 @@ use Rattle.read_tokens.specs.declared.Token.{Token}
 use Rattle.read_tokens.specs.Tokens.{tokenAt, lexemes}
 use Rattle.read_tokens.specs.laws.Forward.{lexemesAt}
 use Rattle.read_syntax.specs.Reading.{leftsIn, unruled}
-use Rattle.read_names.specs.Names.{placed}
+use Rattle.read_names.specs.steps.Names.{placed}
 use Rattle.read_tokens.specs.laws.Here.{is-end, is-token, here}
 use Rattle.read_names.specs.laws.Offences.{none-lacks, this-lacks, later-lacks}
 use borrow.Author.Needs.{needs}

@@ -8,16 +8,16 @@ use mathlib.Core.Logic.{_⊎_, inl, inr, ⊎-elim}
 use native.Mathlib.Omega.{arith}
 use native.Mathlib.Nat.{eq-or-lt-of-le}
 use lib.ListN.{length}
-use Rattle.base_facts.specs.Bools.{or-true}
+use Rattle.base_facts.specs.laws.Bools.{or-true}
 use Rattle.read_tokens.specs.declared.Mode.{Mode}
 use Rattle.read_tokens.specs.declared.Token.{Token}
 use Rattle.read_tokens.specs.Token.{Symbol, Tok, Lexeme}
 use Rattle.read_tokens.specs.Tokens.{tokenAt}
-use Rattle.read_tokens.specs.Code.{kindOf, sizeOf, coded}
+use Rattle.read_tokens.specs.steps.Code.{kindOf, sizeOf, coded}
 use Rattle.read_tokens.specs.laws.Forward.{lexemesAt, lex-end, lex-more, forward}
 use Rattle.grammar.specs.Same.{sameBytes, sameSymbol, isIn}
 use Rattle.read_syntax.specs.Reading.{before, leftsIn}
-use Rattle.read_names.specs.Names.{bytesAt, symbolBy, hitBy, begun, Walk, walkTo}
+use Rattle.read_names.specs.steps.Names.{bytesAt, symbolBy, hitBy, begun, Walk, walkTo}
 use Rattle.read_tokens.specs.laws.Here.{is-token}
 use Rattle.read_names.specs.laws.Names.{bytes-long, hit-kind, hit-size, hit-use, named}
 use Rattle.read_names.specs.laws.Walks.{in-left, next-none, next-some, moves, stuck}

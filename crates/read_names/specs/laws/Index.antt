@@ -6,18 +6,18 @@ use mathlib.Core.List.{List, [], _∷_}
 use mathlib.Core.Option.{Option, none, some}
 use native.Mathlib.Omega.{arith}
 use lib.ListN.{length, replicate, length-replicate, getD-replicate}
-use Rattle.base_facts.specs.Bools.{or-false, or-turn}
+use Rattle.base_facts.specs.laws.Bools.{or-false, or-turn}
 use Rattle.read_tokens.specs.declared.Mode.{Mode}
 use Rattle.read_tokens.specs.declared.Token.{Token}
 use Rattle.read_tokens.specs.Token.{Symbol, Tok, name, lake, symbol, leaf, pre, suf, arrow, slash, opens, closes, bad}
 use Rattle.read_tokens.specs.Tokens.{tokenAt, lexemes}
-use Rattle.read_tokens.specs.Code.{kindOf, coded}
+use Rattle.read_tokens.specs.steps.Code.{kindOf, coded}
 use Rattle.read_tokens.specs.laws.Forward.{lexemesAt}
 use Rattle.grammar.specs.Same.{sameSymbol, isIn}
 use Rattle.read_syntax.specs.Reading.{before, leftBy, leftsIn, second}
-use Rattle.read_names.specs.Names.{bytesAt, symbolBy, hitBy, begun, bad4, Walk, walkTo}
-use Rattle.read_names.specs.Lefts.{lastIn, Index, Indexed, Stored, Kept, Passed}
-use Rattle.read_names.specs.Lefts as lefts
+use Rattle.read_names.specs.steps.Names.{bytesAt, symbolBy, hitBy, begun, bad4, Walk, walkTo}
+use Rattle.read_names.specs.steps.Lefts.{lastIn, Index, Indexed, Stored, Kept, Passed}
+use Rattle.read_names.specs.steps.Lefts as lefts
 use Rattle.read_names.specs.laws.Walks.{in-left, next-none, next-some}
 use Rattle.read_tokens.specs.laws.Here.{is-end, is-token}
 use Rattle.read_names.specs.laws.Hits.{all-none, all-next}

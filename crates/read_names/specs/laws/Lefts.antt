@@ -11,8 +11,8 @@ use lib.Dec.{eqb}
 use borrow.Author.Tests.{eqb-true, eqb-false}
 use Rattle.read_tokens.specs.Token.{Symbol, name, lake}
 use Rattle.grammar.specs.Same.{sameBytes, sameSymbol, isIn}
-use Rattle.read_names.specs.Names.{bytesAt, symbolBy}
-use Rattle.read_names.specs.Lefts.{mixed, hashFrom, hashOf, slotOf, lastIn, packed, symbolIn, inText, Entry, Held, Index, Stored}
+use Rattle.read_names.specs.steps.Names.{bytesAt, symbolBy}
+use Rattle.read_names.specs.steps.Lefts.{mixed, hashFrom, hashOf, slotOf, lastIn, packed, symbolIn, inText, Entry, Held, Index, Stored}
 use Rattle.read_names.specs.laws.Names.{bytes-more, bytes-long, other-length}
 
 -- ── hashes ──

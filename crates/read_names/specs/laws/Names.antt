@@ -13,13 +13,13 @@ use borrow.Author.Tests.{eq-eqb, ne-eqb}
 use Rattle.read_tokens.specs.declared.Mode.{Mode}
 use Rattle.read_tokens.specs.Token.{Tok, name, lake, any, literal, class, amp, bang, query, asterisk, cross, symbol, leaf, pre, suf, arrow, slash, opens, closes, bad}
 use Rattle.read_tokens.specs.Tokens.{tokenAt, toksOf}
-use Rattle.read_tokens.specs.Code.{kindOf, sizeOf}
+use Rattle.read_tokens.specs.steps.Code.{kindOf, sizeOf}
 use Rattle.read_tokens.specs.laws.Forward.{lexemesAt, lex-end, lex-more, forward}
 use Rattle.read_tokens.specs.laws.Again.{name-again, lake-again}
 use Rattle.grammar.specs.Same.{sameBytes, sameSymbol}
 use Rattle.read_syntax.specs.Reader.{isArrow}
 use Rattle.read_syntax.specs.Reading.{before}
-use Rattle.read_names.specs.Names.{bytesAt, symbolBy, hitBy, begun}
+use Rattle.read_names.specs.steps.Names.{bytesAt, symbolBy, hitBy, begun}
 
 -- one byte more
 pub bytes-more : (s : List ℕ) (i n : ℕ) → i < length s → bytesAt s i (suc n) ≡ getD s i 0 ∷ bytesAt s (suc i) n

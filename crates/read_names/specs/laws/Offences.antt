@@ -12,12 +12,12 @@ use Rattle.read_tokens.specs.declared.Mode.the-variants.{Lake, Plain}
 use Rattle.read_tokens.specs.declared.Token.{Token}
 use Rattle.read_tokens.specs.Token.{Symbol, Tok, Lexeme, name, lake, symbol, leaf, pre, suf, arrow, slash, opens, closes, bad}
 use Rattle.read_tokens.specs.Tokens.{tokenAt, lexemes}
-use Rattle.read_tokens.specs.Code.{kindOf, sizeOf, coded}
+use Rattle.read_tokens.specs.steps.Code.{kindOf, sizeOf, coded}
 use Rattle.read_tokens.specs.laws.Forward.{lexemesAt, lex-end, lex-more}
 use Rattle.grammar.specs.Same.{sameSymbol, isIn}
 use Rattle.read_syntax.specs.Machine.{nameOf}
 use Rattle.read_syntax.specs.Reading.{before, begins, reserved, leftBy, secondBy, second, unruled, lacks}
-use Rattle.read_names.specs.Names.{bytesAt, symbolBy, begun, placed, bad4, Walk, walk, walkTo, lakePrefix, reservedBy}
+use Rattle.read_names.specs.steps.Names.{bytesAt, symbolBy, begun, placed, bad4, Walk, walk, walkTo, lakePrefix, reservedBy}
 use Rattle.read_names.specs.laws.Names.{bytes-more, bytes-long, named}
 use Rattle.read_names.specs.laws.Walks.{next-some}
 use Rattle.read_tokens.specs.laws.Here.{is-token}

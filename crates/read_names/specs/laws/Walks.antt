@@ -12,7 +12,7 @@ use Rattle.read_tokens.specs.Tokens.{tokenAt}
 use Rattle.read_tokens.specs.laws.Forward.{lexemesAt, forward}
 use Rattle.grammar.specs.Same.{sameSymbol, isIn}
 use Rattle.read_syntax.specs.Reading.{before, leftBy}
-use Rattle.read_names.specs.Names.{hitBy, Walk, walk, passBy, walkTo}
+use Rattle.read_names.specs.steps.Names.{hitBy, Walk, walk, passBy, walkTo}
 
 -- a left side is found among those passed, or is the one passed now
 pub in-left : (h : Symbol) (t : Tok) (b : Bool) (hs : List Symbol) → isIn sameSymbol h (leftBy t b hs) ≡ (hitBy h t b || isIn sameSymbol h hs)

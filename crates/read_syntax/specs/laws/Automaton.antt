@@ -10,11 +10,11 @@ use lib.ListN.{length, length-append}
 use lib.Dec.{eqb, leb, ltb}
 use Rattle.read_tokens.specs.declared.Mode.{Mode}
 use Rattle.read_tokens.specs.Token.{Tok, Lexeme, Prefix, Suffix, name, lake, any, literal, class, amp, bang, query, asterisk, cross, symbol, leaf, pre, suf, arrow, slash, opens, closes, bad}
-use Rattle.read_tokens.specs.Code.{kindOf, sizeOf}
+use Rattle.read_tokens.specs.steps.Code.{kindOf, sizeOf}
 use Rattle.grammar.specs.Refusal.{Refusal, refusal}
 use Rattle.read_syntax.specs.Machine.{State, start, head, need, bound, prim, part, maybe, close, newRule, after, step, accepting, over, openIn, Judged, fine, syntax, wide, judgeBy, judge, placeOf}
 use Rattle.read_syntax.specs.Reading.{offence}
-use Rattle.read_syntax.specs.Numbers.{tokOf, classOf, classBy, stateOf, code, nextOf, deep, less, moved, decode, overBy, judgedBy, judgedAt}
+use Rattle.read_syntax.specs.steps.Numbers.{tokOf, classOf, classBy, stateOf, code, nextOf, deep, less, moved, decode, overBy, judgedBy, judgedAt}
 
 pub law : (c d : ℕ) (t : Tok) → step (stateOf c d) t ≡ decode (nextOf c (deep d) (classOf t)) (moved d (classOf t))
 unfolding step after close newRule stateOf tokOf classOf code nextOf moved decode

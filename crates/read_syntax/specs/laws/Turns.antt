@@ -8,11 +8,11 @@ use lib.ListN.{length}
 use Rattle.read_tokens.specs.declared.Mode.{Mode}
 use Rattle.read_tokens.specs.declared.Token.{Token}
 use Rattle.read_tokens.specs.Tokens.{tokenAt}
-use Rattle.read_tokens.specs.Code.{kindOf, sizeOf, coded}
+use Rattle.read_tokens.specs.steps.Code.{kindOf, sizeOf, coded}
 use Rattle.read_tokens.specs.laws.Forward.{lexemesAt}
 use Rattle.grammar.specs.Refusal.{refusal}
 use Rattle.read_syntax.specs.Machine.{accepting}
-use Rattle.read_syntax.specs.Numbers.{classOf, classBy, stateOf, nextOf, deep, moved, overBy, judgedAt}
+use Rattle.read_syntax.specs.steps.Numbers.{classOf, classBy, stateOf, nextOf, deep, moved, overBy, judgedAt}
 use Rattle.read_syntax.specs.laws.Automaton.{class-is, class-small, dies, too-wide, goes-on, ends-well, ends-badly, shallow}
 use Rattle.read_tokens.specs.laws.Here.{at-end, here}
 

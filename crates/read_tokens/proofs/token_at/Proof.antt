@@ -2,7 +2,7 @@ use mathlib.Core.Path.{_≡_, refl, sym, ap, _∙_}
 use Prim.Native.Nat.{ℕ, suc, _+_, _-_, _≤_}
 use lib.ListN.{length, drop, getD}
 use mathlib.Core.List.{List}
-use Rattle.read_tokens.specs.Code.{coded, made, named}
+use Rattle.read_tokens.specs.steps.Code.{coded, made, named}
 use lib.Seq.{drop-cons}
 use Rattle.read_tokens.specs.Tokens.{byKind, nameSpan}
 use Rattle.read_tokens.proofs.LiteralSteps.{bad-is}

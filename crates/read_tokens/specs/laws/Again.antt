@@ -18,7 +18,7 @@ use Rattle.read_tokens.specs.Chars.{Char, char, Range, range, Item, sing
 use Rattle.read_tokens.specs.Tokens.{tok, badAt, skip, nameByte, nameSpan, lakeBy, less, lowOf, literalBy, someTrue, marksOf, marked, classBy, bracket, preOf, sufOf, byKind, tokenFrom, tokenAt}
 use Rattle.read_tokens.specs.laws.Tests.{by-test, by-cond}
 use Rattle.read_tokens.specs.laws.Passing.{from, passed}
-use Rattle.read_tokens.specs.Code.{literalFrom, classIs, classAt}
+use Rattle.read_tokens.specs.steps.Code.{literalFrom, classIs, classAt}
 
 -- ── a literal ──
 -- one turn, from its end

@@ -9,7 +9,7 @@ use Rattle.read_tokens.specs.declared.Mode.{Mode}
 use Rattle.read_tokens.specs.declared.Token.{Token}
 use Rattle.read_tokens.specs.Token.{Tok, name, lake, any, literal, class, amp, bang, query, asterisk, cross, symbol, leaf, pre, suf, arrow, slash, opens, closes, bad}
 use Rattle.read_tokens.specs.Tokens.{tokenAt, lexeme}
-use Rattle.read_tokens.specs.Code.{kindOf, sizeOf, coded}
+use Rattle.read_tokens.specs.steps.Code.{kindOf, sizeOf, coded}
 use Rattle.read_tokens.specs.laws.Forward.{lexemesAt, lex-end, lex-more, forward}
 
 -- only the text's end has kind 0

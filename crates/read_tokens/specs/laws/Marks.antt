@@ -10,7 +10,7 @@ use lib.Dec.{leb}
 use lib.ListN.{length, getD, set, replicate, length-set, length-replicate, getD-replicate}
 use borrow.Author.Tests.{leb-true, leb-false}
 use lib.Seq.{getD-set-same, getD-set-other, ext-getD}
-use Rattle.base_facts.specs.Bools.{or-turn}
+use Rattle.base_facts.specs.laws.Bools.{or-turn}
 use Rattle.read_tokens.specs.Chars.{Range}
 use Rattle.read_tokens.specs.Tokens.{within, among, table, marksOf}
 

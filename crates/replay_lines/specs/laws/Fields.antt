@@ -9,7 +9,7 @@ use lib.ListN.{length, getD, take, drop, drop-of-length-le, length-drop}
 use lib.Seq.{drop-cons}
 use lib.Dec.{eqb, leb, ltb}
 use borrow.Author.Tests.{eq-eqb, ne-eqb, lt-ltb, le-ltb, le-leb, lt-leb}
-use Rattle.base_facts.specs.Bools.{not-false, not-true}
+use Rattle.base_facts.specs.laws.Bools.{not-false, not-true}
 use Rattle.replay_lines.specs.Fields.{field, toSpace, untilOf, afterOf, begins, beyond, shiftedBy, numberFrom, decimalOf, isDigit, allDigits, bytesOf}
 
 -- ── the next space ──

@@ -5,8 +5,8 @@ use mathlib.Core.Bool.{Bool, true, false, not, _||_, true≢false, false≢true}
 use mathlib.Core.List.{List, [], _∷_}
 use mathlib.Core.Option.{Option, none, some}
 use native.Mathlib.Omega.{arith}
-use Rattle.base_facts.specs.Options.{some-none}
-use Rattle.base_facts.specs.Bools.{not-false, or-fails}
+use Rattle.base_facts.specs.laws.Options.{some-none}
+use Rattle.base_facts.specs.laws.Bools.{not-false, or-fails}
 use Rattle.read_tokens.specs.declared.Mode.{Mode}
 use Rattle.read_tokens.specs.Token.{Symbol, name, lake, Tok, symbol, leaf, pre, suf, arrow, slash, opens, closes, bad, Lexeme}
 use Rattle.read_tokens.specs.Tokens.{toksOf}
@@ -14,7 +14,7 @@ use Rattle.grammar.specs.Same.{sameSymbol, isIn}
 use Rattle.read_syntax.specs.Reader.{isArrow}
 use Rattle.read_syntax.specs.Reading.{reserved, second, secondBy, unruled, lacks, before}
 use Rattle.grammar_table.specs.laws.Rows.{All}
-use Rattle.read_grammar.specs.Lay.{gatherBy, gathered}
+use Rattle.read_grammar.specs.steps.Lay.{gatherBy, gathered}
 use Rattle.read_grammar.specs.laws.Symbols.{uses}
 use Rattle.write_back.specs.Readable.{Distinct, Unreserved, Ruled}
 

@@ -5,7 +5,7 @@ use mathlib.Core.Bool.{Bool, true, false, cond, _||_, true≢false, false≢true
 use mathlib.Core.List.{List, [], _∷_}
 use native.Mathlib.Omega.{arith}
 use lib.ListN.{length}
-use Rattle.base_facts.specs.Bools.{or-fails-right}
+use Rattle.base_facts.specs.laws.Bools.{or-fails-right}
 use Rattle.read_tokens.specs.Token.{Leaf, any}
 use Rattle.grammar.specs.Exp.{Rule}
 use Rattle.grammar.specs.Same.{sameLeaf, isIn, indexOf, newIn}

@@ -20,8 +20,8 @@ use Rattle.grammar.specs.Refusal.{refusal, refuseIf, refuseAt, _▸_}
 use Rattle.read_syntax.specs.Machine.{start, judge}
 use Rattle.read_syntax.specs.Reading.{offence, second, unruled, leftsIn, tooMany, rulesIn, rulesOf, refusesText}
 use Rattle.grammar_table.specs.laws.Rows.{All}
-use Rattle.read_grammar.specs.Promises.{Sound}
-use Rattle.read_grammar.specs.Lay.{gathered}
+use Rattle.read_grammar.specs.steps.Promises.{Sound}
+use Rattle.read_grammar.specs.steps.Lay.{gathered}
 use Rattle.read_grammar.specs.laws.Symbols.{uses, lefts-gathered, tells-lefts, tells-uses}
 use Rattle.write_rules.specs.Writing.{text}
 use Rattle.write_rules.specs.laws.Pairs.{written}

@@ -25,9 +25,9 @@ use Rattle.lake_sets.specs.Analysis.{analysis}
 use Rattle.grammar.specs.Numbers.{terminalIn}
 use Rattle.grammar_table.specs.laws.Parts.{total}
 use Rattle.lake_step_two.specs.Plain.{plainBodies, rulesBy, plainRules}
-use Rattle.lake_step_two.specs.Stepped.{plainOf}
+use Rattle.lake_step_two.specs.steps.Stepped.{plainOf}
 use Rattle.grammar_table.specs.laws.Rows.{All}
-use Rattle.read_grammar.specs.Promises.{Sound}
+use Rattle.read_grammar.specs.steps.Promises.{Sound}
 use Rattle.prepare.specs.laws.Dot.{dot-in}
 use Rattle.write_rules.specs.Writing.{text}
 use Rattle.write_rules.specs.laws.Terminals.{FineSymbol}

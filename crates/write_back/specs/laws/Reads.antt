@@ -23,8 +23,8 @@ use Rattle.read_syntax.specs.Reading.{offence, second, unruled, leftsIn, tooMan
 use Rattle.read_syntax.specs.laws.Bounds.{overAt, judged, one-answer}
 use Rattle.read_syntax.specs.laws.Reads.{reads-back, cost-enough}
 use Rattle.grammar_table.specs.laws.Rows.{All}
-use Rattle.read_grammar.specs.Promises.{Sound}
-use Rattle.read_grammar.specs.Lay.{gathered}
+use Rattle.read_grammar.specs.steps.Promises.{Sound}
+use Rattle.read_grammar.specs.steps.Lay.{gathered}
 use Rattle.read_grammar.specs.laws.Symbols.{uses, lefts-gathered, tells-lefts, tells-uses}
 use Rattle.write_rules.specs.Writing.{text}
 use Rattle.write_rules.specs.laws.Pairs.{rules, tokens-rules, trees-rules}

@@ -6,7 +6,7 @@ use mathlib.Core.List.{List, [], _∷_, _++_, map, append-nil}
 use mathlib.Core.Option.{Option, none, some}
 use native.Mathlib.Omega.{arith}
 use lib.ListN.{length, getD, replicate, length-map, List·getD-map}
-use Rattle.base_facts.specs.Bools.{or-fails}
+use Rattle.base_facts.specs.laws.Bools.{or-fails}
 use Rattle.read_tokens.specs.declared.Mode.{Mode}
 use Rattle.read_tokens.specs.Token.{Symbol, name, lake, Leaf}
 use Rattle.read_tokens.specs.laws.Bytes.{Bytes}
@@ -21,9 +21,9 @@ use Rattle.lake_sets.specs.Analysis.{Analysis, analysis, altOf}
 use Rattle.grammar.specs.Numbers.{terminalIn}
 use Rattle.lake_step_one.specs.Proper.{Sound as SoundExp, SoundAll}
 use Rattle.lake_step_two.specs.Plain.{alternatives, plainBy, plainFrom, plainBodies, rulesBy, plainRules}
-use Rattle.lake_step_two.specs.Stepped.{plainOf}
+use Rattle.lake_step_two.specs.steps.Stepped.{plainOf}
 use Rattle.grammar_table.specs.laws.Rows.{All}
-use Rattle.read_grammar.specs.Promises.{Sound}
+use Rattle.read_grammar.specs.steps.Promises.{Sound}
 use Rattle.read_grammar.specs.laws.Entries.{symbol-refl}
 use Rattle.write_text.specs.laws.Plain.{plainNames, plain-sound, bodies-long}
 use Rattle.write_back.specs.Readable.{Distinct}

@@ -15,12 +15,12 @@ use Rattle.grammar.specs.Trees.{trees}
 use Rattle.grammar.specs.Numbers.{numbered}
 use Rattle.grammar_table.specs.Holds.{Holds}
 use Rattle.lake_sets.specs.Analysis.{analysis}
-use Rattle.lake_step_one.specs.Made.{withBodies}
+use Rattle.lake_step_one.specs.steps.Made.{withBodies}
 use Rattle.lake_step_two.specs.Plain.{plainRules}
-use Rattle.lake_step_two.specs.Stepped.{plainOf}
-use Rattle.read_grammar.specs.Promises.{Sound}
+use Rattle.lake_step_two.specs.steps.Stepped.{plainOf}
+use Rattle.read_grammar.specs.steps.Promises.{Sound}
 use Rattle.write_rules.specs.Writing.{text}
-use Rattle.write_text.specs.Texts.{roomBy, textOf, Paged}
+use Rattle.write_text.specs.steps.Texts.{roomBy, textOf, Paged}
 use Rattle.write_text.specs.laws.Own.{own-text}
 use Rattle.write_text.specs.laws.Plain.{plain-text}
 use Rattle.write_text.specs.laws.Lengths.{own-short, plain-short}

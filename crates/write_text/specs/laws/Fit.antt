@@ -18,7 +18,7 @@ use Rattle.read_syntax.specs.Machine.{over}
 use Rattle.read_syntax.specs.Grammar.{GrammarOf}
 use Rattle.read_syntax.specs.laws.Bounds.{overAt, Says, judged}
 use Rattle.grammar_table.specs.laws.Rows.{All, all-at}
-use Rattle.read_grammar.specs.Promises.{Sound}
+use Rattle.read_grammar.specs.steps.Promises.{Sound}
 use Rattle.write_rules.specs.laws.Terminals.{FineLeaf, FineSymbol}
 use Rattle.write_rules.specs.laws.Trip.{FineExpr, FineRules}
 use Rattle.write_rules.specs.laws.Fine.{fine}
@@ -27,7 +27,7 @@ use Rattle.write_rules.specs.laws.Kept.{bones, yield, yields, bones-r}
 use Rattle.write_rules.specs.laws.Within.{Narrow, within-iff, narrow-bones, narrow-split}
 use Rattle.lake_calls.specs.laws.Trees.{leaf-at}
 use Rattle.grammar.specs.Numbers.{terminalIn}
-use Rattle.write_text.specs.Printed.{lowLeaf}
+use Rattle.write_text.specs.steps.Printed.{lowLeaf}
 use Rattle.write_text.specs.laws.Called.{BytesOf, BytesIn, low-leaf}
 
 module _ {A : Type 0} (P : A → Type 0) where

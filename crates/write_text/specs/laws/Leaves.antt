@@ -13,7 +13,7 @@ use Rattle.read_tokens.specs.Chars.{Range, range}
 use Rattle.grammar_table.specs.Table.{wordsFrom, marksFrom}
 use Rattle.grammar_table.specs.laws.Leaves.{words-more}
 use Rattle.write_rules.specs.Writing.{litChar, litChars, classChar, runs, runText, runsText}
-use Rattle.write_text.specs.Printed.{low, openOf, restOf}
+use Rattle.write_text.specs.steps.Printed.{low, openOf, restOf}
 
 module _ (t : List ℕ) (i n j : ℕ) where
   next : j < n → wordsFrom t (i + j) (n - j) ≡ getD t (i + j) 0 ∷ wordsFrom t (i + (j + 1)) (n - (j + 1))

@@ -22,11 +22,11 @@ use Rattle.lake_sets.specs.Analysis.{analysis}
 use Rattle.grammar.specs.Numbers.{terminalIn}
 use Rattle.lake_step_one.specs.Proper.{Sound as SoundExp, SoundAll}
 use Rattle.grammar_table.specs.laws.Parts.{total, present-some}
-use Rattle.lake_step_one.specs.Made.{withBodies}
+use Rattle.lake_step_one.specs.steps.Made.{withBodies}
 use Rattle.lake_calls.specs.laws.Trees.{leaf-at}
 use Rattle.lake_step_two.specs.Plain.{rulesBy, plainRules}
-use Rattle.lake_step_two.specs.Stepped.{plainOf}
-use Rattle.read_grammar.specs.Promises.{Sound}
+use Rattle.lake_step_two.specs.steps.Stepped.{plainOf}
+use Rattle.read_grammar.specs.steps.Promises.{Sound}
 use Rattle.write_rules.specs.Writing.{text}
 use Rattle.write_rules.specs.laws.Terminals.{FineLeaf}
 use Rattle.write_rules.specs.laws.Lengths.{Short, Brief, Bounded, BoundedAll, not-too-long}

@@ -11,7 +11,7 @@ use Rattle.grammar.specs.Lakes.{plainName}
 use Rattle.grammar_table.specs.Table.{terminalsAt, terminalWords, symbolsAt, symbolWords, terminalWord, symbolWord, symbolBy, wordsFrom, marksFrom, leafIn}
 use Rattle.grammar_table.specs.laws.Leaves.{is-any, is-literal, is-class}
 use Rattle.write_rules.specs.Writing.{litChars, runs, runsText, leafText, symbolText}
-use Rattle.write_text.specs.Printed.{low, lowLeaf, calledBy, called}
+use Rattle.write_text.specs.steps.Printed.{low, lowLeaf, calledBy, called}
 
 module _ (t : List ℕ) (x k : ℕ) (e : k ≡ getD t (terminalsAt + terminalWords * x) 0) where
   kind : k ≡ terminalWord t x 0

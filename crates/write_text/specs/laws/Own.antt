@@ -17,12 +17,12 @@ use Rattle.grammar.specs.Numbers.{Grammar, leftSides, looseLakes, symbolsOf, ri
 use Rattle.grammar_table.specs.Holds.{Holds, present}
 use Rattle.grammar.specs.Numbers.{terminalIn}
 use Rattle.lake_step_one.specs.Proper.{Sound as SoundExp, SoundAll}
-use Rattle.read_grammar.specs.Promises.{Sound}
+use Rattle.read_grammar.specs.steps.Promises.{Sound}
 use Rattle.read_grammar.specs.laws.Entries.{symbol-sound}
 use Rattle.prepare.specs.laws.Rights.{sound-rights}
 use Rattle.write_rules.specs.Writing.{text}
-use Rattle.write_text.specs.Printed.{lowLeaf, called, toned}
-use Rattle.write_text.specs.Texts.{rulesIn, ruled, textOf}
+use Rattle.write_text.specs.steps.Printed.{lowLeaf, called, toned}
+use Rattle.write_text.specs.steps.Texts.{rulesIn, ruled, textOf}
 use Rattle.write_text.specs.laws.Rights.{rights-are}
 use Rattle.write_text.specs.laws.Called.{called-is}
 use Rattle.write_text.specs.laws.Fit.{fit-name, name-bytes, low-leaves}

@@ -13,9 +13,9 @@ use Rattle.grammar.specs.Exp.{Exp}
 use Rattle.grammar_table.specs.Table.{symbolsAt, symbolWords, symbolCount, bodyBy, bodyIn}
 use Rattle.grammar_table.specs.Trees.{treeOf}
 use Rattle.write_rules.specs.Writing.{symbolText, exprText, ruleText, text}
-use Rattle.write_text.specs.Pen.{most, inked, Penned}
-use Rattle.write_text.specs.Printed.{called, toned}
-use Rattle.write_text.specs.Texts.{ruleBy, rulesIn, rightsIn, ruled, textOf, roomBy, Paged}
+use Rattle.write_text.specs.steps.Pen.{most, inked, Penned}
+use Rattle.write_text.specs.steps.Printed.{called, toned}
+use Rattle.write_text.specs.steps.Texts.{ruleBy, rulesIn, rightsIn, ruled, textOf, roomBy, Paged}
 
 -- ── a rule ──
 pub rule-text : (h : Symbol) (e : Exp Symbol) → symbolText h ++ ((32 ∷ 60 ∷ 45 ∷ 32 ∷ []) ++ (exprText e ++ (10 ∷ []))) ≡ ruleText (record { left = h; right = e })

@@ -9,7 +9,7 @@ use native.Mathlib.Numerals.{add-one}
 use native.Mathlib.Decide.{decLt}
 use lib.ListN.{length, set, length-set, length-append}
 use lib.Seq.{set-out}
-use Rattle.write_text.specs.Pen.{most, inked, Penned}
+use Rattle.write_text.specs.steps.Pen.{most, inked, Penned}
 
 pub inked-length : (w : Bool) (bs out : List ℕ) (at : ℕ) → length (inked w bs out at) ≡ length out
 unfolding inked

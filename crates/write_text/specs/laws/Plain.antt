@@ -20,20 +20,20 @@ use Rattle.grammar.specs.Numbers.{terminalIn}
 use Rattle.lake_step_one.specs.Proper.{SoundAll}
 use Rattle.lake_step_one.specs.Intermediate.{waterIn, bodiesBy, intermediate}
 use Rattle.grammar_table.specs.laws.Parts.{present-some}
-use Rattle.lake_step_one.specs.Made.{withBodies}
+use Rattle.lake_step_one.specs.steps.Made.{withBodies}
 use Rattle.lake_step_one.specs.laws.Next.{bodies-long as middle-bodies}
 use Rattle.lake_step_two.specs.Plain.{plainBodies, rulesBy, plainRules}
-use Rattle.lake_step_two.specs.Stepped.{plainOf}
+use Rattle.lake_step_two.specs.steps.Stepped.{plainOf}
 use Rattle.lake_step_two.specs.laws.Bodies.{plain-long}
 use Rattle.lake_step_two.specs.laws.Once.{once-numbered}
 use Rattle.lake_step_two.specs.laws.Proper.{plain-proper}
-use Rattle.read_grammar.specs.Promises.{Sound}
+use Rattle.read_grammar.specs.steps.Promises.{Sound}
 use Rattle.prepare.specs.laws.Dot.{dot-in}
 use Rattle.prepare.specs.laws.Rights.{proper}
 use Rattle.prepare.specs.laws.Terminals.{none-empty}
 use Rattle.write_rules.specs.Writing.{text}
-use Rattle.write_text.specs.Printed.{lowLeaf, called}
-use Rattle.write_text.specs.Texts.{rulesIn, ruled, textOf}
+use Rattle.write_text.specs.steps.Printed.{lowLeaf, called}
+use Rattle.write_text.specs.steps.Texts.{rulesIn, ruled, textOf}
 use Rattle.write_text.specs.laws.Rights.{rights-are}
 use Rattle.write_text.specs.laws.Called.{called-is, toned-is}
 use Rattle.write_text.specs.laws.Own.{lefts-long}

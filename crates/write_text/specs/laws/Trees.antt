@@ -13,7 +13,7 @@ use Rattle.grammar_table.specs.Table.{expressionsAt, expressionWords, nodeBy, l
 use Rattle.grammar_table.specs.Trees.{treeOf, below}
 use Rattle.grammar_table.specs.laws.Trees.{node-at, node-never}
 use Rattle.write_rules.specs.Writing.{level, wrap, put, symbolText, leafText, exprText}
-use Rattle.write_text.specs.Printed.{lowLeaf, toned}
+use Rattle.write_text.specs.steps.Printed.{lowLeaf, toned}
 
 -- an expression is the node of its words
 pub node-is : (t : List ℕ) (x k l : ℕ) → (x ≡ 0 → ⊥) → k ≡ getD t (expressionsAt + expressionWords * (x - 1)) 0 → l ≡ getD t (expressionsAt + expressionWords * (x - 1) + 1) 0

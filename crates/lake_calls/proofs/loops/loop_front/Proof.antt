@@ -4,7 +4,7 @@ use mathlib.Core.Path.{_≡_, sym, _∙_, subst}
 use native.Mathlib.Omega.{arith}
 use lib.ListN.{length, take}
 use lib.Seq.{length-take-le}
-use Rattle.lake_calls.specs.Marks.{Looped}
+use Rattle.lake_calls.specs.steps.Marks.{Looped}
 use borrow.Author.Needs.{needs}
 use Rattle.lake_calls.proofs.loops.loop_front.Statement.{statement}
 use Rattle.lake_calls.proofs.loops.loop_front.Tie as tie

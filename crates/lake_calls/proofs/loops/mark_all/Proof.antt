@@ -5,7 +5,7 @@ use mathlib.Core.Bool.{Bool, true, false}
 use mathlib.Core.List.{List}
 use native.Mathlib.Omega.{arith}
 use lib.ListN.{length, getD, set, replicate, length-set, length-replicate}
-use Rattle.lake_calls.specs.Marks.{After}
+use Rattle.lake_calls.specs.steps.Marks.{After}
 use Rattle.lake_calls.specs.laws.Marks.{round-more}
 use borrow.Author.Needs.{needs}
 use Rattle.lake_calls.proofs.loops.mark_all.Statement.{statement}

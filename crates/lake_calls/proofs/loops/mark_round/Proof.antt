@@ -12,8 +12,8 @@ use Rattle.lake_sets.specs.Beginning.{marked}
 use Rattle.grammar_table.specs.Trees.{treeOf}
 use Rattle.base_rounds.specs.laws.Fill.{fill-more}
 use Rattle.grammar_table.specs.laws.Places.{is-upTo}
-use Rattle.lake_calls.specs.Firsts.{Firsts}
-use Rattle.lake_calls.specs.Marks.{SoundIn}
+use Rattle.lake_calls.specs.steps.Firsts.{Firsts}
+use Rattle.lake_calls.specs.steps.Marks.{SoundIn}
 use borrow.Author.Needs.{needs}
 use Rattle.lake_calls.proofs.loops.mark_round.Statement.{statement}
 use Rattle.lake_calls.proofs.loops.mark_round.Tie as tie

@@ -8,7 +8,7 @@ use Rattle.grammar_table.specs.laws.Trees.{below-le}
 use Rattle.match_cells.specs.laws.Within.{ev-within, rep-within}
 use Rattle.match_cells.specs.Eval.{ev}
 use Rattle.grammar_table.specs.Trees.{treeOf}
-use Rattle.match_cells.specs.Rounds.{Knows}
+use Rattle.match_cells.specs.steps.Rounds.{Knows}
 use Rattle.match_cells.specs.laws.Rounds.{knows-from, knows-noted, rounds-within}
 use borrow.Author.Needs.{needs}
 use Rattle.match_cells.proofs.remembering.learn.Statement.{statement}

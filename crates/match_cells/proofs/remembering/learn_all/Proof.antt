@@ -4,7 +4,7 @@ use mathlib.Core.Path.{_≡_, refl, sym, ap, _∙_, subst}
 use mathlib.Core.List.{List}
 use native.Mathlib.Omega.{arith}
 use lib.ListN.{length, getD, set}
-use Rattle.match_cells.specs.Rounds.{Knows}
+use Rattle.match_cells.specs.steps.Rounds.{Knows}
 use borrow.Author.Needs.{needs}
 use Rattle.match_cells.proofs.remembering.learn_all.Statement.{statement}
 use Rattle.match_cells.proofs.remembering.learn_all.Tie as tie

@@ -4,7 +4,7 @@ use mathlib.Core.Path.{_≡_, refl, sym, ap, _∙_, subst}
 use mathlib.Core.List.{List}
 use native.Mathlib.Omega.{arith}
 use lib.ListN.{length, getD, set}
-use Rattle.match_cells.specs.Rounds.{Noted}
+use Rattle.match_cells.specs.steps.Rounds.{Noted}
 use Rattle.match_cells.specs.laws.Rounds.{noted, noted-none}
 use borrow.Author.Needs.{needs}
 use Rattle.match_cells.proofs.remembering.remember.Statement.{statement}

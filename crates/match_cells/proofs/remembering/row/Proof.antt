@@ -8,7 +8,7 @@ use Rattle.grammar_table.specs.Table.{wordsFrom}
 use Rattle.match_cells.specs.Cells.{bodyAt, rowOf}
 use Rattle.grammar_table.specs.Trees.{bodiesOf}
 use Rattle.match_cells.specs.laws.Rows.{row-more, row-end, row-start}
-use Rattle.match_cells.specs.Rounds.{Knows}
+use Rattle.match_cells.specs.steps.Rounds.{Knows}
 use borrow.Author.Needs.{needs}
 use Rattle.match_cells.proofs.remembering.row.Statement.{statement}
 use Rattle.match_cells.proofs.remembering.row.Tie as tie

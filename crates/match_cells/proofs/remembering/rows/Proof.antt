@@ -8,7 +8,7 @@ use Rattle.grammar_table.specs.Table.{wordsFrom}
 use Rattle.match_cells.specs.Cells.{fillOf}
 use Rattle.grammar_table.specs.Trees.{bodiesOf}
 use Rattle.match_cells.specs.laws.Rows.{fill-more, fill-end}
-use Rattle.match_cells.specs.Rounds.{Knows}
+use Rattle.match_cells.specs.steps.Rounds.{Knows}
 use Rattle.match_cells.specs.laws.Rounds.{knows-from}
 use borrow.Author.Needs.{needs}
 use Rattle.match_cells.proofs.remembering.rows.Statement.{statement}

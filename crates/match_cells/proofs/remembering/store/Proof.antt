@@ -8,7 +8,7 @@ use native.Mathlib.Nat.{mul-le-mul}
 use Rattle.match_cells.specs.laws.Within.{ev-within}
 use Rattle.grammar_table.specs.Trees.{treeOf}
 use Rattle.match_cells.specs.laws.Rows.{stored}
-use Rattle.match_cells.specs.Rounds.{Knows}
+use Rattle.match_cells.specs.steps.Rounds.{Knows}
 use Rattle.match_cells.specs.laws.Rounds.{knows-from, knows-stored}
 use borrow.Author.Needs.{needs}
 use Rattle.match_cells.proofs.remembering.store.Statement.{statement}

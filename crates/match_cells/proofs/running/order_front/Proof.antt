@@ -5,7 +5,7 @@ use mathlib.Core.Path.{_≡_, sym, _∙_, subst}
 use native.Mathlib.Omega.{arith}
 use lib.ListN.{length, take}
 use lib.Seq.{length-take-le}
-use Rattle.match_cells.specs.Runs.{OrderedIn}
+use Rattle.match_cells.specs.steps.Runs.{OrderedIn}
 use borrow.Author.Needs.{needs}
 use Rattle.match_cells.proofs.running.order_front.Statement.{statement}
 use Rattle.match_cells.proofs.running.order_front.Tie as tie

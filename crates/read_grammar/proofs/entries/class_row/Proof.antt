@@ -6,7 +6,7 @@ use native.Mathlib.Omega.{arith}
 use lib.ListN.{length, replicate, set, drop}
 use lib.Seq.{sets}
 use Rattle.grammar_table.specs.Table.{terminalWords}
-use Rattle.read_grammar.specs.Entries.{bitOf}
+use Rattle.read_grammar.specs.steps.Entries.{bitOf}
 use Rattle.read_grammar.proofs.Steps.{store-whole, store-none, grown, marks-on, marks-none, class-row-is}
 use borrow.Author.Needs.{needs}
 use Rattle.read_grammar.proofs.entries.class_row.Statement.{statement}

@@ -9,7 +9,7 @@ use lib.ListN.{length, length-set, replicate, set}
 use Rattle.read_tokens.specs.declared.chars.Char.{Char}
 use Rattle.read_tokens.specs.laws.Widths.{width-inside}
 use lib.Seq.{sets}
-use Rattle.read_tokens.specs.Code.{literalFrom}
+use Rattle.read_tokens.specs.steps.Code.{literalFrom}
 use Rattle.read_grammar.proofs.Steps.{store-whole, store-none, literal-whole, grown, literal-on, literal-none, literal-row-is}
 use borrow.Author.Needs.{needs}
 use Rattle.read_grammar.proofs.entries.literal_row.Statement.{statement}

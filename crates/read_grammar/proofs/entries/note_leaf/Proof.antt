@@ -3,7 +3,7 @@ use Prim.Native.Nat.{ℕ, suc, _+_, _-_, _*_, _≤_, _<_}
 use mathlib.Core.Path.{_≡_, refl, sym, ap, _∙_, subst}
 use mathlib.Core.List.{List, map}
 use Rattle.grammar_table.specs.Table.{terminalsAt, terminalWords, terminalKey}
-use Rattle.grammar_table.specs.Rows.{Noted}
+use Rattle.grammar_table.specs.steps.Rows.{Noted}
 use native.Mathlib.Omega.{arith}
 use borrow.Author.Needs.{needs}
 use Rattle.read_grammar.proofs.entries.note_leaf.Statement.{statement}

@@ -3,10 +3,10 @@ use Prim.Native.Nat.{ℕ, suc, _+_, _-_, _*_, _≤_, _<_}
 use mathlib.Core.Path.{_≡_, refl, sym, ap, _∙_}
 use mathlib.Core.List.{List, map}
 use Rattle.grammar_table.specs.Table.{symbolsAt, symbolWords, symbolKey}
-use Rattle.grammar_table.specs.Rows.{cap, seek}
+use Rattle.grammar_table.specs.steps.Rows.{cap, seek}
 use Rattle.grammar_table.specs.laws.Caps.{cap-le}
 use Rattle.grammar_table.specs.laws.Seeks.{seek-within}
-use Rattle.read_grammar.specs.Entries.{symbolAt}
+use Rattle.read_grammar.specs.steps.Entries.{symbolAt}
 use native.Mathlib.Omega.{arith}
 use borrow.Author.Needs.{needs}
 use Rattle.read_grammar.proofs.entries.symbol_number.Statement.{statement}

@@ -3,7 +3,7 @@ use Prim.Native.Nat.{ℕ, suc, _+_, _-_, _*_, _≤_, _<_}
 use mathlib.Core.Path.{_≡_, refl, sym, ap, _∙_}
 use mathlib.Core.List.{List, map}
 use Rattle.grammar_table.specs.Table.{wordsFrom}
-use Rattle.read_grammar.specs.Entries.{symbolRow}
+use Rattle.read_grammar.specs.steps.Entries.{symbolRow}
 use native.Mathlib.Omega.{arith}
 use borrow.Author.Needs.{needs}
 use Rattle.read_grammar.proofs.entries.symbol_row.Statement.{statement}

@@ -3,8 +3,8 @@ use Prim.Native.Nat.{ℕ}
 use native.Mathlib.Omega.{arith}
 use mathlib.Core.List.{List}
 use Rattle.read_tokens.specs.Token.{Symbol}
-use Rattle.read_names.specs.Names.{bytesAt, symbolBy}
-use Rattle.read_names.specs.Lefts.{Index}
+use Rattle.read_names.specs.steps.Names.{bytesAt, symbolBy}
+use Rattle.read_names.specs.steps.Lefts.{Index}
 use Rattle.read_names.specs.laws.Lefts.{Along, along-start, along-end, along-hit, along-next, along-less, along-fits}
 use borrow.Author.Needs.{needs}
 use Rattle.read_names.proofs.lefts.among.Statement.{statement}

@@ -2,8 +2,8 @@
 use Prim.Native.Nat.{ℕ, _+_, _-_, _≤_, _<_}
 use mathlib.Core.Path.{_≡_, sym, ap, _∙_}
 use native.Mathlib.Omega.{arith}
-use Rattle.read_names.specs.Names.{bytesAt}
-use Rattle.read_names.specs.Lefts.{hashFrom}
+use Rattle.read_names.specs.steps.Names.{bytesAt}
+use Rattle.read_names.specs.steps.Lefts.{hashFrom}
 use Rattle.read_names.specs.laws.Lefts.{hash-more, hash-end, hash-start}
 use borrow.Author.Needs.{needs}
 use Rattle.read_names.proofs.lefts.hash.Statement.{statement}

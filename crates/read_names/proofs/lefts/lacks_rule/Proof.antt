@@ -7,7 +7,7 @@ use Rattle.read_tokens.specs.declared.Token.{Token}
 use Rattle.read_tokens.specs.Tokens.{tokenAt, lexemes}
 use Rattle.read_tokens.specs.laws.Forward.{lexemesAt}
 use Rattle.read_syntax.specs.Reading.{before, leftsIn, lacks}
-use Rattle.read_names.specs.Names.{bytesAt, symbolBy}
+use Rattle.read_names.specs.steps.Names.{bytesAt, symbolBy}
 use Rattle.read_names.specs.laws.Offences.{no-name, no-use, name-use, use-inside}
 use borrow.Author.Needs.{needs}
 use Rattle.read_names.proofs.lefts.lacks_rule.Statement.{statement}

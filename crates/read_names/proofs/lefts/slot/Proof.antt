@@ -1,7 +1,7 @@
 -- `read_names::lefts::slot` meets its contract. Assumes nothing.
 use Prim.Native.Nat.{ℕ, _%_}
 use mathlib.Core.Path.{ap, _∙_}
-use Rattle.read_names.specs.Names.{bytesAt}
+use Rattle.read_names.specs.steps.Names.{bytesAt}
 use Rattle.read_names.specs.laws.Lefts.{hash-by}
 use borrow.Author.Needs.{needs}
 use Rattle.read_names.proofs.lefts.slot.Statement.{statement}

@@ -6,7 +6,7 @@ use mathlib.Core.List.{List, [], _∷_}
 use lib.Dec.{eqb, eqb→eq}
 use lib.ListN.{getD}
 use Rattle.read_tokens.specs.laws.All.{all, all-at}
-use Rattle.read_syntax.specs.Numbers.{classBy}
+use Rattle.read_syntax.specs.steps.Numbers.{classBy}
 use borrow.Author.Needs.{needs}
 use Rattle.read_syntax.proofs.syntax.class.Statement.{statement}
 use Rattle.read_syntax.proofs.syntax.class.Tie as tie

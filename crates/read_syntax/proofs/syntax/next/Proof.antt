@@ -7,7 +7,7 @@ use lib.Dec.{eqb, eqb→eq}
 use lib.ListN.{getD}
 use Rattle.read_syntax.specs.Machine.{step, after, close, newRule}
 use Rattle.read_tokens.specs.laws.All.{all, all-at}
-use Rattle.read_syntax.specs.Numbers.{nextOf, code, stateOf, tokOf}
+use Rattle.read_syntax.specs.steps.Numbers.{nextOf, code, stateOf, tokOf}
 use borrow.Author.Needs.{needs}
 use Rattle.read_syntax.proofs.syntax.next.Statement.{statement}
 use Rattle.read_syntax.proofs.syntax.next.Tie as tie

@@ -10,8 +10,8 @@ use Rattle.read_tokens.specs.laws.Forward.{lexemesAt}
 use Rattle.read_syntax.specs.Machine.{judge, start}
 use Rattle.read_syntax.specs.Reading.{offence}
 use Rattle.grammar.specs.Refusal.{Refusal, refusal}
-use Rattle.read_syntax.specs.Numbers.{stateOf, nextOf, deep, judgedAt}
-use Rattle.read_syntax.specs.Found.{found}
+use Rattle.read_syntax.specs.steps.Numbers.{stateOf, nextOf, deep, judgedAt}
+use Rattle.read_syntax.specs.steps.Found.{found}
 use Rattle.read_syntax.specs.laws.Automaton.{walk-is, next-le, moved-le, kind-small}
 use Rattle.read_tokens.specs.laws.Here.{here}
 use Rattle.read_syntax.specs.laws.Turns.{end-well, end-badly, class-below, dead, over-wide, walks-on, stays-flat}

@@ -3,7 +3,7 @@ use mathlib.Core.Path.{refl}
 use native.Mathlib.Omega.{arith}
 use borrow.Author.Tests.{le-leb, lt-leb, eq-eqb, ne-eqb}
 use Rattle.read_tokens.specs.Bounds.{literalBound}
-use Rattle.read_syntax.specs.Numbers.{overBy}
+use Rattle.read_syntax.specs.steps.Numbers.{overBy}
 use borrow.Author.Needs.{needs}
 use Rattle.read_syntax.proofs.syntax.over.Statement.{statement}
 use Rattle.read_syntax.proofs.syntax.over.Tie as tie

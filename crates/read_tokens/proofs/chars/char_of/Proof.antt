@@ -1,6 +1,6 @@
 use mathlib.Core.Path.{_≡_, refl, sym, ap, _∙_}
 use native.Mathlib.Omega.{arith}
-use Rattle.read_tokens.specs.Code.{charOf}
+use Rattle.read_tokens.specs.steps.Code.{charOf}
 use Rattle.read_tokens.proofs.CharSteps.{four-end, four-raw, four-octal, four-letter}
 use borrow.Author.Needs.{needs}
 use Rattle.read_tokens.proofs.chars.char_of.Statement.{statement}

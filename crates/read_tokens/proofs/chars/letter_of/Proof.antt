@@ -1,6 +1,6 @@
 use mathlib.Core.Path.{_≡_, refl, sym, ap, _∙_}
 use Rattle.read_tokens.specs.Chars.{letters}
-use Rattle.read_tokens.specs.Code.{charOf}
+use Rattle.read_tokens.specs.steps.Code.{charOf}
 use Rattle.read_tokens.proofs.CharSteps.{letters-no, letters-at}
 use Rattle.read_tokens.proofs.chars.letter_of.Statement.{statement}
 use Rattle.read_tokens.proofs.chars.letter_of.Tie as tie

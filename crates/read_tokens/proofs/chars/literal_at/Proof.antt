@@ -3,7 +3,7 @@ use native.Mathlib.Omega.{arith}
 use Prim.Native.Nat.{_+_, _-_, _≤_}
 use lib.ListN.{length, drop, getD}
 use Rattle.read_tokens.specs.Chars.{single, char}
-use Rattle.read_tokens.specs.Code.{counted}
+use Rattle.read_tokens.specs.steps.Code.{counted}
 use Rattle.read_tokens.specs.laws.Passing.{from}
 use Rattle.read_tokens.specs.laws.Widths.{width-inside}
 use Rattle.read_tokens.proofs.LiteralSteps.{width-of, at-end, at-quote, no-char, one-char}

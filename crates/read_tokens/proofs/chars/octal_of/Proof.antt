@@ -1,7 +1,7 @@
 use mathlib.Core.Path.{_≡_, refl, sym, ap, _∙_}
 use native.Mathlib.Omega.{arith}
 use borrow.Author.Tests.{not-true, not-false}
-use Rattle.read_tokens.specs.Code.{charOf}
+use Rattle.read_tokens.specs.steps.Code.{charOf}
 use Rattle.read_tokens.proofs.CharSteps.{octals-1, octals-2, octals-2′, octals-3, octal-high}
 use borrow.Author.Needs.{needs}
 use Rattle.read_tokens.proofs.chars.octal_of.Statement.{statement}

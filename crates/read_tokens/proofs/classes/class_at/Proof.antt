@@ -1,7 +1,7 @@
 use mathlib.Core.Path.{_≡_, refl, sym, ap, _∙_}
 use native.Mathlib.Omega.{arith}
 use Prim.Native.Nat.{ℕ, suc, _+_, _-_, _≤_}
-use Rattle.read_tokens.specs.Code.{caretAt}
+use Rattle.read_tokens.specs.steps.Code.{caretAt}
 use Rattle.read_tokens.proofs.ClassSteps.{class-none, class-caret, class-raw, caret-inside}
 use borrow.Author.Needs.{needs}
 use Rattle.read_tokens.proofs.classes.class_at.Statement.{statement}

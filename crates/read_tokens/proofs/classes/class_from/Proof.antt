@@ -5,7 +5,7 @@ use Prim.Native.Nat.{ℕ, suc, _+_, _-_, _≤_}
 use Rattle.read_tokens.specs.Chars.{listed}
 use Rattle.read_tokens.specs.Tokens.{marked, classBy}
 use Rattle.read_tokens.specs.laws.Turning.{someFrom}
-use Rattle.read_tokens.specs.Code.{classIs}
+use Rattle.read_tokens.specs.steps.Code.{classIs}
 use Rattle.read_tokens.specs.laws.Passing.{from}
 use Rattle.read_tokens.proofs.ClassSteps.{nothing-listed, broken-is, plain-is, turned-is}
 use borrow.Author.Needs.{needs}

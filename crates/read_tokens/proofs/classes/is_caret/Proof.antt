@@ -3,7 +3,7 @@ use mathlib.Core.Bool.{Bool, true, false}
 use Prim.Native.Nat.{ℕ, suc, _+_, _-_, _≤_}
 use lib.Dec.{eqb}
 use Rattle.read_tokens.specs.declared.Mode.{Mode}
-use Rattle.read_tokens.specs.Code.{caretAt}
+use Rattle.read_tokens.specs.steps.Code.{caretAt}
 use borrow.Author.Needs.{needs}
 use Rattle.read_tokens.proofs.classes.is_caret.Statement.{statement}
 use Rattle.read_tokens.proofs.classes.is_caret.Tie as tie

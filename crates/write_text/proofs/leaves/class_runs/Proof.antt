@@ -5,14 +5,14 @@ use mathlib.Core.List.{List, [], _∷_, _++_, map}
 use native.Mathlib.Omega.{arith}
 use lib.ListN.{length, getD}
 use Rattle.grammar_table.specs.Table.{wordsFrom}
-use Rattle.write_text.specs.Pen.{most, Penned}
-use Rattle.write_text.specs.Printed.{low}
+use Rattle.write_text.specs.steps.Pen.{most, Penned}
+use Rattle.write_text.specs.steps.Printed.{low}
 use mathlib.Core.Option.{none}
 use Rattle.grammar_table.specs.Table.{marksFrom}
 use Rattle.write_rules.specs.Writing.{runs, runsText, runText}
 use Rattle.read_tokens.specs.Chars.{range}
 use mathlib.Core.Bool.{Bool}
-use Rattle.write_text.specs.Printed.{restOf}
+use Rattle.write_text.specs.steps.Printed.{restOf}
 use Rattle.write_text.specs.laws.Pen.{Along, along-start, along-on, along-end, along-is}
 use Rattle.write_text.specs.laws.Leaves.{class-start, class-end, class-last}
 use borrow.Author.Needs.{needs}

@@ -2,7 +2,7 @@
 use Prim.Native.Nat.{ℕ, _+_, _-_, _*_, _≤_, _<_}
 use mathlib.Core.Path.{_≡_, refl, sym, ap, _∙_, subst}
 use native.Mathlib.Omega.{arith}
-use Rattle.write_text.specs.Pen.{most, Penned}
+use Rattle.write_text.specs.steps.Pen.{most, Penned}
 use Rattle.write_text.specs.laws.Pen.{on, penned-is, penned-most}
 use Rattle.write_text.specs.laws.Names.{any-text, literal-text, class-text}
 use borrow.Author.Needs.{needs}

@@ -5,11 +5,11 @@ use mathlib.Core.List.{List, [], _∷_, _++_, map}
 use native.Mathlib.Omega.{arith}
 use lib.ListN.{length, getD}
 use Rattle.grammar_table.specs.Table.{wordsFrom}
-use Rattle.write_text.specs.Pen.{most, Penned}
-use Rattle.write_text.specs.Printed.{low}
+use Rattle.write_text.specs.steps.Pen.{most, Penned}
+use Rattle.write_text.specs.steps.Printed.{low}
 use Rattle.write_rules.specs.Writing.{runText}
 use Rattle.read_tokens.specs.Chars.{range}
-use Rattle.write_text.specs.Turned.{Turned}
+use Rattle.write_text.specs.steps.Turned.{Turned}
 use Rattle.write_text.specs.laws.Pen.{penned-none}
 use Rattle.write_text.specs.laws.Leaves.{opens, goes-on, stays, closes}
 use borrow.Author.Needs.{needs}

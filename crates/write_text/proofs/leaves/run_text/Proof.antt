@@ -5,8 +5,8 @@ use mathlib.Core.List.{List, [], _∷_, _++_, map}
 use native.Mathlib.Omega.{arith}
 use lib.ListN.{length, getD}
 use Rattle.grammar_table.specs.Table.{wordsFrom}
-use Rattle.write_text.specs.Pen.{most, Penned}
-use Rattle.write_text.specs.Printed.{low}
+use Rattle.write_text.specs.steps.Pen.{most, Penned}
+use Rattle.write_text.specs.steps.Printed.{low}
 use Rattle.write_rules.specs.Writing.{classChar}
 use Rattle.write_text.specs.laws.Pen.{on, penned-is, penned-most}
 use Rattle.write_text.specs.laws.Leaves.{one-byte, more-bytes}

@@ -11,8 +11,8 @@ use Rattle.grammar_table.specs.Table.{nodeBy, leafIn}
 use Rattle.grammar_table.specs.Trees.{treeOf, below}
 use Rattle.grammar_table.specs.laws.Trees.{below-le}
 use Rattle.write_rules.specs.Writing.{level, put, exprText}
-use Rattle.write_text.specs.Pen.{most, Penned}
-use Rattle.write_text.specs.Printed.{called, toned}
+use Rattle.write_text.specs.steps.Pen.{most, Penned}
+use Rattle.write_text.specs.steps.Printed.{called, toned}
 use Rattle.write_text.specs.laws.Pen.{on, penned-is, penned-most, penned-long}
 use Rattle.write_text.specs.laws.Trees.{zero-text, leaf-text, sym-text, seq-text, alt-text, opt-text, star-text, plus-text, ahead-text, never-text, in-pair, is-bare}
 use borrow.Fn.Kinds.{In}

@@ -1,0 +1,4 @@
+-- Each law once.
+pub mod Bools
+pub mod Options
+pub mod Numbers

@@ -1,0 +1,28 @@
+-- The order of a table's symbols and its filled cells, as code says them. Assumes nothing: these are definitions.
+use Prim.Native.Nat.{ℕ, _<_}
+use mathlib.Core.Path.{_≡_}
+use mathlib.Core.List.{List, _++_}
+use mathlib.Core.Option.{none}
+use lib.ListN.{length, getD, drop}
+use Rattle.grammar.specs.Exp.{Exp}
+use Rattle.grammar.specs.Numbers.{Grammar}
+use Rattle.grammar_table.specs.Holds.{Holds}
+use Rattle.grammar.specs.Numbers.{terminalIn}
+use Rattle.lake_step_one.specs.Proper.{SoundAll}
+use Rattle.lake_step_one.specs.steps.Made.{withBodies}
+use Rattle.lake_calls.specs.Calls.{loop, order}
+use Rattle.match_cells.specs.Cells.{cells}
+
+-- a table that holds a plain grammar with a body for each symbol, whose symbols and terminals are all there
+pub record Plain (t : List ℕ) (g : Grammar) (bodies : List (Exp ℕ)) : Type 0 where
+  pub holds : Holds t (withBodies g bodies)
+  pub sound : SoundAll (terminalIn g) (length (g .names)) (length (g .terminals)) bodies
+
+-- the order of the n symbols of a table, in front of what was there; over nothing but 0, each entry is a symbol
+pub record OrderedIn (t : List ℕ) (n : ℕ) (old new : List ℕ) : Type 0 where
+  pub entries : ((j : ℕ) → getD old j 0 ≡ 0) → (j : ℕ) → j < n → getD new j 0 < n
+  pub are : (g : Grammar) (bodies : List (Exp ℕ)) → Plain t g bodies → n ≡ length bodies → new ≡ order bodies ++ drop (length (order bodies)) old
+
+-- the cells of a plain grammar without a loop
+pub record Fills (t s old new : List ℕ) : Type 0 where
+  pub are : (g : Grammar) (bodies : List (Exp ℕ)) → Plain t g bodies → loop bodies ≡ none → new ≡ cells bodies (order bodies) s old

@@ -1,0 +1,6 @@
+-- What one function of the code does to words: contracts shaped like the code. Laws tie them to the definitions.
+pub mod Parts
+pub mod Passes
+pub mod Spans
+pub mod Tasks
+pub mod Turns
