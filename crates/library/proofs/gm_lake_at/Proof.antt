@@ -1,0 +1,46 @@
+-- `library::gm_lake_at` meets its contract. Assumes nothing.
+use mathlib.Core.Path.{ap, _∙_, refl}
+use Rattle.library.specs.Words.{wayWords}
+use borrow.Author.Needs.{needs}
+use Rattle.library.proofs.gm_lake_at.Statement.{statement}
+use Rattle.library.proofs.gm_lake_at.Tie as tie
+use Rattle.library.proofs.gm_lake_at.Reads as reads
+use Rattle.library.proofs.gm_lake_at.Lts as lts
+use Rattle.gurkenmond.proofs.lake_at.Reads as lake-at-reads
+use Rattle.library.proofs.numbers.mode_of.Reads as mode-of-reads
+use Rattle.library.proofs.numbers.of_way.Reads as of-way-reads
+
+mode-of-requires : tie.Need-mode-of-requires
+mode-of-requires c κs = search needs
+
+lake-at-requires : tie.Need-lake-at-requires
+lake-at-requires c κs = search needs
+
+of-way-requires : tie.Need-of-way-requires
+of-way-requires c κs = search needs
+
+array-read-result : tie.Need-array-read-result
+array-read-result c = search needs
+
+same-length : tie.Need-same-length
+same-length c = search needs
+
+returns : tie.Need-returns
+returns c =
+    rw (← (c .before .before .before .before .before .mode-of .ensures)) (
+      c .of-way .ensures ∙ ap wayWords
+          (c .before .before .before .lake-at .ensures .0),
+      refl,
+      c .before .before .before .lake-at .ensures .1,
+    )
+
+pub gm-lake-at-spec : {M : Type 1} → statement M
+gm-lake-at-spec =
+    tie.close
+    (tie.spec
+    mode-of-requires
+    lake-at-requires
+    of-way-requires
+    array-read-result
+    same-length
+    returns)

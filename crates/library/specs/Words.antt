@@ -1,0 +1,110 @@
+-- The answers of the public calls as numbers, for callers in other languages. Assumes nothing: these are definitions.
+-- The first number is 0, a refusal's number (01, Refusal numbers; its place follows), or 100 for no match.
+use Prim.Native.Nat.{ℕ, zero, suc, _-_}
+use mathlib.Core.Bool.{Bool, true, false, cond}
+use mathlib.Core.Path.{_≡_}
+use mathlib.Core.List.{List, [], _∷_}
+use lib.ListN.{getD, length}
+use Rattle.read_tokens.specs.declared.Mode.{Mode}
+use Rattle.read_tokens.specs.declared.Mode.the-variants.{Lake, Plain}
+use Rattle.lake_sets.specs.declared.Sets.{Sets}
+use Rattle.match_meaning.specs.Meaning.{Node}
+use Rattle.match_nodes.specs.Nodes.{nodeAt, soundAt}
+use Rattle.prepare.specs.declared.Counted.{Counted}
+use Rattle.prepare.specs.declared.Verdict.{Verdict}
+use Rattle.prepare.specs.declared.Verdict.the-variants.{Accepted, Refused as VerdictRefused}
+use Rattle.gurkenmond.specs.declared.SetsOf.{SetsOf}
+use Rattle.gurkenmond.specs.declared.Lakes.{Lakes}
+use Rattle.gurkenmond.specs.declared.Match.{Match}
+use Rattle.gurkenmond.specs.declared.Outcome.{Outcome}
+use Rattle.gurkenmond.specs.declared.Outcome.the-variants.{Matched, NoMatch, Refused as OutcomeRefused}
+use Rattle.gurkenmond.specs.declared.Way.{Way}
+use Rattle.gurkenmond.specs.declared.Way.the-variants.{Not, ByRule, ByWater, BySkip, Refused as WayRefused}
+use Rattle.gurkenmond.specs.declared.Written.{Written}
+use Rattle.gurkenmond.specs.declared.Written.the-variants.{Bytes, Refused as WrittenRefused}
+use Rattle.gurkenmond.specs.Calls.{Matching, LakeAnswer, Writing}
+
+-- the mode of a byte: 0 is lake, every other one plain
+abbrev pub modeOf : ℕ → Mode
+modeOf zero = Lake
+modeOf (suc k) = Plain
+
+-- a call's numbers are left in `out`, and it returns the first of them
+abbrev pub Answers : ℕ → List ℕ → List ℕ → Type 0
+Answers r out ws = (out ≡ ws) × (r ≡ getD out 0 0)
+
+abbrev pub four : ℕ → ℕ → ℕ → ℕ → List ℕ
+four a b c d = a ∷ b ∷ c ∷ d ∷ []
+
+-- ── read: 0, symbols, terminals, expressions ──
+abbrev pub readBy : Verdict → ℕ → ℕ → ℕ → List ℕ
+readBy Accepted s t e = four 0 s t e
+readBy (VerdictRefused n p) s t e = four n p 0 0
+
+abbrev pub readWords : Counted → List ℕ
+readWords c = readBy (c .verdict) (c .symbols) (c .terminals) (c .expressions)
+
+-- ── sets: 0, the round count, the two words each of BEGINNING, SUCCEED and ALT, then 1 for ε and 0 for none ──
+abbrev pub bitOf : Bool → ℕ
+bitOf b = cond b 1 0
+
+abbrev pub setsBy : Verdict → ℕ → Sets → List ℕ
+setsBy Accepted k s =
+    0 ∷ k ∷ getD (s .begin) 0 0 ∷ getD (s .begin) 1 0 ∷ getD (s .succeed) 0 0 ∷ getD (s .succeed) 1 0
+    ∷ getD (s .alt) 0 0 ∷ getD (s .alt) 1 0 ∷ bitOf (s .eps) ∷ []
+setsBy (VerdictRefused n p) k s = n ∷ p ∷ 0 ∷ 0 ∷ 0 ∷ 0 ∷ 0 ∷ 0 ∷ 0 ∷ []
+
+abbrev pub setsWords : SetsOf → List ℕ
+setsWords r = setsBy (r .verdict) (r .rounds) (r .sets)
+
+-- ── the lakes that cannot skip: 0, their bits ──
+abbrev pub lakesBy : Verdict → ℕ → List ℕ
+lakesBy Accepted w = four 0 w 0 0
+lakesBy (VerdictRefused n p) w = four n p 0 0
+
+abbrev pub lakesWords : Lakes → List ℕ
+lakesWords l = lakesBy (l .verdict) (l .word)
+
+-- ── match: 0, bytes taken, nodes; the cells and node words are those of the call's definition ──
+abbrev pub matchBy : Outcome → ℕ → List ℕ
+matchBy (Matched p) k = four 0 p k 0
+matchBy NoMatch k = four 100 0 0 0
+matchBy (OutcomeRefused n p) k = four n p 0 0
+
+abbrev pub matchWords : Match → List ℕ
+matchWords m = matchBy (m .outcome) (m .nodes)
+
+abbrev pub SaysMatch : ℕ → List ℕ → List ℕ → List ℕ → Matching → Type 0
+SaysMatch r out cs ws m = (out ≡ matchWords (m .answer)) × (r ≡ getD out 0 0) × (cs ≡ m .cells) × (ws ≡ m .nodes)
+
+-- ── the lake question: 0, then "0 not, 1 by its rule, 2 by water, 3 by one skipped byte" ──
+abbrev pub wayWords : Way → List ℕ
+wayWords Not = four 0 0 0 0
+wayWords ByRule = four 0 1 0 0
+wayWords ByWater = four 0 2 0 0
+wayWords BySkip = four 0 3 0 0
+wayWords (WayRefused n p) = four n p 0 0
+
+abbrev pub SaysLake : ℕ → List ℕ → List ℕ → LakeAnswer → Type 0
+SaysLake r out cs a = (out ≡ wayWords (a .way)) × (r ≡ getD out 0 0) × (cs ≡ a .cells)
+
+-- ── a node: 0, then 1 for sound and 0 for unsound ──
+abbrev pub soundWords : Bool → List ℕ
+soundWords b = four 0 (bitOf b) 0 0
+
+-- ── its text: 0, where it begins in the input, how many bytes it has; "for an unsound node, the empty part at 0" ──
+abbrev pub spanBy : Bool → Node → List ℕ
+spanBy true x = four 0 (x .start) (x .end - x .start) 0
+spanBy false x = four 0 0 0 0
+
+-- s the input, ws the node words; `laws/Parts.antt`: that part of s is what the public call answers
+abbrev pub spanWords : List ℕ → List ℕ → ℕ → List ℕ
+spanWords s ws k = spanBy (soundAt ws k (length s)) (nodeAt ws k)
+
+-- ── writing: 0, bytes written; the room is that of the call's definition ──
+abbrev pub writtenWords : Written → List ℕ
+writtenWords (Bytes n) = four 0 n 0 0
+writtenWords (WrittenRefused n p) = four n p 0 0
+
+abbrev pub SaysText : ℕ → List ℕ → List ℕ → Writing → Type 0
+SaysText r out room w = (out ≡ writtenWords (w .answer)) × (r ≡ getD out 0 0) × (room ≡ w .out)

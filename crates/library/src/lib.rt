@@ -1,0 +1,138 @@
+// The public calls for C and other languages: numbers and slices only, all memory lent, nothing kept. Each leaves its numbers in `out`, which specs/Words.antt
+// defines from the answer of the public call, and returns the first of them: 0, a refusal's number, or 100 for no match. `mode` is 0 for lake, every other byte
+// is plain. `include/gurkenmond.h` declares them for C; `tests/library.py` compares the two.
+ghost use mathlib.Core.Path.{_≡_};
+ghost use Rattle.match_nodes.specs.Nodes.{soundAt};
+ghost use Rattle.prepare.specs.Reads.{readOf};
+ghost use Rattle.gurkenmond.specs.Calls.{setsOf, cannotSkipOf, matchOf, lakeOf, writeOwnOf, writePlainOf};
+ghost use Rattle.library.specs.Words.{modeOf, Answers, readWords, setsWords, lakesWords, soundWords, spanWords, SaysMatch, SaysLake, SaysText};
+
+mod numbers;
+
+// 0, symbols, terminals, expressions.
+#[no_mangle]
+pub extern "C" fn gm_read(mode: u8, text: &[u8], out: &mut [u64; 4]) -> u64
+    ensures { λ r. ⌜ Answers r (now (out .exit)) (readWords (readOf (modeOf mode) (now (text .entry)))) ⌝ }
+{
+    let m = numbers::mode_of(mode);
+    let c = gurkenmond::read(m, text);
+    let v = c.verdict;
+    let w = numbers::of_read(v, c.symbols, c.terminals, c.expressions);
+    *out = w;
+    w[0]
+}
+
+// 0, the round count, two words each of BEGINNING, SUCCEED and ALT of an expression of the intermediate grammar, then 1 for ε.
+#[no_mangle]
+pub extern "C" fn gm_sets(mode: u8, text: &[u8], expression: usize, out: &mut [u64; 9]) -> u64
+    ensures { λ r. ⌜ Answers r (now (out .exit)) (setsWords (setsOf (modeOf mode) (now (text .entry)) expression)) ⌝ }
+{
+    let m = numbers::mode_of(mode);
+    let c = gurkenmond::sets(m, text, expression);
+    let v = c.verdict;
+    let s = c.sets;
+    let w = numbers::of_sets(v, c.rounds, s);
+    *out = w;
+    w[0]
+}
+
+// 0, the lakes that cannot skip (bit = symbol number).
+#[no_mangle]
+pub extern "C" fn gm_cannot_skip(mode: u8, text: &[u8], out: &mut [u64; 4]) -> u64
+    ensures { λ r. ⌜ Answers r (now (out .exit)) (lakesWords (cannotSkipOf (modeOf mode) (now (text .entry)))) ⌝ }
+{
+    let m = numbers::mode_of(mode);
+    let c = gurkenmond::cannot_skip(m, text);
+    let v = c.verdict;
+    let w = numbers::of_lakes(v, c.word);
+    *out = w;
+    w[0]
+}
+
+// 0, bytes taken, nodes; the nodes are four words each: symbol, start, end, depth.
+#[no_mangle]
+pub extern "C" fn gm_match(
+    mode: u8,
+    text: &[u8],
+    input: &[u8],
+    cells: &mut [u32],
+    nodes: &mut [u32],
+    out: &mut [u64; 4],
+) -> u64
+    ensures { λ r. ⌜ SaysMatch r (now (out .exit)) (now (cells .exit)) (now (nodes .exit))
+        (matchOf (modeOf mode) (now (text .entry)) (now (input .entry)) (now (cells .entry)) (now (nodes .entry))) ⌝ }
+{
+    let m = numbers::mode_of(mode);
+    let a = gurkenmond::match_input(m, text, input, cells, nodes);
+    let o = a.outcome;
+    let w = numbers::of_match(o, a.nodes);
+    *out = w;
+    w[0]
+}
+
+// 0, how the lake matches at the place: 0 not, 1 by its rule, 2 by water, 3 by one skipped byte.
+#[no_mangle]
+pub extern "C" fn gm_lake_at(
+    mode: u8,
+    text: &[u8],
+    input: &[u8],
+    cells: &mut [u32],
+    lake: usize,
+    place: usize,
+    out: &mut [u64; 4],
+) -> u64
+    ensures { λ r. ⌜ SaysLake r (now (out .exit)) (now (cells .exit))
+        (lakeOf (modeOf mode) (now (text .entry)) (now (input .entry)) (now (cells .entry)) lake place) ⌝ }
+{
+    let m = numbers::mode_of(mode);
+    let a = gurkenmond::lake_at(m, text, input, cells, lake, place);
+    let w = numbers::of_way(a);
+    *out = w;
+    w[0]
+}
+
+// 0, then 1 if node k lies whole in the words with start ≤ end ≤ n, else 0.
+#[no_mangle]
+pub extern "C" fn gm_node_sound(nodes: &[u32], k: usize, n: usize, out: &mut [u64; 4]) -> u64
+    ensures { λ r. ⌜ Answers r (now (out .exit)) (soundWords (soundAt (now (nodes .entry)) k n)) ⌝ }
+{
+    let b = gurkenmond::node_sound(nodes, k, n);
+    let s = numbers::bit(b);
+    let w = [0, s, 0, 0];
+    *out = w;
+    w[0]
+}
+
+// 0, where the text of node k begins in the input, how many bytes it has; 0, 0, 0 for an unsound node.
+#[no_mangle]
+pub extern "C" fn gm_node_text(input: &[u8], nodes: &[u32], k: usize, out: &mut [u64; 4]) -> u64
+    ensures { λ r. ⌜ Answers r (now (out .exit)) (spanWords (now (input .entry)) (now (nodes .entry)) k) ⌝ }
+{
+    let w = numbers::of_span(input, nodes, k);
+    *out = w;
+    w[0]
+}
+
+// 0, bytes written; or 13, bytes needed.
+#[no_mangle]
+pub extern "C" fn gm_write_own(mode: u8, text: &[u8], room: &mut [u8], out: &mut [u64; 4]) -> u64
+    ensures { λ r. ⌜ SaysText r (now (out .exit)) (now (room .exit)) (writeOwnOf (modeOf mode) (now (text .entry)) (now (room .entry))) ⌝ }
+{
+    let m = numbers::mode_of(mode);
+    let a = gurkenmond::write_own(m, text, room);
+    let w = numbers::of_written(a);
+    *out = w;
+    w[0]
+}
+
+// The same for the plain text.
+#[no_mangle]
+pub extern "C" fn gm_write_plain(mode: u8, text: &[u8], room: &mut [u8], out: &mut [u64; 4]) -> u64
+    ensures { λ r. ⌜ SaysText r (now (out .exit)) (now (room .exit)) (writePlainOf (modeOf mode) (now (text .entry)) (now (room .entry))) ⌝ }
+{
+    let m = numbers::mode_of(mode);
+    let a = gurkenmond::write_plain(m, text, room);
+    let w = numbers::of_written(a);
+    *out = w;
+    w[0]
+}

@@ -1,0 +1,129 @@
+// The answers of the public calls as numbers (specs/Words.antt).
+ghost use mathlib.Core.Path.{_≡_};
+ghost use Rattle.library.specs.Words.{modeOf, bitOf, four, readBy, setsBy, lakesBy, matchBy, wayWords, spanWords, writtenWords};
+use gurkenmond::Outcome;
+use gurkenmond::Verdict;
+use gurkenmond::Way;
+use gurkenmond::Written;
+use read_tokens::Mode;
+
+// 0 is lake, every other byte plain.
+pub fn mode_of(m: u8) -> Mode
+    ensures { λ r. ⌜ r ≡ modeOf m ⌝ }
+{
+    match m {
+        0 => Mode::Lake,
+        _ => Mode::Plain,
+    }
+}
+
+pub fn bit(b: bool) -> u64
+    ensures { λ r. ⌜ r ≡ bitOf b ⌝ }
+{
+    if b {
+        return 1;
+    }
+    0
+}
+
+fn refusal(number: usize, place: usize) -> [u64; 4]
+    ensures { λ r. ⌜ r ≡ four number place 0 0 ⌝ }
+{
+    [number as u64, place as u64, 0, 0]
+}
+
+pub fn of_read(v: Verdict, s: usize, t: usize, e: usize) -> [u64; 4]
+    ensures { λ r. ⌜ r ≡ readBy v s t e ⌝ }
+{
+    match v {
+        Verdict::Accepted => [0, s as u64, t as u64, e as u64],
+        Verdict::Refused {
+            number: n,
+            place: p,
+        } => refusal(n, p),
+    }
+}
+
+pub fn of_sets(v: Verdict, rounds: usize, s: lake_sets::Sets) -> [u64; 9]
+    ensures { λ r. ⌜ r ≡ setsBy v rounds s ⌝ }
+{
+    let b = s.begin;
+    let c = s.succeed;
+    let a = s.alt;
+    let e = bit(s.eps);
+    match v {
+        Verdict::Accepted => [0, rounds as u64, b[0], b[1], c[0], c[1], a[0], a[1], e],
+        Verdict::Refused {
+            number: n,
+            place: p,
+        } => [n as u64, p as u64, 0, 0, 0, 0, 0, 0, 0],
+    }
+}
+
+pub fn of_lakes(v: Verdict, w: u64) -> [u64; 4]
+    ensures { λ r. ⌜ r ≡ lakesBy v w ⌝ }
+{
+    match v {
+        Verdict::Accepted => [0, w, 0, 0],
+        Verdict::Refused {
+            number: n,
+            place: p,
+        } => refusal(n, p),
+    }
+}
+
+pub fn of_match(o: Outcome, k: usize) -> [u64; 4]
+    ensures { λ r. ⌜ r ≡ matchBy o k ⌝ }
+{
+    match o {
+        Outcome::Matched(taken) => [0, taken as u64, k as u64, 0],
+        Outcome::NoMatch => [100, 0, 0, 0],
+        Outcome::Refused {
+            number: n,
+            place: p,
+        } => refusal(n, p),
+    }
+}
+
+pub fn of_way(v: Way) -> [u64; 4]
+    ensures { λ r. ⌜ r ≡ wayWords v ⌝ }
+{
+    match v {
+        Way::Not => [0, 0, 0, 0],
+        Way::ByRule => [0, 1, 0, 0],
+        Way::ByWater => [0, 2, 0, 0],
+        Way::BySkip => [0, 3, 0, 0],
+        Way::Refused {
+            number: n,
+            place: p,
+        } => refusal(n, p),
+    }
+}
+
+// Node words may hold anything: a number of a node that is not there is no place in them.
+pub fn of_span(input: &[u8], nodes: &[u32], k: usize) -> [u64; 4]
+    ensures { λ r. ⌜ r ≡ spanWords (now (input .entry)) (now (nodes .entry)) k ⌝ }
+{
+    if nodes.len() / 4 <= k {
+        return [0, 0, 0, 0];
+    }
+    let n = input.len();
+    if gurkenmond::node_sound(nodes, k, n) {
+        let a = base_words::word(nodes, 4 * k + 1);
+        let b = base_words::word(nodes, 4 * k + 2);
+        return [0, a as u64, (b - a) as u64, 0];
+    }
+    [0, 0, 0, 0]
+}
+
+pub fn of_written(v: Written) -> [u64; 4]
+    ensures { λ r. ⌜ r ≡ writtenWords v ⌝ }
+{
+    match v {
+        Written::Bytes(n) => [0, n as u64, 0, 0],
+        Written::Refused {
+            number: n,
+            place: p,
+        } => refusal(n, p),
+    }
+}

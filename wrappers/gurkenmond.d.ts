@@ -1,0 +1,33 @@
+// Types of gurkenmond.js. Places are UTF-16 units of a string, bytes of a Uint8Array.
+export type Mode = 'lake' | 'plain';
+export type Text = string | Uint8Array;
+
+/** Document 01's refusal number and place. Of 1 to 5 the place is in the grammar's text and has a line and a column, from 1; of the others it is a number. */
+export interface Refused { kind: 'refused'; number: number; place: number; line: number | null; column: number | null; what: string }
+
+export interface Read { kind: 'read'; symbols: number; terminals: number; expressions: number }
+export interface Set { symbols: number[]; terminals: number[] }
+export interface Sets { kind: 'sets'; rounds: number; beginning: Set; succeed: Set; alt: Set; epsilon: boolean }
+export interface Lakes { kind: 'lakes'; lakes: number[] }
+export interface Written { kind: 'text'; text: string }
+export interface Names { kind: 'names'; names: string[] }
+export interface Node { symbol: number; name: string; start: number; end: number; depth: number }
+export interface Match { kind: 'match'; taken: number; nodes: Node[] }
+export interface None { kind: 'none' }
+export interface Way { kind: 'way'; way: 'not' | 'rule' | 'water' | 'skip' }
+
+/** No call throws, whatever the texts hold. */
+export class Gurkenmond {
+  read(grammar: Text, mode?: Mode): Read | Refused;
+  /** BEGINNING, SUCCEED and ALT of an expression of the intermediate grammar, from 1. */
+  sets(grammar: Text, expression: number, mode?: Mode): Sets | Refused;
+  cannotSkip(grammar: Text, mode?: Mode): Lakes | Refused;
+  writeOwn(grammar: Text, mode?: Mode): Written | Refused;
+  writePlain(grammar: Text, mode?: Mode): Written | Refused;
+  names(grammar: Text, mode?: Mode): Names | Refused;
+  match(grammar: Text, input: Text, mode?: Mode): Match | None | Refused;
+  lakeAt(grammar: Text, input: Text, lake: number, place: number, mode?: Mode): Way | Refused;
+}
+
+/** `source`: the module's bytes or its URL; without it gurkenmond.wasm beside gurkenmond.js. */
+export function load(source?: Uint8Array | ArrayBuffer | URL | string): Promise<Gurkenmond>;

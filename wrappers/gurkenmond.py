@@ -1,0 +1,148 @@
+"""Gurkenmond in Python, by ctypes over libgurkenmond.so of this machine (./build shared).
+
+    gurkenmond = Gurkenmond()
+    gurkenmond.match(grammar, text)     # Match, None for no match, or Refused
+
+Texts are str or bytes. Of a str places are those of Python, in characters; a place within a character is the character's begin. No call raises an error for
+what a grammar or a text holds: it is refused, as document 01 says.
+"""
+import ctypes
+import os
+from bisect import bisect_right
+from itertools import accumulate
+from typing import Callable, NamedTuple, Optional, Union
+
+Text = Union[str, bytes]
+LAKE, PLAIN = 0, 1
+NO_MATCH, NO_CELLS, NO_ROOM_FOR_NODE, NO_ROOM = 100, 10, 12, 13
+# refusals 1 to 5 have their place in the grammar's text
+LAST_IN_TEXT = 5
+NODE_WORDS, NODES_FIRST, NODES_MOST = 4, 1 << 12, 1 << 18
+WHAT = ("", "grammar text too long", "syntax", "name, literal or parentheses over their bound", "name given twice, or reserved", "name without a rule",
+        "too many symbols, terminals or expressions", "translation too large", "loop", "input too long", "too few work cells", "too deep", "too many nodes",
+        "room too small", "no such expression, lake or position")
+WAYS = ("not", "rule", "water", "skip")
+
+# document 01's number and place; line and column, from 1, where the place is one of the grammar's text
+Refused = NamedTuple("Refused", [("number", int), ("place", int), ("line", Optional[int]), ("column", Optional[int]), ("what", str)])
+Read = NamedTuple("Read", [("symbols", int), ("terminals", int), ("expressions", int)])
+Set = NamedTuple("Set", [("symbols", list[int]), ("terminals", list[int])])
+Sets = NamedTuple("Sets", [("rounds", int), ("beginning", Set), ("succeed", Set), ("alt", Set), ("epsilon", bool)])
+Node = NamedTuple("Node", [("symbol", int), ("name", str), ("start", int), ("end", int), ("depth", int)])
+Match = NamedTuple("Match", [("taken", int), ("nodes", list[Node])])
+
+
+class _Given:
+    """A text's bytes, and the place of each byte."""
+
+    def __init__(self, text: Text):
+        self.text = text
+        self.bytes = text.encode("utf-8", "surrogatepass") if isinstance(text, str) else bytes(text)
+        self._ends: Optional[list[int]] = None
+
+    def lent(self) -> tuple:
+        return ctypes.c_char_p(self.bytes), ctypes.c_size_t(len(self.bytes))
+
+    def place(self, byte: int) -> int:
+        if not isinstance(self.text, str) or self.text.isascii():
+            return byte
+        if self._ends is None:
+            self._ends = list(accumulate(len(c.encode("utf-8", "surrogatepass")) for c in self.text))
+        return bisect_right(self._ends, byte)
+
+    def position(self, place: int) -> tuple[int, int]:
+        before, end = self.text[:place], "\n" if isinstance(self.text, str) else b"\n"
+        return before.count(end) + 1, place - (before.rfind(end) + 1) + 1
+
+
+def _bits(word: int) -> list[int]:
+    return [i for i in range(64) if word >> i & 1]
+
+
+class Gurkenmond:
+    def __init__(self, library: str = os.path.join(os.path.dirname(os.path.abspath(__file__)), "libgurkenmond.so")):
+        self._library = ctypes.CDLL(library)
+
+    def _ask(self, call: str, mode: int, *given) -> list[int]:
+        out, function = (ctypes.c_uint64 * 9)(), getattr(self._library, call)
+        function.restype = ctypes.c_uint64
+        function(ctypes.c_uint8(mode), *given, out)
+        return list(out)
+
+    def _refused(self, grammar: _Given, out: list[int]) -> Refused:
+        number, place = out[:2]
+        if number > LAST_IN_TEXT:
+            return Refused(number, place, None, None, WHAT[number])
+        place = grammar.place(place)
+        return Refused(number, place, *grammar.position(place), WHAT[number])
+
+    def _on(self, call: str, good: Callable, grammar: Text, mode: int, *more):
+        """A call on a grammar: what `good` makes of the numbers, or the refusal."""
+        text = _Given(grammar)
+        out = self._ask(call, mode, *text.lent(), *more)
+        return self._refused(text, out) if out[0] else good(out)
+
+    def read(self, grammar: Text, mode: int = LAKE) -> Union[Read, Refused]:
+        return self._on("gm_read", lambda out: Read(*out[1:4]), grammar, mode)
+
+    def sets(self, grammar: Text, expression: int, mode: int = LAKE) -> Union[Sets, Refused]:
+        """BEGINNING, SUCCEED and ALT of an expression of the intermediate grammar, from 1."""
+        good = lambda out: Sets(out[1], *(Set(_bits(out[i]), _bits(out[i + 1])) for i in (2, 4, 6)), bool(out[8]))
+        return self._on("gm_sets", good, grammar, mode, ctypes.c_size_t(expression))
+
+    def cannot_skip(self, grammar: Text, mode: int = LAKE) -> Union[list[int], Refused]:
+        return self._on("gm_cannot_skip", lambda out: _bits(out[1]), grammar, mode)
+
+    def _write(self, call: str, grammar: Text, mode: int) -> Union[bytes, Refused]:
+        text = _Given(grammar)
+        out = self._ask(call, mode, *text.lent(), ctypes.create_string_buffer(1), ctypes.c_size_t(0))
+        if out[0] != NO_ROOM:
+            return self._refused(text, out)
+        room = ctypes.create_string_buffer(out[1])
+        self._ask(call, mode, *text.lent(), room, ctypes.c_size_t(out[1]))
+        return room.raw
+
+    def write_own(self, grammar: Text, mode: int = LAKE) -> Union[bytes, Refused]:
+        return self._write("gm_write_own", grammar, mode)
+
+    def write_plain(self, grammar: Text, mode: int = LAKE) -> Union[bytes, Refused]:
+        return self._write("gm_write_plain", grammar, mode)
+
+    def names(self, grammar: Text, mode: int = LAKE) -> Union[list[str], Refused]:
+        """Every symbol's name by its number: the left sides of the plain text, where the lake `<x>` is `lake__x`."""
+        plain = self.write_plain(grammar, mode)
+        if isinstance(plain, Refused):
+            return plain
+        names = [line.split(b" ")[0].decode() for line in plain.split(b"\n")[:-1]]
+        return [f"<{name[6:]}>" if mode == LAKE and name.startswith("lake__") else name for name in names]
+
+    def _on_input(self, call: str, text: _Given, given: _Given, mode: int, *more) -> list[int]:
+        """A call on a grammar and an input: lent no work cells it says how many it needs."""
+        cells = 0
+        while True:
+            out = self._ask(call, mode, *text.lent(), *given.lent(), (ctypes.c_uint32 * max(cells, 1))(), ctypes.c_size_t(cells), *more)
+            if out[0] != NO_CELLS:
+                return out
+            cells = out[1]
+
+    def match(self, grammar: Text, text: Text, mode: int = LAKE) -> Union[Match, None, Refused]:
+        names, rules, given, most = self.names(grammar, mode), _Given(grammar), _Given(text), NODES_FIRST
+        if isinstance(names, Refused):
+            return names
+        while True:
+            words = (ctypes.c_uint32 * (NODE_WORDS * most))()
+            out = self._on_input("gm_match", rules, given, mode, words, ctypes.c_size_t(len(words)))
+            if out[0] != NO_ROOM_FOR_NODE or most >= NODES_MOST:
+                break
+            most *= 8
+        if out[0]:
+            return None if out[0] == NO_MATCH else self._refused(rules, out)
+        nodes = (words[i:i + NODE_WORDS] for i in range(0, NODE_WORDS * out[2], NODE_WORDS))
+        return Match(given.place(out[1]), [Node(symbol, names[symbol], given.place(start), given.place(end), depth) for symbol, start, end, depth in nodes])
+
+    def lake_at(self, grammar: Text, text: Text, lake: int, place: int, mode: int = LAKE) -> Union[str, Refused]:
+        """How a lake, by its symbol number, matches at a place of the text."""
+        rules, given = _Given(grammar), _Given(text)
+        byte = place if isinstance(text, bytes) else len(text[:place].encode("utf-8", "surrogatepass")) + max(0, place - len(text))
+        out = self._on_input("gm_lake_at", rules, given, mode, ctypes.c_size_t(lake), ctypes.c_size_t(byte))
+        return self._refused(rules, out) if out[0] else WAYS[out[1]]
