@@ -1,4 +1,5 @@
 pub mod Machine
+pub mod Exceeds
 pub mod Reader
 pub mod Reading
 pub mod Grammar

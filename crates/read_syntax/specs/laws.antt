@@ -3,6 +3,7 @@ pub mod Forth
 pub mod Back
 pub mod Place
 pub mod Bounds
+pub mod Exceeding
 pub mod Reads
 pub mod Grammars
 pub mod Automaton

@@ -1,4 +1,5 @@
--- Computed tests, bytes, where a token lies, the fuel of the token list, marks by place, and what a token holds, read again. Assumes nothing.
+-- Computed tests, bytes, where a token lies, the fuel of the token list, marks by place, what a token holds, read again, and what spells what.
+-- Assumes nothing.
 pub mod All
 pub mod Bytes
 pub mod Tests
@@ -9,3 +10,6 @@ pub mod Passing
 pub mod Turning
 pub mod Again
 pub mod Here
+pub mod Spells
+pub mod Bodies
+pub mod Spelled

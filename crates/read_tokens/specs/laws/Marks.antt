@@ -70,7 +70,7 @@ paints-at (r ∷ rs) l b s =
     ∙ ap (λ (x : Bool). among b rs || x) (paint-at r l b s)
     ∙ or-turn (among b rs) (within b r) (getD l b false)
 
-table-at : (f : ℕ → Bool) (i n k : ℕ) → k < n → getD (table f i n) k false ≡ f (i + k)
+pub table-at : (f : ℕ → Bool) (i n k : ℕ) → k < n → getD (table f i n) k false ≡ f (i + k)
 unfolding table
 table-at f i zero k h = absurd (omega arith)
 table-at f i (suc n) zero h = ap f (omega arith)

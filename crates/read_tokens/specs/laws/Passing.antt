@@ -8,7 +8,7 @@ use lib.Seq.{drop-drop}
 use Rattle.read_tokens.specs.Chars.{Item, Body, body}
 
 module _ (close : ℕ) (step : List ℕ → Item) where
-  passes : (k at : ℕ) (l : List ℕ) → body close step k at l ≡ body close step 0 (at + k) (drop k l)
+  pub passes : (k at : ℕ) (l : List ℕ) → body close step k at l ≡ body close step 0 (at + k) (drop k l)
   unfolding body
   passes zero at [] = refl
   passes zero at (b ∷ l) = ap (λ (n : ℕ). body close step 0 n (b ∷ l)) (omega arith)
