@@ -297,7 +297,7 @@ fn run(t: &Table, input: &[u8], cells: &mut [u32], nodes: &mut [u32]) -> Match
     if cells.len() < need {
         return refused_match(10, need);
     }
-    match_cells::running::fill(t, input, cells);
+    match_cells::filling::fill(t, input, cells);
     let c = base_words::word(cells, 0);
     if c == 0 {
         return Match {
@@ -413,7 +413,7 @@ fn ask(
     if input.len() < place {
         return refused_way(14, 0);
     }
-    match_cells::running::fill(plain, input, cells);
+    match_cells::filling::fill(plain, input, cells);
     let a = lake_analysis::alt_of(mid, alts, lake);
     let w = match_lake::way(t, input, cells, n, a, lake, place);
     way_of(w)

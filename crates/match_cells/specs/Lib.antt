@@ -1,5 +1,5 @@
-pub mod steps
 pub mod laws
+pub mod steps
 pub mod Eval
 pub mod Cells
 pub mod First

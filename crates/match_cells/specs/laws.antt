@@ -8,7 +8,7 @@ pub mod Sound
 pub mod Agrees
 pub mod Filled
 pub mod Frame
-pub mod Rounds
+pub mod Memory
 pub mod Order
 pub mod Full
 pub mod Runs

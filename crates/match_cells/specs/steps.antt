@@ -1,3 +1,3 @@
--- What one function of the code does to words: contracts shaped like the code. Laws tie them to the definitions.
-pub mod Rounds
+-- Contracts in the shape of the code.
+pub mod Memory
 pub mod Runs

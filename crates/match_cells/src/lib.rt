@@ -1,14 +1,15 @@
 // Evaluation of a table's expressions over work cells (01, Meaning of a match).
 ghost use mathlib.Core.Path.{_≡_};
-ghost use Prim.Native.Nat.{ℕ, _<_, _≤_};
+ghost use Prim.Native.Nat.{_<_, _≤_};
 ghost use lib.ListN.{length};
 ghost use Rattle.read_tokens.specs.Token.{any, literal, class};
 ghost use Rattle.grammar_table.specs.Table.{wordsFrom, marksFrom, leafIn};
-ghost use Rattle.match_cells.specs.Eval.{leafAt, cellAt, ev, rep};
+ghost use Rattle.match_cells.specs.Eval.{leafAt, cellAt, ev};
+ghost use Rattle.match_cells.specs.steps.Memory.{roundsOf, Knows};
 ghost use Rattle.grammar_table.specs.Trees.{treeOf};
 
-pub mod remembering;
-pub mod running;
+pub mod filling;
+pub mod memory;
 
 // What any byte takes.
 pub fn any_at(s: &[u8], p: usize) -> usize
@@ -92,9 +93,18 @@ pub fn cell_at(s: &[u8], cells: &[u32], n: usize, r: usize, p: usize) -> usize
     0
 }
 
-// What expression x - 1 takes at p, and `.` for 0: 0 for failure, else 1 + the bytes taken. Symbols are looked up, so that it goes down one body only.
-pub fn eval(t: &[u32], s: &[u8], cells: &[u32], n: usize, x: usize, p: usize) -> usize
-    requires { ⌜ (n ≤ 64) × (x ≤ 4294967296) × (length (now s) ≤ 65535) × (p ≤ length (now s)) ⌝ }
+// What expression x - 1 takes at p, and `.` for 0: 0 for failure, else 1 + the bytes taken. Symbols are looked up, so that it goes down one body only;
+// rounds that are remembered are not asked again.
+pub fn eval_with(
+    t: &[u32],
+    s: &[u8],
+    cells: &[u32],
+    mem: &[u32],
+    n: usize,
+    x: usize,
+    p: usize,
+) -> usize
+    requires { ⌜ ((n ≤ 64) × (x ≤ 4294967296) × (length (now s) ≤ 65535) × (p ≤ length (now s))) × Knows (now t) (now s) (now cells) n (now mem) 0 ⌝ }
     ensures { λ r. ⌜ r ≡ ev (now (s .entry)) (now (cells .entry)) n (treeOf (now (t .entry)) x) p ⌝ }
 {
     if x == 0 {
@@ -109,51 +119,51 @@ pub fn eval(t: &[u32], s: &[u8], cells: &[u32], n: usize, x: usize, p: usize) ->
         grammar_table::TERMINAL => leaf_at(t, s, l, p),
         grammar_table::SYMBOL => cell_at(s, cells, n, l, p),
         grammar_table::SEQUENCE => {
-            let a = eval(t, s, cells, n, y, p);
+            let a = eval_with(t, s, cells, mem, n, y, p);
             if a == 0 {
                 return 0;
             }
             let r = base_words::word(t, i + 2);
             let z = grammar_table::part(r, e);
-            let b = eval(t, s, cells, n, z, p + (a - 1));
+            let b = eval_with(t, s, cells, mem, n, z, p + (a - 1));
             if b == 0 {
                 return 0;
             }
             a + b - 1
         }
         grammar_table::CHOICE => {
-            let a = eval(t, s, cells, n, y, p);
+            let a = eval_with(t, s, cells, mem, n, y, p);
             if a != 0 {
                 return a;
             }
             let r = base_words::word(t, i + 2);
             let z = grammar_table::part(r, e);
-            eval(t, s, cells, n, z, p)
+            eval_with(t, s, cells, mem, n, z, p)
         }
         grammar_table::OPTION => {
-            let a = eval(t, s, cells, n, y, p);
+            let a = eval_with(t, s, cells, mem, n, y, p);
             if a == 0 {
                 return 1;
             }
             a
         }
-        grammar_table::STAR => many(t, s, cells, n, y, p) + 1,
+        grammar_table::STAR => many(t, s, cells, mem, n, y, p) + 1,
         grammar_table::PLUS => {
-            let a = eval(t, s, cells, n, y, p);
+            let a = eval_with(t, s, cells, mem, n, y, p);
             if a <= 1 {
                 return a;
             }
-            a + many(t, s, cells, n, y, p + (a - 1))
+            a + many(t, s, cells, mem, n, y, p + (a - 1))
         }
         grammar_table::AHEAD => {
-            let a = eval(t, s, cells, n, y, p);
+            let a = eval_with(t, s, cells, mem, n, y, p);
             if a == 0 {
                 return 0;
             }
             1
         }
         _ => {
-            let a = eval(t, s, cells, n, y, p);
+            let a = eval_with(t, s, cells, mem, n, y, p);
             if a == 0 {
                 return 1;
             }
@@ -162,15 +172,19 @@ pub fn eval(t: &[u32], s: &[u8], cells: &[u32], n: usize, x: usize, p: usize) ->
     }
 }
 
-// The bytes that rounds of expression x - 1 take from p on: up to the first that fails or takes nothing.
-pub fn many(t: &[u32], s: &[u8], cells: &[u32], n: usize, x: usize, p: usize) -> usize
-    requires { ⌜ (n ≤ 64) × (x ≤ 4294967296) × (length (now s) ≤ 65535) × (p ≤ length (now s)) ⌝ }
-    ensures { λ r. ⌜ r ≡ rep (length (now (s .entry))) (λ (q : ℕ). ev (now (s .entry)) (now (cells .entry)) n (treeOf (now (t .entry)) x) q) p ⌝ }
+// The bytes that rounds of expression x - 1 take from p on: up to the first that fails or takes nothing, or to a place from which they are known.
+pub fn many(t: &[u32], s: &[u8], cells: &[u32], mem: &[u32], n: usize, x: usize, p: usize) -> usize
+    requires { ⌜ ((n ≤ 64) × (x ≤ 4294967296) × (length (now s) ≤ 65535) × (p ≤ length (now s))) × Knows (now t) (now s) (now cells) n (now mem) 0 ⌝ }
+    ensures { λ r. ⌜ r ≡ roundsOf (now (t .entry)) (now (s .entry)) (now (cells .entry)) n x p ⌝ }
 {
     let mut k = s.len();
     let mut q = p;
     while 0 < k {
-        let a = eval(t, s, cells, n, x, q);
+        let c = memory::known(mem, x, q);
+        if c < memory::UNKNOWN {
+            return q - p + c;
+        }
+        let a = eval_with(t, s, cells, mem, n, x, q);
         if a <= 1 {
             return q - p;
         }
@@ -178,4 +192,13 @@ pub fn many(t: &[u32], s: &[u8], cells: &[u32], n: usize, x: usize, p: usize) ->
         k -= 1;
     }
     q - p
+}
+
+// The same with nothing remembered.
+pub fn eval(t: &[u32], s: &[u8], cells: &[u32], n: usize, x: usize, p: usize) -> usize
+    requires { ⌜ (n ≤ 64) × (x ≤ 4294967296) × (length (now s) ≤ 65535) × (p ≤ length (now s)) ⌝ }
+    ensures { λ r. ⌜ r ≡ ev (now (s .entry)) (now (cells .entry)) n (treeOf (now (t .entry)) x) p ⌝ }
+{
+    let nothing: [u32; 1] = [0; 1];
+    eval_with(t, s, cells, &nothing, n, x, p)
 }

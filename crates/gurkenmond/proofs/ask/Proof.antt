@@ -17,7 +17,7 @@ use Rattle.match_lake.proofs.way.Reads as way-reads
 use Rattle.gurkenmond.proofs.refused_way.Reads as refused-way-reads
 use Rattle.gurkenmond.proofs.way_of.Reads as way-of-reads
 use Rattle.prepare.proofs.symbols.Reads as symbols-reads
-use Rattle.match_cells.proofs.running.fill.Reads as fill-reads
+use Rattle.match_cells.proofs.filling.fill.Reads as fill-reads
 
 refused-way-requires : tie.Need-refused-way-requires
 refused-way-requires c κs = search needs

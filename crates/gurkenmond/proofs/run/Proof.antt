@@ -14,7 +14,7 @@ use Rattle.gurkenmond.proofs.listed_match.Reads as listed-match-reads
 use Rattle.gurkenmond.proofs.refused_match.Reads as refused-match-reads
 use Rattle.match_nodes.proofs.list.Reads as list-reads
 use Rattle.prepare.proofs.symbols.Reads as symbols-reads
-use Rattle.match_cells.proofs.running.fill.Reads as fill-reads
+use Rattle.match_cells.proofs.filling.fill.Reads as fill-reads
 use Rattle.base_words.proofs.word.Reads as word-reads
 
 refused-match-requires : tie.Need-refused-match-requires

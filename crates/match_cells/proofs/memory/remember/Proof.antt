@@ -1,0 +1,76 @@
+-- `match_cells::memory::remember` meets its contract. Assumes nothing.
+use Prim.Native.Nat.{ℕ, _+_, _-_, _*_, _/_, _%_, _≤_, _<_}
+use mathlib.Core.Path.{_≡_, refl, sym, ap, _∙_, subst}
+use mathlib.Core.List.{List}
+use native.Mathlib.Omega.{arith}
+use lib.ListN.{length, getD, set}
+use Rattle.match_cells.specs.steps.Memory.{Noted}
+use Rattle.match_cells.specs.laws.Memory.{noted, noted-none}
+use borrow.Author.Needs.{needs}
+use Rattle.match_cells.proofs.memory.remember.Statement.{statement}
+use Rattle.match_cells.proofs.memory.remember.Tie as tie
+use Rattle.match_cells.proofs.memory.remember.Reads as reads
+use Rattle.match_cells.proofs.memory.remember.Lts as lts
+use Rattle.match_cells.proofs.memory.slot.Reads as slot-reads
+use Rattle.base_words.proofs.put.Reads as put-reads
+
+slot-requires : tie.Need-slot-requires
+slot-requires c κs = search needs
+
+mul-j : tie.Need-mul-j
+mul-j c = omega (arith, c .slot .ensures)
+
+add-j : tie.Need-add-j
+add-j c = omega (arith, c .slot .ensures)
+
+add-if1 : tie.Need-add-if1
+add-if1 c = omega (arith, c .slot .ensures)
+
+add-put : tie.Need-add-put
+add-put c = search needs
+
+put-requires : tie.Need-put-requires
+put-requires c κs = search needs
+
+add-put-2 : tie.Need-add-put-2
+add-put-2 c = omega (arith, c .before .before .before .before .before .before .slot .ensures)
+
+put-requires-2 : tie.Need-put-requires-2
+put-requires-2 c κs = search needs
+
+add-put-3 : tie.Need-add-put-3
+add-put-3 c = omega (arith, c .before .before .before .before .before .before .before .before .before .before .slot .ensures)
+
+put-requires-3 : tie.Need-put-requires-3
+put-requires-3 c κs = search needs
+
+same-length : tie.Need-same-length
+same-length c = search needs
+
+returns : tie.Need-returns
+returns c = subst (λ (v : List ℕ). Noted (c .before .before .before .before .before .before .before .before .before .before .before .before .before .before .before .before .args .x) (c .before .before .before .before .before .before .before .before .before .before .before .before .before .before .before .before .args .p) (c .before .before .before .before .before .before .before .before .before .before .before .before .before .before .before .before .args .c) (c .before .before .before .before .before .before .before .before .before .before .before .before .before .before .before .before .args .mem .now) v) (sym (c .before .before .put3 .ensures ∙ ap (λ (v : List ℕ). set v (1 + 3 * c .before .before .before .before .before .before .before .before .before .before .before .before .before .slot .result + 2) (c .before .before .before .before .before .before .before .before .before .before .before .before .before .before .before .before .args .c)) (c .before .before .before .before .before .before .put2 .ensures ∙ ap (λ (v : List ℕ). set v (1 + 3 * c .before .before .before .before .before .before .before .before .before .before .before .before .before .slot .result + 1) (c .before .before .before .before .before .before .before .before .before .before .before .before .before .before .before .before .args .p)) (c .before .before .before .before .before .before .before .before .before .before .put .ensures)))) (noted (c .before .before .before .before .before .before .before .before .before .before .before .before .before .before .before .before .args .mem .now) (c .before .before .before .before .before .before .before .before .before .before .before .before .before .slot .result) (c .before .before .before .before .before .before .before .before .before .before .before .before .before .before .before .before .args .x) (c .before .before .before .before .before .before .before .before .before .before .before .before .before .before .before .before .args .p) (c .before .before .before .before .before .before .before .before .before .before .before .before .before .before .before .before .args .c) (c .before .before .before .before .before .before .before .before .before .before .before .before .if1 .taken))
+
+same-length-2 : tie.Need-same-length-2
+same-length-2 c = search needs
+
+returns-2 : tie.Need-returns-2
+returns-2 c = noted-none (c .before .before .before .before .args .x) (c .before .before .before .before .args .p) (c .before .before .before .before .args .c) (c .before .before .before .before .args .mem .now)
+
+pub remember-spec : {M : Type 1} → statement M
+remember-spec =
+    tie.close
+    (tie.spec
+    slot-requires
+    mul-j
+    add-j
+    add-if1
+    add-put
+    put-requires
+    add-put-2
+    put-requires-2
+    add-put-3
+    put-requires-3
+    same-length
+    returns
+    same-length-2
+    returns-2)
