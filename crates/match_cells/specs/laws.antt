@@ -9,6 +9,7 @@ pub mod Agrees
 pub mod Filled
 pub mod Frame
 pub mod Memory
+pub mod Keys
 pub mod Order
 pub mod Full
 pub mod Runs

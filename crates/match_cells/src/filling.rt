@@ -83,7 +83,7 @@ fn row(t: &[u32], s: &[u8], cells: &mut [u32], mem: &[u32], order: &[u32], n: us
     }
 }
 
-// Fills the cells of the places below k, the last first (01: "for p from 0 to n"), and remembers the rounds of all expressions at each place.
+// Fills the cells of the places below k, the last first (01: "for p from 0 to n"), and remembers the rounds of each key at each place.
 fn rows(t: &[u32], s: &[u8], cells: &mut [u32], mem: &mut [u32], order: &[u32], n: usize, k: usize)
     requires { ⌜ ((n ≡ symbolCount (now t)) × (n ≤ 64) × ((j : ℕ) → j < n → getD (now order) j 0 < n) × (length (now s) ≤ 65535)
         × (k ≤ length (now s) + 1)) × Knows (now t) (now s) (now cells) n (now mem) k ⌝ }
@@ -97,19 +97,14 @@ fn rows(t: &[u32], s: &[u8], cells: &mut [u32], mem: &mut [u32], order: &[u32], 
     }
 }
 
-// The same for every place, with nothing remembered at first.
+// The same for every place, with a key for each repeated part and nothing remembered at first.
 fn rows_in(t: &[u32], s: &[u8], cells: &mut [u32], order: &[u32], n: usize)
     requires { ⌜ (n ≡ symbolCount (now t)) × (n ≤ 64) × ((j : ℕ) → j < n → getD (now order) j 0 < n) × (length (now s) ≤ 65535) ⌝ }
     ensures { λ _. ⌜ now (cells .exit)
         ≡ fillOf (bodiesOf (now (t .entry))) (now (s .entry)) (length (now (s .entry)) + 1) (wordsFrom (now (order .entry)) 0 n) (now (cells .entry)) ⌝ }
 {
     let mut mem: crate::memory::Memory = [0; crate::memory::WORDS];
-    let m = crate::memory::count(t);
-    base_words::put(
-        &mut mem,
-        crate::memory::PLACES,
-        crate::memory::ENTRIES / (m + 1),
-    );
+    crate::memory::enter_all(t, &mut mem);
     rows(t, s, cells, &mut mem, order, n, s.len() + 1);
 }
 

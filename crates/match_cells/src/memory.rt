@@ -1,113 +1,245 @@
 // Rounds that are remembered: a repeat at a place ends with what was known at a later one, so that a run of single bytes takes time linear in the text
-// (01, Meaning of a match). The memory is one run of words: how many places of each part it keeps, then entries.
-ghost use Prim.Native.Nat.{_<_, _≤_};
+// (01, Meaning of a match). Repeated parts with the same tree share what is remembered: each of them has a key, the same for all. The memory is one run of
+// words: how many places of each key it keeps, how many keys there are, the key of each part (0: none), a part of each key, then entries.
+ghost use Prim.Native.Nat.{ℕ, _<_, _≤_};
+ghost use mathlib.Core.Path.{_≡_};
+ghost use mathlib.Core.Bool.{true};
 ghost use lib.ListN.{length};
-ghost use Rattle.match_cells.specs.steps.Memory.{Told, Knows, Noted};
+ghost use Rattle.grammar_table.specs.Trees.{treeOf};
+ghost use Rattle.match_cells.specs.steps.Memory.{Key, Found, Fresh, Told, Knows, Noted};
+use base_words::put;
+use base_words::word;
 
 pub const PLACES: usize = 0;
 
-pub const ENTRIES_AT: usize = 1;
+pub const COUNT: usize = 1;
 
-// 1 + the repeated part, the place, the bytes that its rounds take from there.
-pub const ENTRY_WORDS: usize = 3;
+pub const KEYS_AT: usize = 2;
 
-// No part has more places than there are entries.
+// `.` and 1,024 expressions.
+pub const PARTS: usize = 1025;
+
+pub const PARTS_AT: usize = 1027;
+
+pub const ENTRIES_AT: usize = 2052;
+
+// What an entry is about, in one word, and the bytes that rounds take: key · 65,536 + place.
+pub const ENTRY_WORDS: usize = 2;
+
+pub const TEXT: usize = 65536;
+
+// No key has more places than there are entries.
 pub const ENTRIES: usize = 4096;
 
-pub const WORDS: usize = 12289;
+pub const WORDS: usize = 10244;
 
 pub type Memory = [u32; WORDS];
 
 // More than a text has: nothing is known.
 pub const UNKNOWN: usize = 65536;
 
-// The number of the entry for rounds of part x from q on: some places of each part, the nearest ones. Any answer would do, for an entry says what it is about.
-fn slot(mem: &[u32], x: usize, q: usize) -> usize
-    requires { ⌜ x ≤ 4294967296 ⌝ }
-    ensures { λ r. ⌜ r < 35184372092928 ⌝ }
+// The key of part x; 0 where there is none.
+fn key(mem: &[u32], x: usize) -> usize
+    ensures { λ r. ⌜ (0 < r → Key (now (mem .entry)) x r) × (r ≤ 1025) ⌝ }
 {
-    let w = base_words::word(mem, PLACES);
+    if x < PARTS {
+        let k = word(mem, KEYS_AT + x);
+        if k <= PARTS {
+            return k;
+        }
+    }
+    0
+}
+
+// The number of the entry for key k at place q: some places of each key, the nearest ones. Any answer would do, for an entry says what it is about.
+fn slot(mem: &[u32], k: usize, q: usize) -> usize
+    requires { ⌜ k ≤ 1025 ⌝ }
+    ensures { λ r. ⌜ r < 4294967296 ⌝ }
+{
+    let w = word(mem, PLACES);
     if w == 0 {
         return 0;
     }
     if ENTRIES < w {
         return 0;
     }
-    x * w + q % w
+    k * w + q % w
 }
 
 // The bytes that rounds of part x take from q on if an entry is about them, else more than a text has.
 pub fn known(mem: &[u32], x: usize, q: usize) -> usize
-    requires { ⌜ x ≤ 4294967296 ⌝ }
+    requires { ⌜ q ≤ 65535 ⌝ }
     ensures { λ r. ⌜ (r < 65536 → Told (now (mem .entry)) x q r) ⌝ }
 {
-    let i = slot(mem, x, q);
+    let k = key(mem, x);
+    if k == 0 {
+        return UNKNOWN;
+    }
+    let i = slot(mem, k, q);
     let j = ENTRIES_AT + ENTRY_WORDS * i;
-    let a = base_words::word(mem, j);
-    if a != x + 1 {
+    let a = word(mem, j);
+    if a != k * TEXT + q {
         return UNKNOWN;
     }
-    let b = base_words::word(mem, j + 1);
-    if b != q {
-        return UNKNOWN;
-    }
-    base_words::word(mem, j + 2)
+    word(mem, j + 1)
 }
 
-// The entry of part x from p on says from now on that its rounds take c bytes.
-fn remember(mem: &mut [u32], x: usize, p: usize, c: usize)
-    requires { ⌜ (x ≤ 65536) × (p ≤ 65535) × (c ≤ 65535) ⌝ }
-    ensures { λ _. ⌜ Noted x p c (now (mem .entry)) (now (mem .exit)) ⌝ }
+// The entry of key k at place p says from now on that rounds take c bytes from there.
+fn remember(mem: &mut [u32], k: usize, p: usize, c: usize)
+    requires { ⌜ (k ≤ 1025) × (p ≤ 65535) × (c ≤ 65535) ⌝ }
+    ensures { λ _. ⌜ Noted k p c (now (mem .entry)) (now (mem .exit)) ⌝ }
 {
-    let i = slot(mem, x, p);
+    let i = slot(mem, k, p);
     let j = ENTRIES_AT + ENTRY_WORDS * i;
-    if j + 2 < mem.len() {
-        base_words::put(mem, j, x + 1);
-        base_words::put(mem, j + 1, p);
-        base_words::put(mem, j + 2, c);
+    if j + 1 < mem.len() {
+        put(mem, j, k * TEXT + p);
+        put(mem, j + 1, c);
     }
 }
 
-// The rounds that expression e repeats, if it is a repeat, from p on.
-fn learn(t: &[u32], s: &[u8], cells: &[u32], mem: &mut [u32], n: usize, e: usize, p: usize)
-    requires { ⌜ ((n ≤ 64) × (e < 65536) × (length (now s) ≤ 65535) × (p ≤ length (now s))) × Knows (now t) (now s) (now cells) n (now mem) p ⌝ }
+// The rounds of part y from p on, if it has a key.
+fn learn(t: &[u32], s: &[u8], cells: &[u32], mem: &mut [u32], n: usize, y: usize, p: usize)
+    requires { ⌜ ((n ≤ 64) × (y < 4294967296) × (length (now s) ≤ 65535) × (p ≤ length (now s))) × Knows (now t) (now s) (now cells) n (now mem) p ⌝ }
     ensures { λ _. ⌜ Knows (now (t .entry)) (now (s .entry)) (now (cells .entry)) n (now (mem .exit)) p ⌝ }
 {
-    let op = base_words::word(
-        t,
-        grammar_table::EXPRESSIONS_AT + grammar_table::EXPRESSION_WORDS * e,
-    );
-    if op == grammar_table::STAR || op == grammar_table::PLUS {
-        let l = base_words::word(
-            t,
-            grammar_table::EXPRESSIONS_AT + grammar_table::EXPRESSION_WORDS * e + 1,
-        );
-        let y = grammar_table::part(l, e);
+    let k = key(mem, y);
+    if k != 0 {
         let c = crate::many(t, s, cells, mem, n, y, p);
-        remember(mem, y, p, c);
+        remember(mem, k, p, c);
     }
 }
 
-// How many expressions have their rounds remembered: all that a table may hold. Any number would do.
-pub fn count(t: &[u32]) -> usize
+// The same for a part of each key.
+pub fn learn_all(t: &[u32], s: &[u8], cells: &[u32], mem: &mut [u32], n: usize, p: usize)
+    requires { ⌜ ((n ≤ 64) × (length (now s) ≤ 65535) × (p ≤ length (now s))) × Knows (now t) (now s) (now cells) n (now mem) p ⌝ }
+    ensures { λ _. ⌜ Knows (now (t .entry)) (now (s .entry)) (now (cells .entry)) n (now (mem .exit)) p ⌝ }
+{
+    let d = word(mem, COUNT);
+    let mut k: usize = 0;
+    while k < d {
+        let y = word(mem, PARTS_AT + k);
+        learn(t, s, cells, mem, n, y, p);
+        k += 1;
+    }
+}
+
+// Whether parts x and y are the same tree, word by word.
+fn same(t: &[u32], x: usize, y: usize) -> bool
+    requires { ⌜ (x ≤ 4294967296) × (y ≤ 4294967296) ⌝ }
+    ensures { λ r. ⌜ (r ≡ true → treeOf (now (t .entry)) x ≡ treeOf (now (t .entry)) y) ⌝ }
+{
+    if x == y {
+        return true;
+    }
+    if x == 0 {
+        return false;
+    }
+    if y == 0 {
+        return false;
+    }
+    let e = x - 1;
+    let f = y - 1;
+    let i = grammar_table::EXPRESSIONS_AT + grammar_table::EXPRESSION_WORDS * e;
+    let j = grammar_table::EXPRESSIONS_AT + grammar_table::EXPRESSION_WORDS * f;
+    let op = word(t, i);
+    let other = word(t, j);
+    if op != other {
+        return false;
+    }
+    let l = word(t, i + 1);
+    let m = word(t, j + 1);
+    if op <= grammar_table::SYMBOL {
+        if l != m {
+            return false;
+        }
+        return true;
+    }
+    let a = grammar_table::part(l, e);
+    let b = grammar_table::part(m, f);
+    if !same(t, a, b) {
+        return false;
+    }
+    if grammar_table::CHOICE < op {
+        return true;
+    }
+    let r = word(t, i + 2);
+    let u = word(t, j + 2);
+    let g = grammar_table::part(r, e);
+    let h = grammar_table::part(u, f);
+    same(t, g, h)
+}
+
+// The key of a part with the same tree as y; 0 where none is listed.
+fn find(t: &[u32], mem: &[u32], y: usize) -> usize
+    requires { ⌜ y ≤ 4294967296 ⌝ }
+    ensures { λ r. ⌜ (0 < r → Found (now (t .entry)) (now (mem .entry)) y r) × (r ≤ 1025) ⌝ }
+{
+    let d = word(mem, COUNT);
+    let mut k: usize = 0;
+    while k < d {
+        let z = word(mem, PARTS_AT + k);
+        if same(t, z, y) {
+            return key(mem, z);
+        }
+        k += 1;
+    }
+    0
+}
+
+// Gives part y the key of its like, or one of its own.
+fn enter(t: &[u32], mem: &mut [u32], y: usize)
+    requires { ⌜ (y < 1025) × Fresh (now t) (now mem) ⌝ }
+    ensures { λ _. ⌜ Fresh (now (t .entry)) (now (mem .exit)) ⌝ }
+{
+    let k = find(t, mem, y);
+    if k != 0 {
+        put(mem, KEYS_AT + y, k);
+    } else {
+        let d = word(mem, COUNT);
+        if d < PARTS {
+            put(mem, PARTS_AT + d, y);
+            put(mem, COUNT, d + 1);
+            put(mem, KEYS_AT + y, d + 1);
+        }
+    }
+}
+
+// The same for what expression e repeats, if it is a repeat.
+fn enter_repeat(t: &[u32], mem: &mut [u32], e: usize)
+    requires { ⌜ (e < 1024) × Fresh (now t) (now mem) ⌝ }
+    ensures { λ _. ⌜ Fresh (now (t .entry)) (now (mem .exit)) ⌝ }
+{
+    let i = grammar_table::EXPRESSIONS_AT + grammar_table::EXPRESSION_WORDS * e;
+    let op = word(t, i);
+    if op == grammar_table::STAR || op == grammar_table::PLUS {
+        let l = word(t, i + 1);
+        let y = grammar_table::part(l, e);
+        enter(t, mem, y);
+    }
+}
+
+// How many expressions a table may hold: the others are passed over.
+fn count(t: &[u32]) -> usize
     ensures { λ r. ⌜ r ≤ 1024 ⌝ }
 {
-    let m = base_words::word(t, 2);
+    let m = word(t, 2);
     if 1024 < m {
         return 1024;
     }
     m
 }
 
-// The same for all of them.
-pub fn learn_all(t: &[u32], s: &[u8], cells: &[u32], mem: &mut [u32], n: usize, p: usize)
-    requires { ⌜ ((n ≤ 64) × (length (now s) ≤ 65535) × (p ≤ length (now s))) × Knows (now t) (now s) (now cells) n (now mem) p ⌝ }
-    ensures { λ _. ⌜ Knows (now (t .entry)) (now (s .entry)) (now (cells .entry)) n (now (mem .exit)) p ⌝ }
+// The keys of all repeated parts.
+pub fn enter_all(t: &[u32], mem: &mut [u32])
+    requires { ⌜ Fresh (now t) (now mem) ⌝ }
+    ensures { λ _. ⌜ Fresh (now (t .entry)) (now (mem .exit)) ⌝ }
 {
     let m = count(t);
     let mut e: usize = 0;
     while e < m {
-        learn(t, s, cells, mem, n, e, p);
+        enter_repeat(t, mem, e);
         e += 1;
     }
+    let d = word(mem, COUNT);
+    put(mem, PLACES, ENTRIES / (d + 1));
 }

@@ -244,7 +244,7 @@ many-loop-holds : (t : ℕ) → many-lts.Need-loop-holds (many-claims t) (many-a
 many-loop-holds t c = (omega arith, omega (arith, c .before .before .before .before .pre .1 .0), refl, omega arith)
 
 many-known-requires : (t : ℕ) → many-lts.Need-known-requires (many-claims t) (many-at t) many.Post many-Inv-loop many-μ-loop
-many-known-requires t c κs = omega (arith, c .before .before .before .before .before .before .pre .1 .0)
+many-known-requires t c κs = omega (arith, c .before .loop .inv .1, c .before .before .before .before .before .before .pre .1 .0)
 
 many-sub-result : (t : ℕ) → many-lts.Need-sub-result (many-claims t) (many-at t) many.Post many-Inv-loop many-μ-loop
 many-sub-result t c = omega (arith, c .before .before .before .loop .inv .0)
@@ -253,7 +253,7 @@ many-add-result : (t : ℕ) → many-lts.Need-add-result (many-claims t) (many-a
 many-add-result t c = omega (arith, c .before .before .before .loop .inv .0, c .before .before .before .loop .inv .1, c .if1 .taken, c .before .before .before .before .before .before .before .before .pre .1 .0)
 
 many-returns : (t : ℕ) → many-lts.Need-returns (many-claims t) (many-at t) many.Post many-Inv-loop many-μ-loop
-many-returns t c = known-ends (c .before .before .before .before .before .before .before .before .args .t .now) (c .before .before .before .before .before .before .before .before .args .s .now) (c .before .before .before .before .before .before .before .before .args .cells .now) (c .before .before .before .before .before .before .before .before .args .mem .now) (c .before .before .before .before .before .before .before .before .args .n) (c .before .before .before .before .before .before .before .before .pre .1 .1) (c .before .before .before .before .before .before .before .before .args .x) (c .before .before .before .loop .k) (c .before .before .before .before .before .before .before .before .args .p) (c .before .before .before .loop .q) (c .before .known .result) (c .before .before .before .loop .inv .0) (c .before .before .before .loop .inv .1) (c .before .before .before .loop .inv .3) (c .before .before .before .loop .inv .2) (c .before .known .ensures (c .if1 .taken))
+many-returns t c = known-ends (c .before .before .before .before .before .before .before .before .args .t .now) (c .before .before .before .before .before .before .before .before .args .s .now) (c .before .before .before .before .before .before .before .before .args .cells .now) (c .before .before .before .before .before .before .before .before .args .mem .now) (c .before .before .before .before .before .before .before .before .args .n) (c .before .before .before .before .before .before .before .before .pre .1 .1) (c .before .before .before .before .before .before .before .before .args .x) (c .before .before .before .loop .k) (c .before .before .before .before .before .before .before .before .args .p) (c .before .before .before .loop .q) (c .before .known .result) (omega (arith, c .before .before .before .before .before .before .before .before .pre .1 .0)) (c .before .before .before .loop .inv .0) (c .before .before .before .loop .inv .1) (c .before .before .before .loop .inv .3) (c .before .before .before .loop .inv .2) (c .before .known .ensures (c .if1 .taken))
 
 many-eval-with-requires : (t : ℕ) → many-lts.Need-eval-with-requires (many-claims t) (many-at t) many.Post many-Inv-loop many-μ-loop
 many-eval-with-requires t c κs = (omega (arith, c .before .before .before .loop .inv .1, c .before .before .before .before .before .before .before .before .pre .0, c .before .before .before .before .before .before .before .before .pre .1 .0), (omega (arith, c .before .before .before .loop .inv .1, c .before .before .before .before .before .before .before .before .pre .0, c .before .before .before .before .before .before .before .before .pre .1 .0), c .before .before .before .before .before .before .before .before .pre .1 .1))

@@ -1,8 +1,9 @@
 -- Rounds that are remembered, so that a repeat at a place ends with what was known at a later one (01, Meaning of a match: "A repeat ends at the first failing
--- round or the first round that takes nothing"). The memory is one run of words: how many places of each part it keeps, then three words an entry:
--- 1 + the repeated part, the place, the bytes that its rounds take from there.
+-- round or the first round that takes nothing"). Repeated parts with one key have the same tree and share what is remembered. The memory is one run of words:
+-- how many places of each key it keeps, how many keys there are, the key of each part, a part of each key, then two words an entry: what it is about
+-- (key · 65,536 + place), and the bytes that rounds take from there.
 -- Assumes nothing: these are definitions.
-use Prim.Native.Nat.{ℕ, _+_, _*_, _≤_}
+use Prim.Native.Nat.{ℕ, _+_, _*_, _≤_, _<_}
 use mathlib.Core.Path.{_≡_}
 use mathlib.Core.List.{List}
 use mathlib.Core.Logic.{_⊎_}
@@ -10,32 +11,64 @@ use lib.ListN.{getD, length}
 use Rattle.match_cells.specs.Eval.{ev, rep}
 use Rattle.grammar_table.specs.Trees.{treeOf}
 
+abbrev pub countAt : ℕ
+countAt = 1
+
+abbrev pub keysAt : ℕ
+keysAt = 2
+
+abbrev pub partsAt : ℕ
+partsAt = 1027
+
 abbrev pub entriesAt : ℕ
-entriesAt = 1
+entriesAt = 2052
+
+-- `.` and 1,024 expressions
+abbrev pub parts : ℕ
+parts = 1025
 
 -- the bytes that rounds of part x take from q on
 abbrev pub roundsOf : List ℕ → List ℕ → List ℕ → ℕ → ℕ → ℕ → ℕ
 roundsOf t s cs n x q = rep (length s) (λ (j : ℕ). ev s cs n (treeOf t x) j) q
 
--- entry i is about rounds of part x from q on
+-- part x has key k
+abbrev pub Key : List ℕ → ℕ → ℕ → Type 0
+Key mem x k = (x < parts) × (0 < k) × (getD mem (keysAt + x) 0 ≡ k)
+
+-- a part with key k has the tree of part y
+abbrev pub Found : List ℕ → List ℕ → ℕ → ℕ → Type 0
+Found t mem y k = (z : ℕ) × Key mem z k × (treeOf t z ≡ treeOf t y)
+
+-- keys are counted from 1 on, and parts with one key have the same tree
+pub record Alike (t mem : List ℕ) : Type 0 where
+  pub most : (x k : ℕ) → Key mem x k → k ≤ getD mem countAt 0
+  pub like : (x y k : ℕ) → Key mem x k → Key mem y k → treeOf t x ≡ treeOf t y
+
+-- the keys are right, and no entry says anything yet
+pub record Fresh (t mem : List ℕ) : Type 0 where
+  pub shared : Alike t mem
+  pub room : entriesAt ≤ length mem
+  pub blank : (j : ℕ) → entriesAt ≤ j → getD mem j 0 ≡ 0
+
+-- entry i is about rounds from q on of parts with key k
 abbrev pub Says : List ℕ → ℕ → ℕ → ℕ → Type 0
-Says mem i x q = (getD mem (entriesAt + 3 * i) 0 ≡ x + 1) × (getD mem (entriesAt + 3 * i + 1) 0 ≡ q)
+Says mem i k q = getD mem (entriesAt + 2 * i) 0 ≡ k * 65536 + q
 
 -- some entry says that rounds of part x from q on take c bytes
 abbrev pub Told : List ℕ → ℕ → ℕ → ℕ → Type 0
-Told mem x q c = (i : ℕ) × Says mem i x q × (getD mem (entriesAt + 3 * i + 2) 0 ≡ c)
+Told mem x q c = (k : ℕ) × (i : ℕ) × Key mem x k × Says mem i k q × (getD mem (entriesAt + 2 * i + 1) 0 ≡ c)
 
--- every entry is about a place from k on, and is what the rounds take by the cells
+-- the keys are right; every entry is about a place from k on, and is what the rounds of each part with its key take by the cells
 pub record Knows (t s cs : List ℕ) (n : ℕ) (mem : List ℕ) (k : ℕ) : Type 0 where
-  pub from : (i x q : ℕ) → Says mem i x q → k ≤ q
-  pub right : (i x q : ℕ) → Says mem i x q → getD mem (entriesAt + 3 * i + 2) 0 ≡ roundsOf t s cs n x q
+  pub shared : Alike t mem
+  pub from : (i x j q : ℕ) → q < 65536 → Key mem x j → Says mem i j q → k ≤ q
+  pub right : (i x j q : ℕ) → q < 65536 → Key mem x j → Says mem i j q → getD mem (entriesAt + 2 * i + 1) 0 ≡ roundsOf t s cs n x q
 
 -- entry j is as it was
 abbrev pub Same : ℕ → List ℕ → List ℕ → Type 0
-Same j old new =
-    (getD new (entriesAt + 3 * j) 0 ≡ getD old (entriesAt + 3 * j) 0) × (getD new (entriesAt + 3 * j + 1) 0 ≡ getD old (entriesAt + 3 * j + 1) 0)
-    × (getD new (entriesAt + 3 * j + 2) 0 ≡ getD old (entriesAt + 3 * j + 2) 0)
+Same j old new = (getD new (entriesAt + 2 * j) 0 ≡ getD old (entriesAt + 2 * j) 0) × (getD new (entriesAt + 2 * j + 1) 0 ≡ getD old (entriesAt + 2 * j + 1) 0)
 
--- every entry is as it was, or says that rounds of part x take c bytes from p on
-pub record Noted (x p c : ℕ) (old new : List ℕ) : Type 0 where
-  pub at : (j : ℕ) → Same j old new ⊎ (Says new j x p × (getD new (entriesAt + 3 * j + 2) 0 ≡ c))
+-- what stands before the entries is as it was, and every entry too, or it says that rounds of parts with key k take c bytes from p on
+pub record Noted (k p c : ℕ) (old new : List ℕ) : Type 0 where
+  pub front : (j : ℕ) → j < entriesAt → getD new j 0 ≡ getD old j 0
+  pub at : (j : ℕ) → Same j old new ⊎ (Says new j k p × (getD new (entriesAt + 2 * j + 1) 0 ≡ c))
