@@ -9,12 +9,12 @@ use lib.ListN.{length, take, replicate}
 use Rattle.read_tokens.specs.declared.Mode.{Mode}
 use Rattle.read_tokens.specs.Bounds.{nodeWords}
 use Rattle.grammar.specs.Refusal.{Refusal}
-use Rattle.lake_sets.specs.declared.Sets.{Sets}
-use Rattle.lake_step_two.specs.Plain.{plainRules}
-use Rattle.write_rules.specs.Writing.{text}
-use Rattle.prepare.specs.Prepare.{Prepared, prepared, refuses}
-use Rattle.gurkenmond.specs.Answers.{Says, refused, nomatch, value, outcomeSays, waySays}
-use Rattle.gurkenmond.specs.Calls.{Matching, matchOf, lakeOf, setsOf, cannotSkipOf}
+use Rattle.prepare.specs.declared.Counted.{Counted}
+use Rattle.prepare.specs.Reads.{readOf}
+use Rattle.gurkenmond.specs.declared.SetsOf.{SetsOf}
+use Rattle.gurkenmond.specs.declared.Lakes.{Lakes}
+use Rattle.gurkenmond.specs.Answers.{Says, refused, value, verdictSays}
+use Rattle.gurkenmond.specs.Calls.{Matching, matchOf, LakeAnswer, lakeOf, setsOf, cannotSkipOf, Writing, writeOwnOf, writePlainOf}
 
 -- a quoted text as bytes; all of them are ASCII
 unfoldable pub bytes : String → List ℕ
@@ -31,6 +31,8 @@ pub data Asked : Type 0 where
 
 pub data Said : Type 0 where
   says : Says → Said
+  -- symbols, terminals, expressions
+  counted : ℕ → ℕ → ℕ → Said
   words : List ℕ → Said
   -- BEGINNING without ε, SUCCEED, ALT, ε
   three : List ℕ → List ℕ → List ℕ → Bool → Said
@@ -38,30 +40,49 @@ pub data Said : Type 0 where
   -- an answer, the count of nodes, and the node words that are theirs
   listed : Says → ℕ → List ℕ → Said
 
-abbrev pub readBy : Option Refusal → Said
-readBy none = says (value 0)
-readBy (some r) = says (refused (r .number) (r .place))
+-- what is said where nothing refuses
+abbrev pub unless : Option Refusal → Said → Said
+unless none x = x
+unless (some r) x = says (refused (r .number) (r .place))
 
-abbrev pub textBy : Option Refusal → List ℕ → Said
-textBy none w = written w
-textBy (some r) w = says (refused (r .number) (r .place))
+abbrev pub readBy : Counted → Said
+readBy c = unless (verdictSays (c .verdict)) (counted (c .symbols) (c .terminals) (c .expressions))
+
+abbrev pub roundsBy : SetsOf → Said
+roundsBy r = unless (verdictSays (r .verdict)) (says (value (r .rounds)))
+
+abbrev pub skipsBy : Lakes → Said
+skipsBy r = unless (verdictSays (r .verdict)) (says (value (r .word)))
+
+abbrev pub textBy : Writing → Said
+textBy w = unless (w .verdict) (written (take (w .bytes) (w .out)))
+
+abbrev pub altBy : SetsOf → Said
+altBy r = unless (verdictSays (r .verdict)) (words (r .sets .alt))
+
+abbrev pub threeBy : SetsOf → Said
+threeBy r = unless (verdictSays (r .verdict)) (three (r .sets .begin) (r .sets .succeed) (r .sets .alt) (r .sets .eps))
 
 abbrev pub matchedBy : Matching → Said
-matchedBy x = listed (outcomeSays (x .answer .outcome)) (x .answer .nodes) (take (nodeWords * x .answer .nodes) (x .nodes))
+matchedBy x = listed (x .answer .outcome) (x .answer .nodes) (take (nodeWords * x .answer .nodes) (x .nodes))
 
-abbrev pub threeBy : Sets → Said
-threeBy x = three (x .begin) (x .succeed) (x .alt) (x .eps)
+abbrev pub lakeBy : LakeAnswer → Said
+lakeBy x = unless (x .verdict) (says (value (x .way)))
+
+-- room for the longest text of the table
+abbrev pub room : List ℕ
+room = replicate 128 0
 
 unfoldable pub answered : Asked → Said
-answered (reads m t) = readBy (refuses m (bytes t))
-answered (rounds m t) = says (value (setsOf m (bytes t) 1 .rounds))
-answered (skips m t) = says (value (cannotSkipOf m (bytes t) .word))
-answered (own m t) = textBy (refuses m (bytes t)) (text (prepared m (bytes t) .rules))
-answered (plain m t) = let p : Prepared = prepared m (bytes t) in textBy (refuses m (bytes t)) (text (plainRules (p .grammar) (p .analysis)))
-answered (alt m t e) = words (setsOf m (bytes t) e .sets .alt)
-answered (sets m t e) = threeBy (setsOf m (bytes t) e .sets)
+answered (reads m t) = readBy (readOf m (bytes t))
+answered (rounds m t) = roundsBy (setsOf m (bytes t) 1)
+answered (skips m t) = skipsBy (cannotSkipOf m (bytes t))
+answered (own m t) = textBy (writeOwnOf m (bytes t) room)
+answered (plain m t) = textBy (writePlainOf m (bytes t) room)
+answered (alt m t e) = altBy (setsOf m (bytes t) e)
+answered (sets m t e) = threeBy (setsOf m (bytes t) e)
 answered (matches m t s c w) = matchedBy (matchOf m (bytes t) (bytes s) (replicate c 0) (replicate w 0))
-answered (lakes m t s l q) = says (waySays (lakeOf m (bytes t) (bytes s) (replicate 256 0) l q .way))
+answered (lakes m t s l q) = lakeBy (lakeOf m (bytes t) (bytes s) (replicate 256 0) l q)
 
 pub record Case : Type 0 where
   pub asked : Asked

@@ -32,7 +32,6 @@ use Rattle.match_nodes.specs.Nodes.{seqN, altN, optN, stepN, repN, walkOf, node
 use Rattle.match_nodes.specs.Nodes.{roomOf, nodeAt, nodesAt, soundAt, nodeText}
 use Rattle.write_rules.specs.Writing.{byteText, litChar, classChar, litChars, runs as writing-runs, runText, runsText, leafText, symbolText}
 use Rattle.write_rules.specs.Writing.{exprText, ruleText, text}
-use Rattle.gurkenmond.specs.Answers.{verdictSays, outcomeSays, waySays, writtenSays}
 use Rattle.prepare.specs.Reads.{verdictOf, readOf}
 use Rattle.match_lake.specs.Asking.{noneMatches, wayNumber, wayIn}
 use Rattle.gurkenmond.specs.Calls.{setsOf, cannotSkipOf, matchOf, lakeOf, writeOwnOf, writePlainOf}
@@ -53,6 +52,6 @@ unfolding cases answered text-bytes oneOf ranges kindAt textBound nameBound open
     orderFrom order nonterminalsIn terminalsIn alternatives plainFrom plainBodies sizes rulesBy plainRules bodyAt rowOf fillOf cells stands leafAt
     cellAt joinOf seqOf altOf stepOf rep plusOf optOf aheadOf neverOf ev seqN altN optN stepN repN walkOf nodeIf nodesOf levels listOf listingOf
     putNode written wordsOf roomOf nodeAt nodesAt soundAt nodeText byteText litChar classChar litChars writing-runs runText runsText leafText
-    symbolText exprText ruleText text verdictSays outcomeSays waySays writtenSays verdictOf readOf setsOf cannotSkipOf matchOf noneMatches wayNumber
-    wayIn lakeOf writeOwnOf writePlainOf preparedBy prepared refuses
+    symbolText exprText ruleText text verdictOf readOf setsOf cannotSkipOf matchOf noneMatches wayNumber wayIn lakeOf writeOwnOf writePlainOf
+    preparedBy prepared refuses
 cases-right = refl

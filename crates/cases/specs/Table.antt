@@ -2,10 +2,11 @@
 use Prim.Native.Nat.{ℕ}
 use Prim.Native.String.{String}
 use mathlib.Core.Bool.{true, false}
-use mathlib.Core.List.{List, [], _∷_}
+use mathlib.Core.List.{List, [], _∷_, _++_}
 use Rattle.read_tokens.specs.declared.Mode.the-variants.{Lake, Plain}
 use Rattle.gurkenmond.specs.Answers.{Says, refused, nomatch, value}
-use Rattle.cases.specs.Ask.{Asked, Said, Case, bytes, reads, rounds, skips, own, plain, alt, sets, matches, lakes, says, words, three, written, listed}
+use Rattle.cases.specs.Ask.{Asked, Said, Case, bytes, reads, rounds, skips, own, plain, alt, sets, matches, lakes, says, counted, words}
+use Rattle.cases.specs.Ask.{three, written, listed}
 
 abbrev pub is : Asked → Said → Case
 is a s = record { asked = a; said = s }
@@ -14,9 +15,60 @@ is a s = record { asked = a; said = s }
 abbrev G : String
 G = "block <- '{' stmt* '}'\nstmt <- expr_stmt / block\nexpr_stmt <- <elake>* ';'\n"
 
+-- symbols a, c, <d>, <b>, <c>
+abbrev loose : String
+loose = "a <- <b> <c> 'x' <b> c <- 'y' <d> <- 'z'"
+
 -- read and written the same
 abbrev kept : String → Case
 kept t = is (own Lake t) (written (bytes t))
+
+-- of a text in both modes: as it is written, or refused
+abbrev both : String → Said → List Case
+both t x = is (own Lake t) x ∷ is (own Plain t) x ∷ []
+
+abbrev asText : String → Said
+asText t = written (bytes t)
+
+abbrev bad : ℕ → ℕ → Said
+bad k p = says (refused k p)
+
+-- bytes, blanks, names, literals and classes (01, Notation), each in lake and in plain mode
+abbrev lexical : List Case
+lexical =
+    both "a\t<-\r\n'x'" (asText "a <- 'x'\n") ++
+    both "a<-'x'" (asText "a <- 'x'\n") ++
+    both "a\u{b}<- 'x'" (bad 2 1) ++
+    both "a <- #c\r'x'" (asText "a <- 'x'\n") ++
+    both "a <- #c" (bad 2 7) ++
+    both "a1 <- 'x'" (asText "a1 <- 'x'\n") ++
+    both "1a <- 'x'" (bad 2 0) ++
+    both "a <- 'x" (bad 2 5) ++
+    both "a <- ''" (bad 2 5) ++
+    both "a <- \"\\\"\"" (asText "a <- '\"'\n") ++
+    both "a <- '\\q'" (bad 2 5) ++
+    both "a <- '\\1'" (asText "a <- '\\001'\n") ++
+    both "a <- '\\18'" (asText "a <- '\\0018'\n") ++
+    both "a <- '\\300'" (asText "a <- '\\0300'\n") ++
+    both "a <- [x" (bad 2 5) ++
+    both "a <- [a-]" (bad 2 5) ++
+    both "a <- [--]" (bad 2 5) ++
+    both "a <- []a]" (bad 2 5) ++
+    both "a <- [b-a]" (bad 2 5) ++
+    both "a <- [a-z-]" (asText "a <- [\\055a-z]\n") ++
+    both "a <- [ba]" (asText "a <- [a-b]\n") ++
+    both "a <- [ac]" (asText "a <- [ac]\n") ++
+    both "a <- [\\101-C]" (asText "a <- [A-C]\n") ++
+    -- where the modes differ
+    (is (own Lake "a <- <x>") (asText "a <- <x>\n") ∷
+    is (own Plain "a <- <x>") (bad 2 5) ∷
+    is (own Lake "lake__x <- 'y'") (bad 4 0) ∷
+    is (own Plain "lake__x <- 'y'") (asText "lake__x <- 'y'\n") ∷
+    is (matches Lake "a <- [^a]" "a" 2 4) (listed nomatch 0 []) ∷
+    is (matches Lake "a <- [^a]" "b" 2 4) (listed (value 1) 1 (0 ∷ 0 ∷ 1 ∷ 0 ∷ [])) ∷
+    is (matches Plain "a <- [^a]" "a" 2 4) (listed (value 1) 1 (0 ∷ 0 ∷ 1 ∷ 0 ∷ [])) ∷
+    is (matches Plain "a <- [^a]" "b" 2 4) (listed nomatch 0 []) ∷
+    [])
 
 unfoldable pub cases : List Case
 cases =
@@ -98,4 +150,17 @@ cases =
     is (plain Lake "a <- (<x> / 'b'?) 'c'") (written (bytes "a <- (lake__x / 'b'?) 'c'\nlake__x <- !. / !('b' / 'c') .\n")) ∷
     is (rounds Lake "a <- 'x' / 'y'") (says (value 1)) ∷
     is (rounds Lake "a <- <x>* 'y'") (says (value 2)) ∷
-    []
+    -- accepted: symbols, terminals, expressions
+    is (reads Lake G) (counted 4 4 13) ∷
+    is (reads Lake "a <- 'x' / 'y'") (counted 1 3 3) ∷
+    is (reads Plain "a <- 'x' [y] .") (counted 1 3 5) ∷
+    -- two lakes without rules stand behind the left sides, by first use
+    is (reads Lake loose) (counted 5 4 9) ∷
+    is (own Lake loose) (asText "a <- <b> <c> 'x' <b>\nc <- 'y'\n<d> <- 'z'\n") ∷
+    is (plain Lake loose) (asText "a <- lake__b lake__c 'x' lake__b\nc <- 'y'\nlake__d <- 'z' / !. / .\nlake__b <- !. / .\nlake__c <- !. / .\n") ∷
+    -- a lake by its rule, and no lake, no place, no expression
+    is (lakes Lake "a <- <x>* 'y' <x> <- 'q'" "qy" 1 0) (says (value 1)) ∷
+    is (lakes Lake "a <- <x>* 'y' <x> <- 'q'" "qy" 0 0) (bad 14 0) ∷
+    is (lakes Lake "a <- <x>* 'y' <x> <- 'q'" "qy" 1 3) (bad 14 0) ∷
+    is (sets Lake G 16) (bad 14 0) ∷
+    lexical

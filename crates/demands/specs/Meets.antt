@@ -3,17 +3,17 @@
 use Prim.Native.Nat.{ℕ, suc, _+_, _*_, _≤_, _<_}
 use mathlib.Core.Path.{_≡_}
 use mathlib.Core.List.{List}
+use mathlib.Core.Option.{none, some}
 use lib.ListN.{length, getD}
 use Rattle.read_tokens.specs.declared.Mode.{Mode}
 use Rattle.read_tokens.specs.Bounds.{nodeWords}
 use Rattle.grammar.specs.Exp.{sym}
+use Rattle.grammar.specs.Refusal.{refusal}
 use Rattle.match_meaning.specs.Meaning.{Node, Derives}
 use Rattle.match_nodes.specs.Nodes.{roomOf, nodesAt}
 use Rattle.prepare.specs.Prepare.{prepared}
-use Rattle.gurkenmond.specs.declared.Outcome.the-variants.{Matched, NoMatch, Refused as OutcomeRefused}
-use Rattle.gurkenmond.specs.declared.Way.{Way}
-use Rattle.gurkenmond.specs.declared.Way.the-variants.{Refused as WayRefused}
-use Rattle.gurkenmond.specs.Calls.{Matching, matching, LakeAnswer}
+use Rattle.gurkenmond.specs.Answers.{value as Matched, nomatch as NoMatch, refused as OutcomeRefused}
+use Rattle.gurkenmond.specs.Calls.{Matching, matching, LakeAnswer, lakeAnswer}
 use Rattle.demands.specs.Meant.{meant, rightAt, alternativesAt}
 use Rattle.demands.specs.Offends.{Fits, TooDeep, NoRoom}
 use Rattle.demands.specs.Rows.{MatchRows, LakeRows, FirstRow, NoRow}
@@ -57,7 +57,7 @@ pub data Meets (m : Mode) (t s cs ws : List ℕ) : Matching → Type 0 where
 
 -- the same of the lake question, for lake l at place q
 pub data MeetsLake (m : Mode) (t s cs : List ℕ) (l q : ℕ) : LakeAnswer → Type 0 where
-  lake-refused : {k p : ℕ} → FirstRow (LakeRows m t s cs l q) k p → MeetsLake m t s cs l q (record { way = WayRefused k p; cells = cs })
-  lake-answered : {w : Way} {c : List ℕ} → NoRow (LakeRows m t s cs l q) → Tabled m t s cs c
+  lake-refused : {k p : ℕ} → FirstRow (LakeRows m t s cs l q) k p → MeetsLake m t s cs l q (lakeAnswer 0 (some (refusal k p)) cs)
+  lake-answered : {w : ℕ} {c : List ℕ} → NoRow (LakeRows m t s cs l q) → Tabled m t s cs c
       → Ways (meant m t) s 0 (rightAt (prepared m t .grammar) l) (alternativesAt (prepared m t .grammar) (prepared m t .analysis) l) q w
-      → MeetsLake m t s cs l q (record { way = w; cells = c })
+      → MeetsLake m t s cs l q (lakeAnswer w none c)

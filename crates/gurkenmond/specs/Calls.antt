@@ -1,6 +1,7 @@
--- What each public call answers and leaves in lent memory, for all inputs (01, Refusal numbers; 01, Meaning of a match; 01, Writing).
--- Assumes nothing: these are definitions.
+-- What each public call answers and leaves in lent memory, for all inputs (01, Refusal numbers; 01, Meaning of a match; 01, Writing), and what it therefore
+-- promises: `Says..` of its result and of every lent word afterwards, in 01's numbers by Answers.antt. Assumes nothing: these are definitions.
 use Prim.Native.Nat.{ℕ, zero, suc, _+_, _-_, _*_}
+use mathlib.Core.Path.{_≡_}
 use mathlib.Core.Bool.{Bool, false, not, _&&_}
 use mathlib.Core.List.{List, [], _++_}
 use mathlib.Core.Option.{Option, none, some}
@@ -24,18 +25,18 @@ use Rattle.write_rules.specs.Writing.{text}
 use Rattle.gurkenmond.specs.declared.SetsOf.{SetsOf}
 use Rattle.gurkenmond.specs.declared.Lakes.{Lakes}
 use Rattle.gurkenmond.specs.declared.Match.{Match}
-use Rattle.gurkenmond.specs.declared.Outcome.{Outcome}
-use Rattle.gurkenmond.specs.declared.Outcome.the-variants.{Matched, NoMatch, Refused as OutcomeRefused}
-use Rattle.gurkenmond.specs.declared.Way.{Way}
-use Rattle.gurkenmond.specs.declared.Way.the-variants.{Not, ByRule, ByWater, BySkip, Refused as WayRefused}
+use Rattle.gurkenmond.specs.declared.LakeWay.{LakeWay}
 use Rattle.gurkenmond.specs.declared.Written.{Written}
-use Rattle.gurkenmond.specs.declared.Written.the-variants.{Bytes, Refused as WrittenRefused}
+use Rattle.gurkenmond.specs.Answers.{Says, refused, nomatch, value, verdictSays, outcomeSays, waySays}
+use Rattle.prepare.specs.declared.Counted.{Counted}
 use Rattle.prepare.specs.Prepare.{Prepared, prepared, refuses}
-use Rattle.prepare.specs.Reads.{verdictOf}
+use Rattle.prepare.specs.Reads.{verdictOf, readOf}
 
 -- in the words of the table: m the mode, t the grammar text, s the input, cs the work cells, ws the node words, out the output room
 
--- ── read: `readOf` in crate preparing ──
+-- ── read: refused 1 to 8, or the counts (`readOf` of crate prepare) ──
+abbrev pub SaysRead : Counted → Mode → List ℕ → Type 0
+SaysRead r m t = (r ≡ readOf m t) × (verdictSays (r .verdict) ≡ refuses m t)
 
 -- ── sets: refused 1 to 8, then "14: no such expression, lake or position" ──
 abbrev pub noSets : Sets
@@ -45,8 +46,14 @@ abbrev pub setsBy : Option Refusal → Analysis → ℕ → SetsOf
 setsBy (some r) a e = record { sets = noSets; rounds = 0; verdict = verdictOf (some r) }
 setsBy none a e = record { sets = setsAt a e; rounds = a .rounds; verdict = verdictOf none }
 
+abbrev pub refusesSets : Mode → List ℕ → ℕ → Option Refusal
+refusesSets m t e = refuses m t ▸ refuseIf (not (isExpression (prepared m t .analysis) e)) 14 0
+
 unfoldable pub setsOf : Mode → List ℕ → ℕ → SetsOf
-setsOf m t e = let a : Analysis = prepared m t .analysis in setsBy (refuses m t ▸ refuseIf (not (isExpression a e)) 14 0) a e
+setsOf m t e = setsBy (refusesSets m t e) (prepared m t .analysis) e
+
+abbrev pub SaysSets : SetsOf → Mode → List ℕ → ℕ → Type 0
+SaysSets r m t e = (r ≡ setsOf m t e) × (verdictSays (r .verdict) ≡ refusesSets m t e)
 
 -- ── the lakes that cannot skip ──
 abbrev pub lakesBy : Option Refusal → Prepared → Lakes
@@ -55,6 +62,9 @@ lakesBy none p = record { word = cannotSkip (p .grammar) (p .analysis); verdict 
 
 unfoldable pub cannotSkipOf : Mode → List ℕ → Lakes
 cannotSkipOf m t = lakesBy (refuses m t) (prepared m t)
+
+abbrev pub SaysLakes : Lakes → Mode → List ℕ → Type 0
+SaysLakes r m t = (r ≡ cannotSkipOf m t) × (verdictSays (r .verdict) ≡ refuses m t)
 
 -- ── match: 1 to 8, 9, 10; then the cells are filled, and 11 and 12 are looked for ──
 -- R·(n+1)
@@ -66,22 +76,26 @@ abbrev pub refusesInput : Prepared → List ℕ → List ℕ → Option Refusal
 refusesInput p s cs = refuseIf (ltb inputBound (length s)) 9 inputBound ▸ refuseIf (ltb (length cs) (cellsNeeded p s)) 10 (cellsNeeded p s)
 
 -- an answer, and every lent word after it
+pub record MatchAnswer : Type 0 where
+  pub nodes : ℕ
+  pub outcome : Says
+
 pub record Matching : Type 0 where
-  pub answer : Match
+  pub answer : MatchAnswer
   pub cells : List ℕ
   pub nodes : List ℕ
 
-abbrev pub matching : ℕ → Outcome → List ℕ → List ℕ → Matching
+abbrev pub matching : ℕ → Says → List ℕ → List ℕ → Matching
 matching k o cs ws = record { answer = record { nodes = k; outcome = o }; cells = cs; nodes = ws }
 
 abbrev pub listingBy : ℕ → Listing → List ℕ → List ℕ → Matching
-listingBy taken (all k) cs ws = matching k (Matched taken) cs ws
-listingBy taken (deep k) cs ws = matching 0 (OutcomeRefused 11 k) cs ws
-listingBy taken (full k) cs ws = matching 0 (OutcomeRefused 12 k) cs ws
+listingBy taken (all k) cs ws = matching k (value taken) cs ws
+listingBy taken (deep k) cs ws = matching 0 (refused 11 k) cs ws
+listingBy taken (full k) cs ws = matching 0 (refused 12 k) cs ws
 
 -- by the start symbol's cell at 0. "No match is an answer: no node written, cells filled"
 abbrev pub matchBy : ℕ → List (Exp ℕ) → List ℕ → List ℕ → List ℕ → Matching
-matchBy zero bodies s cs ws = matching 0 NoMatch cs ws
+matchBy zero bodies s cs ws = matching 0 nomatch cs ws
 matchBy (suc taken) bodies s cs ws =
     listingBy taken (listingOf (roomOf ws) 0 (listOf bodies s cs)) cs (wordsOf (roomOf ws) ws (listOf bodies s cs))
 
@@ -91,48 +105,53 @@ filled p s cs = cells (p .bodies) (order (p .bodies)) s cs
 
 -- "A refusal that is checked no later than 10 leaves all lent memory untouched"
 abbrev pub matchAfter : Option Refusal → Prepared → List ℕ → List ℕ → List ℕ → Matching
-matchAfter (some r) p s cs ws = matching 0 (OutcomeRefused (r .number) (r .place)) cs ws
+matchAfter (some r) p s cs ws = matching 0 (refused (r .number) (r .place)) cs ws
 matchAfter none p s cs ws = matchBy (getD (filled p s cs) 0 0) (p .bodies) s (filled p s cs) ws
 
 unfoldable pub matchOf : Mode → List ℕ → List ℕ → List ℕ → List ℕ → Matching
 matchOf m t s cs ws = let p : Prepared = prepared m t in matchAfter (refuses m t ▸ refusesInput p s cs) p s cs ws
 
--- ── the lake question: "9, 10, then 14" ──
--- "0 not, 1 by its rule, 2 by water, 3 by one skipped byte": `wayIn` gives the number
-abbrev pub wayOf : ℕ → Way
-wayOf zero = Not
-wayOf (suc zero) = ByRule
-wayOf (suc (suc zero)) = ByWater
-wayOf (suc (suc (suc k))) = BySkip
+abbrev pub SaysMatch : Match → List ℕ → List ℕ → Matching → Type 0
+SaysMatch r cs ws w = (r .nodes ≡ w .answer .nodes) × (outcomeSays (r .outcome) ≡ w .answer .outcome) × (cs ≡ w .cells) × (ws ≡ w .nodes)
 
+-- ── the lake question: "9, 10, then 14" ──
 abbrev pub isLakeAt : Prepared → ℕ → Bool
 isLakeAt p r = ltb r (length (p .grammar .names)) && isLake (getD (p .grammar .names) r (name []))
 
+-- "0 not, 1 by its rule, 2 by water, 3 by one skipped byte"; 0 where it is refused
 pub record LakeAnswer : Type 0 where
-  pub way : Way
+  pub way : ℕ
+  pub verdict : Option Refusal
   pub cells : List ℕ
 
+abbrev pub lakeAnswer : ℕ → Option Refusal → List ℕ → LakeAnswer
+lakeAnswer w o cs = record { way = w; verdict = o; cells = cs }
+
 abbrev pub lakeAfter : Option Refusal → Prepared → List ℕ → List ℕ → ℕ → ℕ → LakeAnswer
-lakeAfter (some r) p s cs l q = record { way = WayRefused (r .number) (r .place); cells = cs }
+lakeAfter (some r) p s cs l q = lakeAnswer 0 (some r) cs
 lakeAfter none p s cs l q =
-    record {
-      way = wayOf (wayIn (p .grammar) s (filled p s cs) (length (p .bodies)) (altOf (p .analysis) l) l q);
-      cells = filled p s cs;
-    }
+    lakeAnswer (wayIn (p .grammar) s (filled p s cs) (length (p .bodies)) (altOf (p .analysis) l) l q) none (filled p s cs)
 
 unfoldable pub lakeOf : Mode → List ℕ → List ℕ → List ℕ → ℕ → ℕ → LakeAnswer
 lakeOf m t s cs l q =
     let p : Prepared = prepared m t in
     lakeAfter (refuses m t ▸ refusesInput p s cs ▸ refuseIf (not (isLakeAt p l && leb q (length s))) 14 0) p s cs l q
 
+abbrev pub SaysWay : LakeWay → List ℕ → LakeAnswer → Type 0
+SaysWay r cs w = (waySays (r .way) ≡ w .way) × (verdictSays (r .verdict) ≡ w .verdict) × (cs ≡ w .cells)
+
 -- ── writing: "13: output room too small", place "bytes needed". Output bytes "behind the last one written, stay as they were" ──
 pub record Writing : Type 0 where
-  pub answer : Written
+  pub bytes : ℕ
+  pub verdict : Option Refusal
   pub out : List ℕ
 
+abbrev pub writing : ℕ → Option Refusal → List ℕ → Writing
+writing k o out = record { bytes = k; verdict = o; out = out }
+
 abbrev pub writeAfter : Option Refusal → List ℕ → List ℕ → Writing
-writeAfter (some r) w out = record { answer = WrittenRefused (r .number) (r .place); out = out }
-writeAfter none w out = record { answer = Bytes (length w); out = w ++ drop (length w) out }
+writeAfter (some r) w out = writing 0 (some r) out
+writeAfter none w out = writing (length w) none (w ++ drop (length w) out)
 
 abbrev pub writeBy : Option Refusal → List ℕ → List ℕ → Writing
 writeBy o w out = writeAfter (o ▸ refuseIf (ltb (length out) (length w)) 13 (length w)) w out
@@ -144,3 +163,6 @@ writeOwnOf m t out = writeBy (refuses m t) (text (prepared m t .rules)) out
 -- the plain text: "in plain, every symbol's"
 unfoldable pub writePlainOf : Mode → List ℕ → List ℕ → Writing
 writePlainOf m t out = let p : Prepared = prepared m t in writeBy (refuses m t) (text (plainRules (p .grammar) (p .analysis))) out
+
+abbrev pub SaysText : Written → List ℕ → Writing → Type 0
+SaysText r out w = (r .bytes ≡ w .bytes) × (verdictSays (r .verdict) ≡ w .verdict) × (out ≡ w .out)

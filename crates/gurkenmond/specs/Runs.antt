@@ -15,7 +15,7 @@ use Rattle.prepare.specs.declared.Verdict.the-variants.{Accepted, Refused as Ve
 use Rattle.gurkenmond.specs.declared.Match.{Match}
 use Rattle.gurkenmond.specs.declared.Outcome.{Outcome}
 use Rattle.gurkenmond.specs.declared.Outcome.the-variants.{Matched, NoMatch, Refused as OutcomeRefused}
-use Rattle.gurkenmond.specs.Calls.{Matching, refusesInput, matchAfter}
+use Rattle.gurkenmond.specs.Calls.{SaysMatch, refusesInput, matchAfter}
 
 -- a table that holds a plain grammar without a loop
 pub record Loopless (t : List ℕ) : Type 0 where
@@ -24,13 +24,9 @@ pub record Loopless (t : List ℕ) : Type 0 where
   pub plain : Plain t grammar bodies
   pub clear : loop bodies ≡ none
 
--- an answer with the cells and node words after it
-abbrev pub Says : Match → List ℕ → List ℕ → Matching → Type 0
-Says r cs ws w = (r ≡ w .answer) × (cs ≡ w .cells) × (ws ≡ w .nodes)
-
 -- what 9 to 12 and the match come to, for whatever grammar has the bodies that the table holds
 pub record Ran (t s cs ws new words : List ℕ) (r : Match) : Type 0 where
-  pub are : (g : Grammar) (p : Prepared) → Plain t g (p .bodies) → loop (p .bodies) ≡ none → Says r new words (matchAfter (refusesInput p s cs) p s cs ws)
+  pub are : (g : Grammar) (p : Prepared) → Plain t g (p .bodies) → loop (p .bodies) ≡ none → SaysMatch r new words (matchAfter (refusesInput p s cs) p s cs ws)
 
 abbrev pub outcome : ℕ → Outcome → Match
 outcome k o = record { nodes = k; outcome = o }
@@ -41,7 +37,7 @@ listedMatch taken (All k) = outcome k (Matched taken)
 listedMatch taken (Deep k) = outcome 0 (OutcomeRefused 11 k)
 listedMatch taken (Full k) = outcome 0 (OutcomeRefused 12 k)
 
--- a refusal of `read`, handed on
+-- a refusal, handed on
 abbrev pub notMatched : Verdict → Match
 notMatched Accepted = outcome 0 NoMatch
 notMatched (VerdictRefused n p) = outcome 0 (OutcomeRefused n p)

@@ -1,4 +1,5 @@
 -- Laws of the definitions beside this file.
+pub mod Answers
 pub mod Verdicts
 pub mod Sets
 pub mod Writes

@@ -1,20 +1,24 @@
-// The public calls (01). Every one checks for itself: none has a `requires`. Their answers (01, "An answer carries its kind with the numbers of that kind")
-// are counts beside an enum. What each case says in document 01's numbers is in specs/Answers.antt, what each call answers in specs/Calls.antt.
+// The public calls (01). Every one checks for itself: none has a `requires`. An answer is a value beside a verdict, and where it is refused the value is
+// nothing: no sets, no lakes, `Not`, 0 bytes. A match has 01's own form: a count beside an enum of matched, none, refused.
+// What each case says in document 01's numbers is in specs/Answers.antt, what each call answers in specs/Calls.antt.
+// A caller names this crate alone: every type that the calls take or give is handed on here.
 ghost use mathlib.Core.Path.{_≡_};
-ghost use Rattle.prepare.specs.Reads.{readOf};
-ghost use Rattle.gurkenmond.specs.Calls.{noSets, setsOf, cannotSkipOf, matchOf, lakeOf, wayOf, writeOwnOf, writePlainOf};
-ghost use Rattle.match_nodes.specs.Nodes.{soundAt, nodeText};
-ghost use Rattle.prepare.specs.declared.Verdict.the-variants.{Refused as VerdictRefused};
-ghost use Rattle.gurkenmond.specs.Runs.{Loopless, Says, Ran, listedMatch, notMatched};
+ghost use Prim.Native.Nat.{_≤_};
+ghost use Rattle.gurkenmond.specs.Answers.{waySays};
+ghost use Rattle.gurkenmond.specs.Calls.{SaysRead, noSets, SaysSets, SaysLakes, matchOf, SaysMatch, lakeOf, SaysWay, writeOwnOf, writePlainOf, SaysText};
+ghost use Rattle.match_nodes.specs.Nodes.{soundAt, Handed};
+ghost use Rattle.gurkenmond.specs.Runs.{Loopless, Ran, listedMatch, notMatched};
 ghost use Rattle.gurkenmond.specs.steps.Asks.{notAsked, Standing, Asked};
-ghost use Rattle.gurkenmond.specs.steps.Puts.{notWritten, PutText};
+ghost use Rattle.gurkenmond.specs.steps.Puts.{notWritten, Put};
+ghost use Rattle.write_text.specs.steps.Texts.{textOf};
 use grammar_table::Table;
+pub use lake_sets::Sets;
 pub use prepare::Counted;
 pub use prepare::Verdict;
-use read_tokens::Mode;
+pub use read_tokens::Mode;
 
 pub struct SetsOf {
-    pub sets: lake_sets::Sets,
+    pub sets: Sets,
     pub rounds: usize,
     pub verdict: Verdict,
 }
@@ -43,29 +47,34 @@ pub enum Way {
     ByRule,
     ByWater,
     BySkip,
-    Refused { number: usize, place: usize },
+}
+
+pub struct LakeWay {
+    pub way: Way,
+    pub verdict: Verdict,
 }
 
 // How many bytes were written.
-pub enum Written {
-    Bytes(usize),
-    Refused { number: usize, place: usize },
+pub struct Written {
+    pub bytes: usize,
+    pub verdict: Verdict,
 }
 
 // A grammar text is accepted with its counts, or refused (01, Refusal numbers, 1 to 8).
 pub fn read(mode: Mode, text: &[u8]) -> Counted
-    ensures { λ r. ⌜ r ≡ readOf mode (now (text .entry)) ⌝ }
+    ensures { λ r. ⌜ SaysRead r mode (now (text .entry)) ⌝ }
 {
     let mut t: Table = [0; grammar_table::WORDS];
     let mut out: Table = [0; grammar_table::WORDS];
     prepare::plainly(mode, text, &mut t, &mut out)
 }
 
+// A refusal, handed on.
 fn no_sets(v: Verdict) -> SetsOf
     ensures { λ r. ⌜ r ≡ record { sets = noSets; rounds = 0; verdict = v } ⌝ }
 {
     SetsOf {
-        sets: lake_sets::Sets {
+        sets: Sets {
             begin: [0, 0],
             succeed: [0, 0],
             alt: [0, 0],
@@ -78,7 +87,7 @@ fn no_sets(v: Verdict) -> SetsOf
 
 // BEGINNING, SUCCEED and ALT of expression e of the intermediate grammar, numbered from 1, its ε mark and the round count of ALT (01, Lakes made plain).
 pub fn sets(mode: Mode, text: &[u8], e: usize) -> SetsOf
-    ensures { λ r. ⌜ r ≡ setsOf mode (now (text .entry)) e ⌝ }
+    ensures { λ r. ⌜ SaysSets r mode (now (text .entry)) e ⌝ }
 {
     let mut t: Table = [0; grammar_table::WORDS];
     let mut mid: Table = [0; grammar_table::WORDS];
@@ -128,7 +137,7 @@ pub fn sets(mode: Mode, text: &[u8], e: usize) -> SetsOf
 
 // The lakes with a nonterminal in ALT whose body has ε (01, "Other calls").
 pub fn cannot_skip(mode: Mode, text: &[u8]) -> Lakes
-    ensures { λ r. ⌜ r ≡ cannotSkipOf mode (now (text .entry)) ⌝ }
+    ensures { λ r. ⌜ SaysLakes r mode (now (text .entry)) ⌝ }
 {
     let mut t: Table = [0; grammar_table::WORDS];
     let mut mid: Table = [0; grammar_table::WORDS];
@@ -165,40 +174,36 @@ pub fn cannot_skip(mode: Mode, text: &[u8]) -> Lakes
     }
 }
 
-// The text of a table at the front of the room; where it does not fit the room stays as it was, and the answer says how many bytes are needed.
-fn put_text(t: &Table, out: &mut [u8], plain: bool) -> Written
-    ensures { λ r. ⌜ PutText plain (now (t .entry)) (now (out .entry)) (now (out .exit)) r ⌝ }
-{
-    let p = write_text::texts::write(t, out, plain);
-    if p.fits {
-        return Written::Bytes(p.bytes);
-    }
-    Written::Refused {
-        number: 13,
-        place: p.bytes,
-    }
-}
-
-// A refusal of `read`, handed on.
+// A refusal, handed on.
 fn not_written(v: Verdict) -> Written
     ensures { λ r. ⌜ r ≡ notWritten v ⌝ }
 {
-    match v {
-        Verdict::Accepted => Written::Bytes(0),
-        Verdict::Refused {
-            number: n,
-            place: p,
-        } => Written::Refused {
-            number: n,
-            place: p,
-        },
+    Written {
+        bytes: 0,
+        verdict: v,
     }
+}
+
+// The text of a table at the front of the room; where it does not fit the room stays as it was, and the answer says how many bytes are needed.
+fn put_text(t: &Table, out: &mut [u8], plain: bool) -> Written
+    ensures { λ r. ⌜ Put (textOf plain (now (t .entry))) (now (out .entry)) (now (out .exit)) r ⌝ }
+{
+    let p = write_text::texts::write(t, out, plain);
+    if p.fits {
+        return Written {
+            bytes: p.bytes,
+            verdict: Verdict::Accepted,
+        };
+    }
+    not_written(Verdict::Refused {
+        number: 13,
+        place: p.bytes,
+    })
 }
 
 // A grammar's own text: "Rules that the grammar has" (01, Writing).
 pub fn write_own(mode: Mode, text: &[u8], out: &mut [u8]) -> Written
-    ensures { λ r. ⌜ (r ≡ writeOwnOf mode (now (text .entry)) (now (out .entry)) .answer)
-        × (now (out .exit) ≡ writeOwnOf mode (now (text .entry)) (now (out .entry)) .out) ⌝ }
+    ensures { λ r. ⌜ SaysText r (now (out .exit)) (writeOwnOf mode (now (text .entry)) (now (out .entry))) ⌝ }
 {
     let mut t: Table = [0; grammar_table::WORDS];
     let mut plain: Table = [0; grammar_table::WORDS];
@@ -212,8 +217,7 @@ pub fn write_own(mode: Mode, text: &[u8], out: &mut [u8]) -> Written
 
 // The plain text of a grammar: "in plain, every symbol's"; of a plain grammar it is its own.
 pub fn write_plain(mode: Mode, text: &[u8], out: &mut [u8]) -> Written
-    ensures { λ r. ⌜ (r ≡ writePlainOf mode (now (text .entry)) (now (out .entry)) .answer)
-        × (now (out .exit) ≡ writePlainOf mode (now (text .entry)) (now (out .entry)) .out) ⌝ }
+    ensures { λ r. ⌜ SaysText r (now (out .exit)) (writePlainOf mode (now (text .entry)) (now (out .entry))) ⌝ }
 {
     let mut t: Table = [0; grammar_table::WORDS];
     let mut plain: Table = [0; grammar_table::WORDS];
@@ -225,7 +229,7 @@ pub fn write_plain(mode: Mode, text: &[u8], out: &mut [u8]) -> Written
     put_text(&plain, out, true)
 }
 
-// A refusal of `read`, handed on.
+// A refusal, handed on.
 fn not_matched(v: Verdict) -> Match
     ensures { λ r. ⌜ r ≡ notMatched v ⌝ }
 {
@@ -243,18 +247,6 @@ fn not_matched(v: Verdict) -> Match
                 number: n,
                 place: p,
             },
-        },
-    }
-}
-
-fn refused_match(number: usize, place: usize) -> Match
-    ensures { λ r. ⌜ r ≡ notMatched (VerdictRefused number place) ⌝ }
-{
-    Match {
-        nodes: 0,
-        outcome: Outcome::Refused {
-            number: number,
-            place: place,
         },
     }
 }
@@ -290,12 +282,18 @@ fn run(t: &Table, input: &[u8], cells: &mut [u32], nodes: &mut [u32]) -> Match
     ensures { λ r. ⌜ Ran (now (t .entry)) (now (input .entry)) (now (cells .entry)) (now (nodes .entry)) (now (cells .exit)) (now (nodes .exit)) r ⌝ }
 {
     if 65535 < input.len() {
-        return refused_match(9, 65535);
+        return not_matched(Verdict::Refused {
+            number: 9,
+            place: 65535,
+        });
     }
     let n = prepare::symbols(t);
     let need = n * (input.len() + 1);
     if cells.len() < need {
-        return refused_match(10, need);
+        return not_matched(Verdict::Refused {
+            number: 10,
+            place: need,
+        });
     }
     match_cells::filling::fill(t, input, cells);
     let c = base_words::word(cells, 0);
@@ -318,7 +316,8 @@ pub fn match_input(
     nodes: &mut [u32],
 ) -> Match
     ensures { λ r.
-        ⌜ Says r (now (cells .exit)) (now (nodes .exit)) (matchOf mode (now (text .entry)) (now (input .entry)) (now (cells .entry)) (now (nodes .entry))) ⌝ }
+        ⌜ SaysMatch r (now (cells .exit)) (now (nodes .exit))
+        (matchOf mode (now (text .entry)) (now (input .entry)) (now (cells .entry)) (now (nodes .entry))) ⌝ }
 {
     let mut t: Table = [0; grammar_table::WORDS];
     let mut plain: Table = [0; grammar_table::WORDS];
@@ -339,38 +338,24 @@ pub fn node_sound(nodes: &[u32], k: usize, n: usize) -> bool
 
 // The text of a node, as that part of the lent input; for an unsound node the empty part at 0.
 pub fn node_text<'a>(input: &'a [u8], nodes: &[u32], k: usize) -> &'a [u8]
-    ensures { λ r. ⌜ now r ≡ nodeText (now (input .entry)) (now (nodes .entry)) k ⌝ }
+    ensures { λ r. ⌜ Handed (now r) (r .ptr) (now (input .entry)) (input .entry .ptr) (now (nodes .entry)) k ⌝ }
 {
     match_nodes::nodes::text(input, nodes, k)
 }
 
-fn refused_way(number: usize, place: usize) -> Way
-    ensures { λ r. ⌜ r ≡ notAsked (VerdictRefused number place) ⌝ }
-{
-    Way::Refused {
-        number: number,
-        place: place,
-    }
-}
-
-// A refusal of `read`, handed on.
-fn not_asked(v: Verdict) -> Way
+// A refusal, handed on.
+fn not_asked(v: Verdict) -> LakeWay
     ensures { λ r. ⌜ r ≡ notAsked v ⌝ }
 {
-    match v {
-        Verdict::Accepted => Way::Not,
-        Verdict::Refused {
-            number: n,
-            place: p,
-        } => Way::Refused {
-            number: n,
-            place: p,
-        },
+    LakeWay {
+        way: Way::Not,
+        verdict: v,
     }
 }
 
 fn way_of(k: usize) -> Way
-    ensures { λ r. ⌜ r ≡ wayOf k ⌝ }
+    requires { ⌜ k ≤ 3 ⌝ }
+    ensures { λ r. ⌜ waySays r ≡ k ⌝ }
 {
     match k {
         0 => Way::Not,
@@ -390,33 +375,52 @@ fn ask(
     cells: &mut [u32],
     lake: usize,
     place: usize,
-) -> Way
+) -> LakeWay
     requires { ⌜ Standing (now t) (now mid) (now alts) (now plain) ⌝ }
     ensures { λ r.
         ⌜ Asked (now (t .entry)) (now (mid .entry)) (now (alts .entry)) (now (plain .entry)) (now (input .entry)) (now (cells .entry)) lake place
         (now (cells .exit)) r ⌝ }
 {
     if 65535 < input.len() {
-        return refused_way(9, 65535);
+        return not_asked(Verdict::Refused {
+            number: 9,
+            place: 65535,
+        });
     }
     let n = prepare::symbols(plain);
     let need = n * (input.len() + 1);
     if cells.len() < need {
-        return refused_way(10, need);
+        return not_asked(Verdict::Refused {
+            number: 10,
+            place: need,
+        });
     }
     if n <= lake {
-        return refused_way(14, 0);
+        return not_asked(Verdict::Refused {
+            number: 14,
+            place: 0,
+        });
     }
     if !lake_analysis::is_lake(mid, lake) {
-        return refused_way(14, 0);
+        return not_asked(Verdict::Refused {
+            number: 14,
+            place: 0,
+        });
     }
     if input.len() < place {
-        return refused_way(14, 0);
+        return not_asked(Verdict::Refused {
+            number: 14,
+            place: 0,
+        });
     }
     match_cells::filling::fill(plain, input, cells);
     let a = lake_analysis::alt_of(mid, alts, lake);
     let w = match_lake::way(t, input, cells, n, a, lake, place);
-    way_of(w)
+    let how = way_of(w);
+    LakeWay {
+        way: how,
+        verdict: Verdict::Accepted,
+    }
 }
 
 // How a lake, by its symbol number, matches at a position of the input (01, "Other calls"); the cells are those of the match.
@@ -427,9 +431,8 @@ pub fn lake_at(
     cells: &mut [u32],
     lake: usize,
     place: usize,
-) -> Way
-    ensures { λ r. ⌜ (r ≡ lakeOf mode (now (text .entry)) (now (input .entry)) (now (cells .entry)) lake place .way)
-        × (now (cells .exit) ≡ lakeOf mode (now (text .entry)) (now (input .entry)) (now (cells .entry)) lake place .cells) ⌝ }
+) -> LakeWay
+    ensures { λ r. ⌜ SaysWay r (now (cells .exit)) (lakeOf mode (now (text .entry)) (now (input .entry)) (now (cells .entry)) lake place) ⌝ }
 {
     let mut t: Table = [0; grammar_table::WORDS];
     let mut mid: Table = [0; grammar_table::WORDS];

@@ -1,6 +1,7 @@
 -- The node list by the cells, the first node that offends, and the lent words (01, Meaning of a match; 01, Refusal numbers, 11 and 12).
 -- Assumes nothing: these are definitions.
 use Prim.Native.Nat.{ℕ, zero, suc, _+_, _-_, _*_, _/_}
+use mathlib.Core.Path.{_≡_}
 use mathlib.Core.Bool.{Bool, cond, _&&_}
 use mathlib.Core.List.{List, [], _∷_, _++_}
 use lib.Dec.{leb, ltb}
@@ -120,3 +121,14 @@ partOf s x = take (x .end - x .start) (drop (x .start) s)
 
 unfoldable pub nodeText : List ℕ → List ℕ → ℕ → List ℕ
 nodeText s ws k = cond (soundAt ws k (length s)) (partOf s (nodeAt ws k)) []
+
+-- where that part begins, of an input of n bytes
+unfoldable pub nodeStart : List ℕ → ℕ → ℕ → ℕ
+nodeStart ws k n = cond (soundAt ws k n) (nodeAt ws k .start) 0
+
+-- "handed back as that part of the lent input": the bytes, and where the part points. An address is the number of a block and the place in it; the
+-- input of which
+-- a part is handed back points to `begin`
+pub record Handed (part : List ℕ) (at : ℕ × ℕ) (s : List ℕ) (begin : ℕ × ℕ) (ws : List ℕ) (k : ℕ) : Type 0 where
+  pub bytes : part ≡ nodeText s ws k
+  pub place : at ≡ (begin .0, begin .1 + nodeStart ws k (length s))

@@ -2,7 +2,7 @@
 ghost use Prim.Native.Nat.{ℕ, _-_, _≤_};
 ghost use mathlib.Core.Path.{_≡_};
 ghost use lib.ListN.{length, take, drop};
-ghost use Rattle.match_nodes.specs.Nodes.{soundAt, nodeText};
+ghost use Rattle.match_nodes.specs.Nodes.{soundAt, Handed};
 ghost use Rattle.match_nodes.specs.steps.Spans.{Spans};
 
 // From start to end.
@@ -43,7 +43,7 @@ fn span(nodes: &[u32], k: usize, n: usize) -> Range
 
 // The text of node k, a part of the lent input.
 pub fn text<'a>(input: &'a [u8], nodes: &[u32], k: usize) -> &'a [u8]
-    ensures { λ r. ⌜ now r ≡ nodeText (now (input .entry)) (now (nodes .entry)) k ⌝ }
+    ensures { λ r. ⌜ Handed (now r) (r .ptr) (now (input .entry)) (input .entry .ptr) (now (nodes .entry)) k ⌝ }
 {
     let g = span(nodes, k, input.len());
     let start = g.start;

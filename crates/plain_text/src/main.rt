@@ -1,13 +1,14 @@
 // Writes the plain text of the lake grammar in the file `grammar.peg` (01, Writing), or refused NUMBER PLACE, or unreadable if the file cannot be opened.
-use gurkenmond::Written;
-use read_tokens::Mode;
+use gurkenmond::Mode;
+use gurkenmond::Verdict;
 
 fn answer(text: &[u8]) {
     let mut out = io::large_buffer();
     let w = gurkenmond::write_plain(Mode::Lake, text, &mut out);
-    match w {
-        Written::Bytes(n) => console::print_front(&out, n),
-        Written::Refused {
+    let v = w.verdict;
+    match v {
+        Verdict::Accepted => console::print_front(&out, w.bytes),
+        Verdict::Refused {
             number: n,
             place: p,
         } => console::refused(n, p),

@@ -14,8 +14,8 @@ ghost use lib.ListN.{length};
 
 mod says;
 
+use gurkenmond::Mode;
 use gurkenmond::Verdict;
-use read_tokens::Mode;
 
 fn answer_read(mode: Mode, text: &[u8]) {
     let r = gurkenmond::read(mode, text);
@@ -86,7 +86,7 @@ fn answer_lake(
     place: usize,
 ) {
     let w = gurkenmond::lake_at(mode, text, input, cells, lake, place);
-    says::way(w);
+    says::lake(w);
     says::words(b" ; cells", cells);
     console::line_end();
 }

@@ -1,5 +1,8 @@
 // Answers, as a line of words and numbers.
+use gurkenmond::LakeWay;
 use gurkenmond::Outcome;
+use gurkenmond::Sets;
+use gurkenmond::Verdict;
 use gurkenmond::Way;
 use gurkenmond::Written;
 
@@ -50,7 +53,7 @@ pub fn bytes(out: &[u8], n: usize) {
     }
 }
 
-pub fn sets(s: lake_sets::Sets) {
+pub fn sets(s: Sets) {
     number(s.begin[0]);
     number(s.begin[1]);
     number(s.succeed[0]);
@@ -81,7 +84,7 @@ pub fn outcome(o: Outcome) {
 }
 
 // "0 not, 1 by its rule, 2 by water, 3 by one skipped byte" (01).
-pub fn way(w: Way) {
+fn way(w: Way) {
     match w {
         Way::Not => {
             io::write_all(1, b"value 0");
@@ -95,7 +98,15 @@ pub fn way(w: Way) {
         Way::BySkip => {
             io::write_all(1, b"value 3");
         }
-        Way::Refused {
+    }
+}
+
+pub fn lake(r: LakeWay) {
+    let v = r.verdict;
+    let how = r.way;
+    match v {
+        Verdict::Accepted => way(how),
+        Verdict::Refused {
             number: n,
             place: p,
         } => console::refusal(n, p),
@@ -103,9 +114,10 @@ pub fn way(w: Way) {
 }
 
 pub fn written(w: Written, out: &[u8]) {
-    match w {
-        Written::Bytes(n) => bytes(out, n),
-        Written::Refused {
+    let v = w.verdict;
+    match v {
+        Verdict::Accepted => bytes(out, w.bytes),
+        Verdict::Refused {
             number: n,
             place: p,
         } => console::refusal(n, p),

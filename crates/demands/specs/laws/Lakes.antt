@@ -24,9 +24,7 @@ use Rattle.match_cells.specs.laws.Agrees.{Right}
 use Rattle.match_nodes.specs.laws.Whole.{Holds, evaluated}
 use Rattle.match_lake.specs.Asking.{noneMatches, ownTakes, wayNumber, wayIn}
 use Rattle.prepare.specs.Prepare.{prepared, refuses}
-use Rattle.gurkenmond.specs.declared.Way.{Way}
-use Rattle.gurkenmond.specs.declared.Way.the-variants.{Not, ByRule, ByWater, BySkip}
-use Rattle.gurkenmond.specs.Calls.{LakeAnswer, cellsNeeded, refusesInput, filled, isLakeAt, wayOf, lakeAfter, lakeOf, matchOf}
+use Rattle.gurkenmond.specs.Calls.{LakeAnswer, cellsNeeded, refusesInput, filled, isLakeAt, lakeAfter, lakeOf, matchOf}
 use Rattle.demands.specs.Meant.{standsFor, standsIn, rightAt, alternativesAt, meant}
 use Rattle.demands.specs.Ways.{Ways, own-takes, water-takes, skips, stops, ends}
 use Rattle.demands.specs.laws.Meant.{bodies-meant}
@@ -111,35 +109,35 @@ module _ (bodies : List (Exp ℕ)) (g : Meant) (held : Holds bodies g) (s cs : L
     some-is-so t = let w = some-tried ss d in w .3 ∙ ap (λ (x : ℕ). not (success x)) (one g s (w .2) t .0)
 
     -- whatever way the rules have, the number is of that way
-    way-only : {w : Way} → Ways g s d o ss q w → wayOf (number o ss) ≡ w
-    way-only (own-takes t) = ap wayOf (by-tests o ss true _ _ (own-is-so t) refl refl)
-    way-only (water-takes t u) = ap wayOf (by-tests o ss false true _ (own-is-so t) (wet-is-so u) refl)
-    way-only (skips t u v h) = ap wayOf (by-tests o ss false false true (own-is-so t) (wet-is-so u) (ap₂ _&&_ (lt-ltb q (length s) h) (some-is-so v)))
-    way-only (stops t u v) = ap wayOf (by-tests o ss false false false (own-is-so t) (wet-is-so u) (and-false (ltb q (length s)) (some-is-so v)))
+    way-only : {w : ℕ} → Ways g s d o ss q w → number o ss ≡ w
+    way-only (own-takes t) = (by-tests o ss true _ _ (own-is-so t) refl refl)
+    way-only (water-takes t u) = (by-tests o ss false true _ (own-is-so t) (wet-is-so u) refl)
+    way-only (skips t u v h) = (by-tests o ss false false true (own-is-so t) (wet-is-so u) (ap₂ _&&_ (lt-ltb q (length s) h) (some-is-so v)))
+    way-only (stops t u v) = (by-tests o ss false false false (own-is-so t) (wet-is-so u) (and-false (ltb q (length s)) (some-is-so v)))
       where
         and-false : {c : Bool} (b : Bool) → c ≡ false → (b && c) ≡ false
         and-false true e = e
         and-false false e = refl
-    way-only (ends t u h) = ap wayOf (by-tests o ss false false false (own-is-so t) (wet-is-so u) (ap (λ (b : Bool). b && noneMatches s cs n ss q) (le-ltb q (length s) h)))
+    way-only (ends t u h) = (by-tests o ss false false false (own-is-so t) (wet-is-so u) (ap (λ (b : Bool). b && noneMatches s cs n ss q) (le-ltb q (length s) h)))
 
     -- and the rules have one
     abbrev Found : Type 0
-    Found = (w : Way) × Ways g s d o ss q w
+    Found = (w : ℕ) × Ways g s d o ss q w
 
     by-place : {ns ms ks : List Node} → Tries g s d (own o) q 0 ns → Tries g s d (wet (g .water)) q 0 ms → (x : ℕ) → Tries g s d (some-of ss) q x ks → (b : Bool) → ltb q (length s) ≡ b → Found
-    by-place t u zero v true h = (BySkip, skips t u v (ltb-true q (length s) h))
-    by-place t u zero v false h = (Not, ends t u (ltb-false q (length s) h))
-    by-place t u (suc x) v b h = (Not, stops t u v)
+    by-place t u zero v true h = (3, skips t u v (ltb-true q (length s) h))
+    by-place t u zero v false h = (0, ends t u (ltb-false q (length s) h))
+    by-place t u (suc x) v b h = (0, stops t u v)
 
     by-wet : {ns ms : List Node} → Tries g s d (own o) q 0 ns → (x : ℕ) → Tries g s d (wet (g .water)) q x ms → Found
     by-wet t zero u = by-place t u (some-tried ss d .0) (some-tried ss d .2) (ltb q (length s)) refl
-    by-wet t (suc x) u = (ByWater, water-takes t u)
+    by-wet t (suc x) u = (2, water-takes t u)
 
     by-own : {ns : List Node} → (x : ℕ) → Tries g s d (own o) q x ns → Found
     by-own zero t = by-wet t (ev s cs n (waterOf (g .water)) q) (wet-tried (g .water) d .1)
-    by-own (suc x) t = (ByRule, own-takes t)
+    by-own (suc x) t = (1, own-takes t)
 
-    way-found : Ways g s d o ss q (wayOf (number o ss))
+    way-found : Ways g s d o ss q (number o ss)
     way-found = let f : Found = by-own (own-tried o d .0) (own-tried o d .2) in subst (Ways g s d o ss q) (flip (way-only (f .1))) (f .1)
 
 -- ── the lake question that 1 to 10 and 14 do not refuse ──
@@ -164,12 +162,12 @@ module _ (m : Mode) (t s cs : List ℕ) (l q : ℕ) (ok : refuses m t ≡ none) 
       let w = and-parts (ltb l (length (prepared m t .grammar .names))) (isLake (getD (prepared m t .grammar .names) l (name []))) is-lake in
       ap (λ (b : Bool). standsIn b (prepared m t .grammar) (prepared m t .analysis) l) (w .0) ∙ ap (λ (b : Bool). standsFor b right-side alternative-symbols) (w .1)
 
-  way-is : lakeOf m t s cs l q .way ≡ wayOf (wayNumber s (filled (prepared m t) s cs) (length (prepared m t .bodies)) right-side (meant m t .water) alternative-symbols q)
+  way-is : lakeOf m t s cs l q .way ≡ wayNumber s (filled (prepared m t) s cs) (length (prepared m t .bodies)) right-side (meant m t .water) alternative-symbols q
   unfolding wayIn
   way-is = ap (λ (a : LakeAnswer). a .way) lake-clear
 
   -- whatever way the rules have at whatever depth, it is the answer
-  pub lake-only : {d : ℕ} {w : Way} → Ways (meant m t) s d right-side alternative-symbols q w → lakeOf m t s cs l q .way ≡ w
+  pub lake-only : {d : ℕ} {w : ℕ} → Ways (meant m t) s d right-side alternative-symbols q w → lakeOf m t s cs l q .way ≡ w
   lake-only {d} w = way-is ∙ way-only (prepared m t .bodies) (meant m t) (bodies-meant m t) s (filled (prepared m t) s cs) (filled-as-meant m t ok s cs room) q in-text right-side alternative-symbols d w
 
   -- and the answer is a way that the rules have

@@ -25,10 +25,8 @@ use Rattle.match_nodes.specs.laws.Words.{words-length, words-behind, words-refu
 use Rattle.match_nodes.specs.laws.Whole.{listed}
 use Rattle.prepare.specs.Prepare.{prepared, preparedBy, refuses}
 use Rattle.prepare.specs.laws.Reads.{grammar-read, clear-text}
-use Rattle.gurkenmond.specs.declared.Match.{Match}
-use Rattle.gurkenmond.specs.declared.Outcome.{Outcome}
-use Rattle.gurkenmond.specs.declared.Outcome.the-variants.{Matched, NoMatch, Refused as OutcomeRefused}
-use Rattle.gurkenmond.specs.Calls.{Matching, matching, cellsNeeded, listingBy, matchBy, filled, matchOf}
+use Rattle.gurkenmond.specs.Answers.{Says as Outcome, value as Matched, nomatch as NoMatch, refused as OutcomeRefused}
+use Rattle.gurkenmond.specs.Calls.{MatchAnswer as Match, Matching, matching, cellsNeeded, listingBy, matchBy, filled, matchOf}
 use Rattle.demands.specs.Meant.{meant}
 use Rattle.demands.specs.Offends.{Fits, TooDeep, NoRoom}
 use Rattle.demands.specs.laws.Meant.{bodies-meant, bodies-many}

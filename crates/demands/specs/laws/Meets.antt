@@ -23,7 +23,7 @@ use Rattle.lake_calls.specs.Calls.{order}
 use Rattle.match_nodes.specs.Nodes.{roomOf, wordsOf, nodeAt, nodesAt}
 use Rattle.match_cells.specs.laws.Filled.{filled-length}
 use Rattle.prepare.specs.Prepare.{prepared, refuses}
-use Rattle.gurkenmond.specs.declared.Outcome.the-variants.{Matched, NoMatch, Refused as OutcomeRefused}
+use Rattle.gurkenmond.specs.Answers.{value as Matched, nomatch as NoMatch, refused as OutcomeRefused}
 use Rattle.gurkenmond.specs.Calls.{Matching, matching, cellsNeeded, refusesInput, filled, matchOf}
 use Rattle.demands.specs.Meant.{meant}
 use Rattle.demands.specs.Offends.{Fits}

@@ -22,15 +22,8 @@ use Rattle.prepare.specs.declared.Verdict.the-variants.{Accepted, Refused as Ve
 use Rattle.prepare.specs.Prepare.{prepared, refuses}
 use Rattle.prepare.specs.Reads.{verdictOf, readBy, readOf}
 use Rattle.prepare.specs.laws.Loads.{some-none}
-use Rattle.gurkenmond.specs.declared.Outcome.{Outcome}
-use Rattle.gurkenmond.specs.declared.Outcome.the-variants.{Matched, NoMatch, Refused as OutcomeRefused}
-use Rattle.gurkenmond.specs.declared.Way.{Way}
-use Rattle.gurkenmond.specs.declared.Way.the-variants.{Not, ByRule, ByWater, BySkip, Refused as WayRefused}
-use Rattle.gurkenmond.specs.declared.Written.{Written}
-use Rattle.gurkenmond.specs.declared.Written.the-variants.{Bytes, Refused as WrittenRefused}
-use Rattle.gurkenmond.specs.Calls.{noSets, setsBy, setsOf, lakesBy, cannotSkipOf, cellsNeeded, refusesInput, matching, listingBy, matchBy, filled, matchAfter, matchOf, isLakeAt, wayOf, lakeAfter, lakeOf, writeAfter, writeOwnOf, writePlainOf}
-use Rattle.match_lake.specs.Asking.{wayIn}
-use Rattle.lake_sets.specs.Analysis.{altOf}
+use Rattle.gurkenmond.specs.Answers.{Says as Outcome, value as Matched, nomatch as NoMatch, refused as OutcomeRefused}
+use Rattle.gurkenmond.specs.Calls.{noSets, setsBy, setsOf, lakesBy, cannotSkipOf, cellsNeeded, refusesInput, matching, listingBy, matchBy, filled, matchAfter, matchOf, isLakeAt, lakeAnswer, lakeAfter, lakeOf, writing, writeAfter, writeOwnOf, writePlainOf}
 use Rattle.demands.specs.Rows.{Rows, MatchRows, LakeRows, SetsRows, WriteRows, Tells, FirstRow, NoRow}
 use Rattle.demands.specs.laws.Refusals.{one-to-eight, match-chain, lake-chain, sets-chain, write-chain}
 
@@ -43,17 +36,6 @@ abbrev inOutcome : Outcome → Option Refusal
 inOutcome (Matched k) = none
 inOutcome NoMatch = none
 inOutcome (OutcomeRefused k p) = some (refusal k p)
-
-abbrev inWay : Way → Option Refusal
-inWay Not = none
-inWay ByRule = none
-inWay ByWater = none
-inWay BySkip = none
-inWay (WayRefused k p) = some (refusal k p)
-
-abbrev inWritten : Written → Option Refusal
-inWritten (Bytes k) = none
-inWritten (WrittenRefused k p) = some (refusal k p)
 
 verdict-in : (o : Option Refusal) → inVerdict (verdictOf o) ≡ o
 unfolding verdictOf
@@ -191,26 +173,23 @@ module _ (m : Mode) (t : List ℕ) where
     abbrev lake-check : Option Refusal
     lake-check = refuses m t ▸ (refusesInput (prepared m t) s cs ▸ refuseIf (not (isLakeAt (prepared m t) l && leb q (length s))) 14 0)
 
-    pub lake-refused : {k p : ℕ} → FirstRow (LakeRows m t s cs l q) k p → lakeOf m t s cs l q ≡ record { way = WayRefused k p; cells = cs }
+    pub lake-refused : {k p : ℕ} → FirstRow (LakeRows m t s cs l q) k p → lakeOf m t s cs l q ≡ lakeAnswer 0 (some (refusal k p)) cs
     unfolding lakeOf
     lake-refused f = ap (λ (o : Option Refusal). lakeAfter o (prepared m t) s cs l q) (refused-by (lake-chain m t s cs l q .tells) f)
 
-    way-in : (x : ℕ) → inWay (wayOf x) ≡ none
-    way-in zero = refl
-    way-in (suc zero) = refl
-    way-in (suc (suc zero)) = refl
-    way-in (suc (suc (suc x))) = refl
-
-    by-way : (o : Option Refusal) → inWay (lakeAfter o (prepared m t) s cs l q .way) ≡ o
-    by-way none = way-in (wayIn (prepared m t .grammar) s (filled (prepared m t) s cs) (length (prepared m t .bodies)) (altOf (prepared m t .analysis) l) l q)
-    by-way (some r) = refl
-
-    pub lake-refused-only : {k p : ℕ} → lakeOf m t s cs l q .way ≡ WayRefused k p → FirstRow (LakeRows m t s cs l q) k p
+    pub lake-verdict : lakeOf m t s cs l q .verdict ≡ lake-check
     unfolding lakeOf
-    lake-refused-only e = only-by (lake-chain m t s cs l q .tells) (sym (by-way lake-check) ∙ ap inWay e)
+    lake-verdict = go lake-check
+      where
+        go : (o : Option Refusal) → lakeAfter o (prepared m t) s cs l q .verdict ≡ o
+        go none = refl
+        go (some r) = refl
+
+    pub lake-refused-only : {k p : ℕ} → lakeOf m t s cs l q .verdict ≡ some (refusal k p) → FirstRow (LakeRows m t s cs l q) k p
+    lake-refused-only e = only-by (lake-chain m t s cs l q .tells) (sym lake-verdict ∙ e)
 
   -- ── writing ──
-  by-written : (o : Option Refusal) (w out : List ℕ) → inWritten (writeAfter o w out .answer) ≡ o
+  by-written : (o : Option Refusal) (w out : List ℕ) → writeAfter o w out .verdict ≡ o
   by-written none w out = refl
   by-written (some r) w out = refl
 
@@ -221,20 +200,20 @@ module _ (m : Mode) (t : List ℕ) where
     abbrev plain-text : List ℕ
     plain-text = text (plainRules (prepared m t .grammar) (prepared m t .analysis))
 
-    pub own-refused : {k p : ℕ} → FirstRow (WriteRows m t own-text out) k p → writeOwnOf m t out ≡ record { answer = WrittenRefused k p; out = out }
+    pub own-refused : {k p : ℕ} → FirstRow (WriteRows m t own-text out) k p → writeOwnOf m t out ≡ writing 0 (some (refusal k p)) out
     unfolding writeOwnOf
     own-refused f = ap (λ (o : Option Refusal). writeAfter o own-text out) (refused-by (write-chain m t own-text out .tells) f)
 
-    pub own-refused-only : {k p : ℕ} → writeOwnOf m t out .answer ≡ WrittenRefused k p → FirstRow (WriteRows m t own-text out) k p
+    pub own-refused-only : {k p : ℕ} → writeOwnOf m t out .verdict ≡ some (refusal k p) → FirstRow (WriteRows m t own-text out) k p
     unfolding writeOwnOf
     own-refused-only e =
-        only-by (write-chain m t own-text out .tells) (sym (by-written (refuses m t ▸ refuseIf (ltb (length out) (length own-text)) 13 (length own-text)) own-text out) ∙ ap inWritten e)
+        only-by (write-chain m t own-text out .tells) (sym (by-written (refuses m t ▸ refuseIf (ltb (length out) (length own-text)) 13 (length own-text)) own-text out) ∙ e)
 
-    pub plain-refused : {k p : ℕ} → FirstRow (WriteRows m t plain-text out) k p → writePlainOf m t out ≡ record { answer = WrittenRefused k p; out = out }
+    pub plain-refused : {k p : ℕ} → FirstRow (WriteRows m t plain-text out) k p → writePlainOf m t out ≡ writing 0 (some (refusal k p)) out
     unfolding writePlainOf
     plain-refused f = ap (λ (o : Option Refusal). writeAfter o plain-text out) (refused-by (write-chain m t plain-text out .tells) f)
 
-    pub plain-refused-only : {k p : ℕ} → writePlainOf m t out .answer ≡ WrittenRefused k p → FirstRow (WriteRows m t plain-text out) k p
+    pub plain-refused-only : {k p : ℕ} → writePlainOf m t out .verdict ≡ some (refusal k p) → FirstRow (WriteRows m t plain-text out) k p
     unfolding writePlainOf
     plain-refused-only e =
-        only-by (write-chain m t plain-text out .tells) (sym (by-written (refuses m t ▸ refuseIf (ltb (length out) (length plain-text)) 13 (length plain-text)) plain-text out) ∙ ap inWritten e)
+        only-by (write-chain m t plain-text out .tells) (sym (by-written (refuses m t ▸ refuseIf (ltb (length out) (length plain-text)) 13 (length plain-text)) plain-text out) ∙ e)

@@ -1,57 +1,60 @@
 -- "Two results that meet it are proved equal" (01, What the promises have to nail): of each public call the result, and every lent word afterwards.
 -- Assumes nothing.
 use Prim.Native.Nat.{ℕ}
-use mathlib.Core.Path.{_≡_, sym, _∙_}
+use mathlib.Core.Path.{_≡_, sym, ap₂, _∙_}
 use mathlib.Core.Bool.{Bool}
 use mathlib.Core.List.{List}
 use Rattle.read_tokens.specs.declared.Mode.{Mode}
-use Rattle.match_nodes.specs.Nodes.{soundAt, nodeText}
+use Rattle.match_nodes.specs.Nodes.{soundAt, Handed}
 use Rattle.prepare.specs.declared.Counted.{Counted}
-use Rattle.prepare.specs.Reads.{readOf}
+use Rattle.prepare.specs.declared.Verdict.{Verdict}
 use Rattle.gurkenmond.specs.declared.SetsOf.{SetsOf}
 use Rattle.gurkenmond.specs.declared.Lakes.{Lakes}
 use Rattle.gurkenmond.specs.declared.Match.{Match}
+use Rattle.gurkenmond.specs.declared.Outcome.{Outcome}
 use Rattle.gurkenmond.specs.declared.Way.{Way}
+use Rattle.gurkenmond.specs.declared.LakeWay.{LakeWay}
 use Rattle.gurkenmond.specs.declared.Written.{Written}
-use Rattle.gurkenmond.specs.Calls.{setsOf, cannotSkipOf, matchOf, LakeAnswer, lakeOf, Writing, writeOwnOf, writePlainOf}
-use Rattle.gurkenmond.specs.Runs.{Says}
+use Rattle.gurkenmond.specs.Calls.{SaysRead, SaysSets, SaysLakes, matchOf, SaysMatch, lakeOf, SaysWay, Writing, writeOwnOf, writePlainOf, SaysText}
+use Rattle.gurkenmond.specs.laws.Answers.{verdict-one, way-one, outcome-one}
 
 same : {A : Type 0} {a b c : A} → a ≡ c → b ≡ c → a ≡ b
 same e f = e ∙ sym f
 
 module _ (m : Mode) (t : List ℕ) where
-  pub read-one : (r r′ : Counted) → r ≡ readOf m t → r′ ≡ readOf m t → r ≡ r′
-  read-one r r′ e f = same e f
+  pub read-one : (r r′ : Counted) → SaysRead r m t → SaysRead r′ m t → r ≡ r′
+  read-one r r′ e f = same (e .0) (f .0)
 
-  pub sets-one : (i : ℕ) (r r′ : SetsOf) → r ≡ setsOf m t i → r′ ≡ setsOf m t i → r ≡ r′
-  sets-one i r r′ e f = same e f
+  pub sets-one : (i : ℕ) (r r′ : SetsOf) → SaysSets r m t i → SaysSets r′ m t i → r ≡ r′
+  sets-one i r r′ e f = same (e .0) (f .0)
 
-  pub cannot-skip-one : (r r′ : Lakes) → r ≡ cannotSkipOf m t → r′ ≡ cannotSkipOf m t → r ≡ r′
-  cannot-skip-one r r′ e f = same e f
+  pub cannot-skip-one : (r r′ : Lakes) → SaysLakes r m t → SaysLakes r′ m t → r ≡ r′
+  cannot-skip-one r r′ e f = same (e .0) (f .0)
 
   -- the answer, the cells, the node words
-  pub match-one : (s cs ws : List ℕ) (r r′ : Match) (c c′ w w′ : List ℕ) → Says r c w (matchOf m t s cs ws) → Says r′ c′ w′ (matchOf m t s cs ws) → (r ≡ r′) × (c ≡ c′) × (w ≡ w′)
-  match-one s cs ws r r′ c c′ w w′ e f = (same (e .0) (f .0), same (e .1) (f .1), same (e .2) (f .2))
+  pub match-one : (s cs ws : List ℕ) (r r′ : Match) (c c′ w w′ : List ℕ) → SaysMatch r c w (matchOf m t s cs ws) → SaysMatch r′ c′ w′ (matchOf m t s cs ws) → (r ≡ r′) × (c ≡ c′) × (w ≡ w′)
+  match-one s cs ws r r′ c c′ w w′ e f =
+      (ap₂ (λ (k : ℕ) (o : Outcome). record { nodes = k; outcome = o }) (same (e .0) (f .0)) (outcome-one (r .outcome) (r′ .outcome) (same (e .1) (f .1))), same (e .2) (f .2), same (e .3) (f .3))
 
   -- the answer, the cells
-  abbrev pub SaysWay : Way → List ℕ → LakeAnswer → Type 0
-  SaysWay r c a = (r ≡ a .way) × (c ≡ a .cells)
-
-  pub lake-one : (s cs : List ℕ) (l q : ℕ) (r r′ : Way) (c c′ : List ℕ) → SaysWay r c (lakeOf m t s cs l q) → SaysWay r′ c′ (lakeOf m t s cs l q) → (r ≡ r′) × (c ≡ c′)
-  lake-one s cs l q r r′ c c′ e f = (same (e .0) (f .0), same (e .1) (f .1))
+  pub lake-one : (s cs : List ℕ) (l q : ℕ) (r r′ : LakeWay) (c c′ : List ℕ) → SaysWay r c (lakeOf m t s cs l q) → SaysWay r′ c′ (lakeOf m t s cs l q) → (r ≡ r′) × (c ≡ c′)
+  lake-one s cs l q r r′ c c′ e f =
+      (ap₂ (λ (x : Way) (v : Verdict). record { way = x; verdict = v }) (way-one (r .way) (r′ .way) (same (e .0) (f .0))) (verdict-one (r .verdict) (r′ .verdict) (same (e .1) (f .1))), same (e .2) (f .2))
 
   -- the answer, the output room
-  abbrev pub SaysText : Written → List ℕ → Writing → Type 0
-  SaysText r o w = (r ≡ w .answer) × (o ≡ w .out)
+  text-one : (r r′ : Written) (o o′ : List ℕ) (w : Writing) → SaysText r o w → SaysText r′ o′ w → (r ≡ r′) × (o ≡ o′)
+  text-one r r′ o o′ w e f =
+      (ap₂ (λ (k : ℕ) (v : Verdict). record { bytes = k; verdict = v }) (same (e .0) (f .0)) (verdict-one (r .verdict) (r′ .verdict) (same (e .1) (f .1))), same (e .2) (f .2))
 
   pub write-own-one : (out : List ℕ) (r r′ : Written) (o o′ : List ℕ) → SaysText r o (writeOwnOf m t out) → SaysText r′ o′ (writeOwnOf m t out) → (r ≡ r′) × (o ≡ o′)
-  write-own-one out r r′ o o′ e f = (same (e .0) (f .0), same (e .1) (f .1))
+  write-own-one out r r′ o o′ = text-one r r′ o o′ (writeOwnOf m t out)
 
   pub write-plain-one : (out : List ℕ) (r r′ : Written) (o o′ : List ℕ) → SaysText r o (writePlainOf m t out) → SaysText r′ o′ (writePlainOf m t out) → (r ≡ r′) × (o ≡ o′)
-  write-plain-one out r r′ o o′ e f = (same (e .0) (f .0), same (e .1) (f .1))
+  write-plain-one out r r′ o o′ = text-one r r′ o o′ (writePlainOf m t out)
 
 pub node-sound-one : (ws : List ℕ) (k n : ℕ) (r r′ : Bool) → r ≡ soundAt ws k n → r′ ≡ soundAt ws k n → r ≡ r′
 node-sound-one ws k n r r′ e f = same e f
 
-pub node-text-one : (s ws : List ℕ) (k : ℕ) (r r′ : List ℕ) → r ≡ nodeText s ws k → r′ ≡ nodeText s ws k → r ≡ r′
-node-text-one s ws k r r′ e f = same e f
+-- the part: its bytes, and where it points
+pub node-text-one : (s : List ℕ) (begin : ℕ × ℕ) (ws : List ℕ) (k : ℕ) (r r′ : List ℕ) (p p′ : ℕ × ℕ) → Handed r p s begin ws k → Handed r′ p′ s begin ws k → (r ≡ r′) × (p ≡ p′)
+node-text-one s begin ws k r r′ p p′ e f = (same (e .bytes) (f .bytes), same (e .place) (f .place))

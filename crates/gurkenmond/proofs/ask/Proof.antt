@@ -1,10 +1,11 @@
 -- `gurkenmond::ask` meets its contract. Assumes nothing.
-use Prim.Native.Nat.{_+_, _*_}
-use mathlib.Core.Path.{_≡_, refl, sym, _∙_}
+use Prim.Native.Nat.{ℕ, _+_, _*_, _≤_}
+use mathlib.Core.Path.{_≡_, refl, sym, _∙_, subst}
 use native.Mathlib.Omega.{arith}
 use lib.ListN.{length}
 use Rattle.base_facts.specs.laws.Bools.{not-false, not-true}
 use Rattle.gurkenmond.specs.laws.Matches.{need-small}
+use Rattle.gurkenmond.specs.laws.Answers.{way-few}
 use Rattle.gurkenmond.specs.laws.Asks.{standing-same, standing-few, standing-terminals, asked-long, asked-few, asked-past, asked-other, asked-behind, asked-all}
 use borrow.Author.Needs.{needs}
 use Rattle.gurkenmond.proofs.ask.Statement.{statement}
@@ -14,16 +15,16 @@ use Rattle.gurkenmond.proofs.ask.Lts as lts
 use Rattle.lake_analysis.proofs.alt_of.Reads as alt-of-reads
 use Rattle.lake_analysis.proofs.is_lake.Reads as is-lake-reads
 use Rattle.match_lake.proofs.way.Reads as way-reads
-use Rattle.gurkenmond.proofs.refused_way.Reads as refused-way-reads
+use Rattle.gurkenmond.proofs.not_asked.Reads as not-asked-reads
 use Rattle.gurkenmond.proofs.way_of.Reads as way-of-reads
 use Rattle.prepare.proofs.symbols.Reads as symbols-reads
 use Rattle.match_cells.proofs.filling.fill.Reads as fill-reads
 
-refused-way-requires : tie.Need-refused-way-requires
-refused-way-requires c κs = search needs
+not-asked-requires : tie.Need-not-asked-requires
+not-asked-requires c κs = search needs
 
 returns : tie.Need-returns
-returns c = asked-long (c .before .before .before .before .args .input .now) (c .before .before .before .before .args .cells .now) (c .before .before .before .before .args .lake) (c .before .before .before .before .args .place) (c .refused-way .ensures) (c .before .if1 .taken)
+returns c = asked-long (c .before .before .before .before .args .input .now) (c .before .before .before .before .args .cells .now) (c .before .before .before .before .args .lake) (c .before .before .before .before .args .place) (c .not-asked .ensures) (c .before .if1 .taken)
 
 symbols-requires : tie.Need-symbols-requires
 symbols-requires c κs = search needs
@@ -34,32 +35,32 @@ add-need c = search needs
 mul-need : tie.Need-mul-need
 mul-need c = omega (arith, need-small (c .symbols .result) (length (c .before .before .before .before .args .input .now)) (omega (arith, c .symbols .ensures, standing-few (c .before .before .before .before .pre))) (omega (arith, c .before .if1 .left)))
 
-refused-way-requires-2 : tie.Need-refused-way-requires-2
-refused-way-requires-2 c κs = search needs
+not-asked-requires-2 : tie.Need-not-asked-requires-2
+not-asked-requires-2 c κs = search needs
 
 returns-2 : tie.Need-returns-2
-returns-2 c = asked-few (c .before .before .before .before .before .before .args .input .now) (c .before .before .before .before .before .before .args .cells .now) (c .before .before .before .before .before .before .args .lake) (c .before .before .before .before .before .before .args .place) (c .before .before .symbols .result) _ (c .before .before .symbols .ensures) (omega (arith, c .before .before .before .if1 .left)) refl (c .refused-way2 .ensures) (c .before .if2 .taken)
+returns-2 c = asked-few (c .before .before .before .before .before .before .args .input .now) (c .before .before .before .before .before .before .args .cells .now) (c .before .before .before .before .before .before .args .lake) (c .before .before .before .before .before .before .args .place) (c .before .before .symbols .result) _ (c .before .before .symbols .ensures) (omega (arith, c .before .before .before .if1 .left)) refl (c .not-asked2 .ensures) (c .before .if2 .taken)
 
-refused-way-requires-3 : tie.Need-refused-way-requires-3
-refused-way-requires-3 c κs = search needs
+not-asked-requires-3 : tie.Need-not-asked-requires-3
+not-asked-requires-3 c κs = search needs
 
 returns-3 : tie.Need-returns-3
-returns-3 c = asked-past (c .before .before .before .before .before .before .before .args .input .now) (c .before .before .before .before .before .before .before .args .cells .now) (c .before .before .before .before .before .before .before .args .lake) (c .before .before .before .before .before .before .before .args .place) (c .before .before .before .symbols .result) _ (c .before .before .before .symbols .ensures) (omega (arith, c .before .before .before .before .if1 .left)) refl (omega (arith, c .before .before .if2 .left)) (c .refused-way3 .ensures) (c .before .if3 .taken)
+returns-3 c = asked-past (c .before .before .before .before .before .before .before .args .input .now) (c .before .before .before .before .before .before .before .args .cells .now) (c .before .before .before .before .before .before .before .args .lake) (c .before .before .before .before .before .before .before .args .place) (c .before .before .before .symbols .result) _ (c .before .before .before .symbols .ensures) (omega (arith, c .before .before .before .before .if1 .left)) refl (omega (arith, c .before .before .if2 .left)) (c .not-asked3 .ensures) (c .before .if3 .taken)
 
 is-lake-requires : tie.Need-is-lake-requires
 is-lake-requires c κs = search needs
 
-refused-way-requires-4 : tie.Need-refused-way-requires-4
-refused-way-requires-4 c κs = search needs
+not-asked-requires-4 : tie.Need-not-asked-requires-4
+not-asked-requires-4 c κs = search needs
 
 returns-4 : tie.Need-returns-4
-returns-4 c = asked-other (c .before .before .before .before .before .before .before .before .before .args .input .now) (c .before .before .before .before .before .before .before .before .before .args .cells .now) (c .before .before .before .before .before .before .before .before .before .args .lake) (c .before .before .before .before .before .before .before .before .before .args .place) (c .before .before .before .before .before .symbols .result) _ (c .before .before .before .before .before .symbols .ensures) (omega (arith, c .before .before .before .before .before .before .if1 .left)) refl (omega (arith, c .before .before .before .before .if2 .left)) (omega (arith, c .before .before .before .if3 .left)) (c .refused-way4 .ensures) (sym (c .before .before .is-lake .ensures) ∙ not-true (c .before .before .is-lake .result) (c .before .if4 .taken))
+returns-4 c = asked-other (c .before .before .before .before .before .before .before .before .before .args .input .now) (c .before .before .before .before .before .before .before .before .before .args .cells .now) (c .before .before .before .before .before .before .before .before .before .args .lake) (c .before .before .before .before .before .before .before .before .before .args .place) (c .before .before .before .before .before .symbols .result) _ (c .before .before .before .before .before .symbols .ensures) (omega (arith, c .before .before .before .before .before .before .if1 .left)) refl (omega (arith, c .before .before .before .before .if2 .left)) (omega (arith, c .before .before .before .if3 .left)) (c .not-asked4 .ensures) (sym (c .before .before .is-lake .ensures) ∙ not-true (c .before .before .is-lake .result) (c .before .if4 .taken))
 
-refused-way-requires-5 : tie.Need-refused-way-requires-5
-refused-way-requires-5 c κs = search needs
+not-asked-requires-5 : tie.Need-not-asked-requires-5
+not-asked-requires-5 c κs = search needs
 
 returns-5 : tie.Need-returns-5
-returns-5 c = asked-behind (c .before .before .before .before .before .before .before .before .before .before .args .input .now) (c .before .before .before .before .before .before .before .before .before .before .args .cells .now) (c .before .before .before .before .before .before .before .before .before .before .args .lake) (c .before .before .before .before .before .before .before .before .before .before .args .place) (c .before .before .before .before .before .before .symbols .result) _ (c .before .before .before .before .before .before .symbols .ensures) (omega (arith, c .before .before .before .before .before .before .before .if1 .left)) refl (omega (arith, c .before .before .before .before .before .if2 .left)) (omega (arith, c .before .before .before .before .if3 .left)) (c .refused-way5 .ensures) (sym (c .before .before .before .is-lake .ensures) ∙ not-false (c .before .before .before .is-lake .result) (c .before .before .if4 .left)) (c .before .if5 .taken)
+returns-5 c = asked-behind (c .before .before .before .before .before .before .before .before .before .before .args .input .now) (c .before .before .before .before .before .before .before .before .before .before .args .cells .now) (c .before .before .before .before .before .before .before .before .before .before .args .lake) (c .before .before .before .before .before .before .before .before .before .before .args .place) (c .before .before .before .before .before .before .symbols .result) _ (c .before .before .before .before .before .before .symbols .ensures) (omega (arith, c .before .before .before .before .before .before .before .if1 .left)) refl (omega (arith, c .before .before .before .before .before .if2 .left)) (omega (arith, c .before .before .before .before .if3 .left)) (c .not-asked5 .ensures) (sym (c .before .before .before .is-lake .ensures) ∙ not-false (c .before .before .before .is-lake .result) (c .before .before .if4 .left)) (c .before .if5 .taken)
 
 fill-requires : tie.Need-fill-requires
 fill-requires c κs = search needs
@@ -71,7 +72,7 @@ way-requires : tie.Need-way-requires
 way-requires c κs = (c .before .before .before .before .before .before .before .before .before .before .before .before .before .symbols .ensures ∙ standing-same (c .before .before .before .before .before .before .before .before .before .before .before .before .before .before .before .before .before .pre), omega (arith, c .before .before .before .before .before .before .before .before .before .before .before .before .before .symbols .ensures, standing-few (c .before .before .before .before .before .before .before .before .before .before .before .before .before .before .before .before .before .pre)), standing-terminals (c .before .before .before .before .before .before .before .before .before .before .before .before .before .before .before .before .before .pre), omega (arith, c .before .before .before .before .before .before .before .before .before .before .before .if3 .left), omega (arith, c .before .before .before .before .before .before .before .before .before .before .before .before .before .before .if1 .left), omega (arith, c .before .before .before .before .before .before .before .before .if5 .left))
 
 way-of-requires : tie.Need-way-of-requires
-way-of-requires c κs = search needs
+way-of-requires c κs = subst (λ (k : ℕ). k ≤ 3) (sym (c .way .ensures)) (way-few _ _ _ _ _ _ _)
 
 same-length : tie.Need-same-length
 same-length c = search needs
@@ -83,19 +84,19 @@ pub ask-spec : {M : Type 1} → statement M
 ask-spec =
     tie.close
     (tie.spec
-    refused-way-requires
+    not-asked-requires
     returns
     symbols-requires
     add-need
     mul-need
-    refused-way-requires-2
+    not-asked-requires-2
     returns-2
-    refused-way-requires-3
+    not-asked-requires-3
     returns-3
     is-lake-requires
-    refused-way-requires-4
+    not-asked-requires-4
     returns-4
-    refused-way-requires-5
+    not-asked-requires-5
     returns-5
     fill-requires
     alt-of-requires

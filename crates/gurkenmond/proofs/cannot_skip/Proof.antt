@@ -1,5 +1,6 @@
 -- `gurkenmond::cannot_skip` meets its contract. Assumes nothing.
 use mathlib.Core.Path.{_≡_, sym, _∙_}
+use Rattle.gurkenmond.specs.laws.Answers.{lakes-told}
 use Rattle.gurkenmond.specs.laws.Sets.{skip-refused, skip-is}
 use borrow.Author.Needs.{needs}
 use Rattle.gurkenmond.proofs.cannot_skip.Statement.{statement}
@@ -17,13 +18,13 @@ is-refused-requires : tie.Need-is-refused-requires
 is-refused-requires c κs = search needs
 
 returns : tie.Need-returns
-returns c = skip-refused (c .before .before .before .before .before .before .before .before .before .before .before .before .before .args .mode) (c .before .before .before .before .before .before .before .before .before .before .before .before .before .args .text .now) (c .before .before .before .prepare .result .counted) (c .before .before .before .prepare .ensures .answer) (sym (c .before .is-refused .ensures) ∙ c .if1 .taken)
+returns c = lakes-told (c .before .before .before .before .before .before .before .before .before .before .before .before .before .args .mode) (c .before .before .before .before .before .before .before .before .before .before .before .before .before .args .text .now) (skip-refused (c .before .before .before .before .before .before .before .before .before .before .before .before .before .args .mode) (c .before .before .before .before .before .before .before .before .before .before .before .before .before .args .text .now) (c .before .before .before .prepare .result .counted) (c .before .before .before .prepare .ensures .answer) (sym (c .before .is-refused .ensures) ∙ c .if1 .taken))
 
 cannot-skip-requires : tie.Need-cannot-skip-requires
 cannot-skip-requires c κs = search needs
 
 returns-2 : tie.Need-returns-2
-returns-2 c = skip-is (c .before .before .before .before .before .before .before .before .before .before .before .before .before .before .before .before .before .args .mode) (c .before .before .before .before .before .before .before .before .before .before .before .before .before .before .before .before .before .args .text .now) _ _ _ _ _ _ _ _ (c .before .before .before .before .before .before .before .prepare .result .rounds) (c .before .before .before .before .before .before .before .prepare .ensures .stands (sym (c .before .before .before .before .before .is-refused .ensures) ∙ c .before .before .before .before .if1 .left)) (c .cannot-skip .result) (c .cannot-skip .ensures)
+returns-2 c = lakes-told (c .before .before .before .before .before .before .before .before .before .before .before .before .before .before .before .before .before .args .mode) (c .before .before .before .before .before .before .before .before .before .before .before .before .before .before .before .before .before .args .text .now) (skip-is (c .before .before .before .before .before .before .before .before .before .before .before .before .before .before .before .before .before .args .mode) (c .before .before .before .before .before .before .before .before .before .before .before .before .before .before .before .before .before .args .text .now) _ _ _ _ _ _ _ _ (c .before .before .before .before .before .before .before .prepare .result .rounds) (c .before .before .before .before .before .before .before .prepare .ensures .stands (sym (c .before .before .before .before .before .is-refused .ensures) ∙ c .before .before .before .before .if1 .left)) (c .cannot-skip .result) (c .cannot-skip .ensures))
 
 pub cannot-skip-spec : {M : Type 1} → statement M
 cannot-skip-spec =

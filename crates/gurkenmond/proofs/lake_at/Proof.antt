@@ -1,6 +1,6 @@
 -- `gurkenmond::lake_at` meets its contract. Assumes nothing.
 use mathlib.Core.Path.{_≡_, sym, _∙_}
-use Rattle.gurkenmond.specs.laws.Asks.{lake-refused}
+use Rattle.gurkenmond.specs.laws.Asks.{as-way, lake-refused}
 use borrow.Author.Needs.{needs}
 use Rattle.gurkenmond.proofs.lake_at.Statement.{statement}
 use Rattle.gurkenmond.proofs.lake_at.Tie as tie
@@ -21,7 +21,7 @@ not-asked-requires : tie.Need-not-asked-requires
 not-asked-requires c κs = search needs
 
 returns : tie.Need-returns
-returns c = (c .not-asked .ensures ∙ lake-refused (c .before .before .before .before .before .before .before .before .before .before .before .before .before .before .before .before .args .mode) (c .before .before .before .before .before .before .before .before .before .before .before .before .before .before .before .before .args .text .now) (c .before .before .before .before .before .before .before .before .before .before .before .before .before .before .before .before .args .input .now) (c .before .before .before .before .before .before .before .before .before .before .before .before .before .before .before .before .args .cells .now) (c .before .before .before .before .before .before .before .before .before .before .before .before .before .before .before .before .args .lake) (c .before .before .before .before .before .before .before .before .before .before .before .before .before .before .before .before .args .place) (c .before .before .before .before .prepare .result .counted) (c .before .before .before .before .prepare .ensures .answer) (sym (c .before .before .is-refused .ensures) ∙ c .before .if1 .taken) .0, lake-refused (c .before .before .before .before .before .before .before .before .before .before .before .before .before .before .before .before .args .mode) (c .before .before .before .before .before .before .before .before .before .before .before .before .before .before .before .before .args .text .now) (c .before .before .before .before .before .before .before .before .before .before .before .before .before .before .before .before .args .input .now) (c .before .before .before .before .before .before .before .before .before .before .before .before .before .before .before .before .args .cells .now) (c .before .before .before .before .before .before .before .before .before .before .before .before .before .before .before .before .args .lake) (c .before .before .before .before .before .before .before .before .before .before .before .before .before .before .before .before .args .place) (c .before .before .before .before .prepare .result .counted) (c .before .before .before .before .prepare .ensures .answer) (sym (c .before .before .is-refused .ensures) ∙ c .before .if1 .taken) .1)
+returns c = as-way (c .not-asked .ensures) (lake-refused (c .before .before .before .before .before .before .before .before .before .before .before .before .before .before .before .before .args .mode) (c .before .before .before .before .before .before .before .before .before .before .before .before .before .before .before .before .args .text .now) (c .before .before .before .before .before .before .before .before .before .before .before .before .before .before .before .before .args .input .now) (c .before .before .before .before .before .before .before .before .before .before .before .before .before .before .before .before .args .cells .now) (c .before .before .before .before .before .before .before .before .before .before .before .before .before .before .before .before .args .lake) (c .before .before .before .before .before .before .before .before .before .before .before .before .before .before .before .before .args .place) (c .before .before .before .before .prepare .result .counted) (c .before .before .before .before .prepare .ensures .answer) (sym (c .before .before .is-refused .ensures) ∙ c .before .if1 .taken))
 
 ask-requires : tie.Need-ask-requires
 ask-requires c κs = record { mode = c .before .before .before .before .before .before .before .before .before .before .before .before .before .before .before .before .before .before .before .before .args .mode; text = c .before .before .before .before .before .before .before .before .before .before .before .before .before .before .before .before .before .before .before .before .args .text .now; marks = _; sets = _; eps = _; succ = _; rounds = c .before .before .before .before .before .before .before .before .prepare .result .rounds; stands = c .before .before .before .before .before .before .before .before .prepare .ensures .stands (sym (c .before .before .before .before .before .before .is-refused .ensures) ∙ c .before .before .before .before .before .if1 .left) }

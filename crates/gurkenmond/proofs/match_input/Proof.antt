@@ -1,6 +1,6 @@
 -- `gurkenmond::match_input` meets its contract. Assumes nothing.
 use mathlib.Core.Path.{_≡_, sym, _∙_}
-use Rattle.gurkenmond.specs.laws.Matches.{loopless, match-ran, match-refused}
+use Rattle.gurkenmond.specs.laws.Matches.{as-match, loopless, match-ran, match-refused}
 use borrow.Author.Needs.{needs}
 use Rattle.gurkenmond.proofs.match_input.Statement.{statement}
 use Rattle.gurkenmond.proofs.match_input.Tie as tie
@@ -21,7 +21,7 @@ not-matched-requires : tie.Need-not-matched-requires
 not-matched-requires c κs = search needs
 
 returns : tie.Need-returns
-returns c = (c .not-matched .ensures ∙ match-refused (c .before .before .before .before .before .before .before .before .before .before .args .mode) (c .before .before .before .before .before .before .before .before .before .before .args .text .now) (c .before .before .before .before .before .before .before .before .before .before .args .input .now) (c .before .before .before .before .before .before .before .before .before .before .args .cells .now) (c .before .before .before .before .before .before .before .before .before .before .args .nodes .now) (c .before .before .before .plainly .result) (c .before .before .before .plainly .ensures .answer) (sym (c .before .before .is-refused .ensures) ∙ c .before .if1 .taken) .0, match-refused (c .before .before .before .before .before .before .before .before .before .before .args .mode) (c .before .before .before .before .before .before .before .before .before .before .args .text .now) (c .before .before .before .before .before .before .before .before .before .before .args .input .now) (c .before .before .before .before .before .before .before .before .before .before .args .cells .now) (c .before .before .before .before .before .before .before .before .before .before .args .nodes .now) (c .before .before .before .plainly .result) (c .before .before .before .plainly .ensures .answer) (sym (c .before .before .is-refused .ensures) ∙ c .before .if1 .taken) .1, match-refused (c .before .before .before .before .before .before .before .before .before .before .args .mode) (c .before .before .before .before .before .before .before .before .before .before .args .text .now) (c .before .before .before .before .before .before .before .before .before .before .args .input .now) (c .before .before .before .before .before .before .before .before .before .before .args .cells .now) (c .before .before .before .before .before .before .before .before .before .before .args .nodes .now) (c .before .before .before .plainly .result) (c .before .before .before .plainly .ensures .answer) (sym (c .before .before .is-refused .ensures) ∙ c .before .if1 .taken) .2)
+returns c = as-match (c .not-matched .ensures) (match-refused (c .before .before .before .before .before .before .before .before .before .before .args .mode) (c .before .before .before .before .before .before .before .before .before .before .args .text .now) (c .before .before .before .before .before .before .before .before .before .before .args .input .now) (c .before .before .before .before .before .before .before .before .before .before .args .cells .now) (c .before .before .before .before .before .before .before .before .before .before .args .nodes .now) (c .before .before .before .plainly .result) (c .before .before .before .plainly .ensures .answer) (sym (c .before .before .is-refused .ensures) ∙ c .before .if1 .taken))
 
 run-requires : tie.Need-run-requires
 run-requires c κs = loopless (c .before .before .before .before .before .before .before .before .before .before .before .before .args .mode) (c .before .before .before .before .before .before .before .before .before .before .before .before .args .text .now) _ (c .before .before .before .before .before .plainly .ensures .clear (sym (c .before .before .before .before .is-refused .ensures) ∙ c .before .before .before .if1 .left)) (c .before .before .before .before .before .plainly .ensures .plain (sym (c .before .before .before .before .is-refused .ensures) ∙ c .before .before .before .if1 .left))

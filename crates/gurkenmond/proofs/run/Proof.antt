@@ -11,17 +11,17 @@ use Rattle.gurkenmond.proofs.run.Tie as tie
 use Rattle.gurkenmond.proofs.run.Reads as reads
 use Rattle.gurkenmond.proofs.run.Lts as lts
 use Rattle.gurkenmond.proofs.listed_match.Reads as listed-match-reads
-use Rattle.gurkenmond.proofs.refused_match.Reads as refused-match-reads
+use Rattle.gurkenmond.proofs.not_matched.Reads as not-matched-reads
 use Rattle.match_nodes.proofs.list.Reads as list-reads
 use Rattle.prepare.proofs.symbols.Reads as symbols-reads
 use Rattle.match_cells.proofs.filling.fill.Reads as fill-reads
 use Rattle.base_words.proofs.word.Reads as word-reads
 
-refused-match-requires : tie.Need-refused-match-requires
-refused-match-requires c κs = search needs
+not-matched-requires : tie.Need-not-matched-requires
+not-matched-requires c κs = search needs
 
 returns : tie.Need-returns
-returns c = ran-long (c .before .before .before .before .before .args .t .now) (c .before .before .before .before .before .args .input .now) (c .before .before .before .before .before .args .cells .now) (c .before .before .before .before .before .args .nodes .now) (c .refused-match .ensures) (c .before .if1 .taken)
+returns c = ran-long (c .before .before .before .before .before .args .t .now) (c .before .before .before .before .before .args .input .now) (c .before .before .before .before .before .args .cells .now) (c .before .before .before .before .before .args .nodes .now) (c .not-matched .ensures) (c .before .if1 .taken)
 
 symbols-requires : tie.Need-symbols-requires
 symbols-requires c κs = search needs
@@ -32,11 +32,11 @@ add-need c = search needs
 mul-need : tie.Need-mul-need
 mul-need c = omega (arith, need-small (c .symbols .result) (length (c .before .before .before .before .before .args .input .now)) (omega (arith, c .symbols .ensures, c .before .before .before .before .before .pre .plain .holds .few-symbols)) (omega (arith, c .before .if1 .left)))
 
-refused-match-requires-2 : tie.Need-refused-match-requires-2
-refused-match-requires-2 c κs = search needs
+not-matched-requires-2 : tie.Need-not-matched-requires-2
+not-matched-requires-2 c κs = search needs
 
 returns-2 : tie.Need-returns-2
-returns-2 c = ran-few (c .before .before .before .before .before .before .before .args .t .now) (c .before .before .before .before .before .before .before .args .input .now) (c .before .before .before .before .before .before .before .args .cells .now) (c .before .before .before .before .before .before .before .args .nodes .now) (c .before .before .symbols .result) _ (c .before .before .symbols .ensures) (omega (arith, c .before .before .before .if1 .left)) refl (c .refused-match2 .ensures) (c .before .if2 .taken)
+returns-2 c = ran-few (c .before .before .before .before .before .before .before .args .t .now) (c .before .before .before .before .before .before .before .args .input .now) (c .before .before .before .before .before .before .before .args .cells .now) (c .before .before .before .before .before .before .before .args .nodes .now) (c .before .before .symbols .result) _ (c .before .before .symbols .ensures) (omega (arith, c .before .before .before .if1 .left)) refl (c .not-matched2 .ensures) (c .before .if2 .taken)
 
 fill-requires : tie.Need-fill-requires
 fill-requires c κs = search needs
@@ -72,12 +72,12 @@ pub run-spec : {M : Type 1} → statement M
 run-spec =
     tie.close
     (tie.spec
-    refused-match-requires
+    not-matched-requires
     returns
     symbols-requires
     add-need
     mul-need
-    refused-match-requires-2
+    not-matched-requires-2
     returns-2
     fill-requires
     word-requires

@@ -1,5 +1,5 @@
 -- `gurkenmond::way_of` meets its contract. Assumes nothing.
-use Rattle.gurkenmond.specs.laws.Asks.{way-rest}
+use native.Mathlib.Omega.{arith}
 use borrow.Author.Needs.{needs}
 use Rattle.gurkenmond.proofs.way_of.Statement.{statement}
 use Rattle.gurkenmond.proofs.way_of.Tie as tie
@@ -16,7 +16,7 @@ returns-3 : tie.Need-returns-3
 returns-3 c = search needs
 
 returns-4 : tie.Need-returns-4
-returns-4 c = way-rest (c .before .args .k) (c .match .rest .0 .0 .1) (c .match .rest .0 .1) (c .match .rest .1)
+returns-4 c = omega (arith, c .match .rest .0 .0 .1, c .match .rest .0 .1, c .match .rest .1)
 
 pub way-of-spec : {M : Type 1} → statement M
 way-of-spec = tie.close (tie.spec returns returns-2 returns-3 returns-4)

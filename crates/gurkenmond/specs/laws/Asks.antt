@@ -29,27 +29,33 @@ use Rattle.match_lake.specs.Asking.{wayIn}
 use Rattle.match_lake.specs.laws.Tables.{way-is}
 use Rattle.prepare.specs.declared.Counted.{Counted}
 use Rattle.prepare.specs.declared.Verdict.{Verdict}
-use Rattle.prepare.specs.declared.Verdict.the-variants.{Refused as VerdictRefused}
+use Rattle.prepare.specs.declared.Verdict.the-variants.{Accepted, Refused as VerdictRefused}
 use Rattle.prepare.specs.Prepare.{Prepared, prepared, preparedBy}
 use Rattle.prepare.specs.Reads.{verdictOf, isRefused, readOf}
 use Rattle.prepare.specs.steps.Loads.{Stands}
 use Rattle.prepare.specs.laws.Reads.{clear-good, clear-loop}
 use Rattle.gurkenmond.specs.declared.Way.{Way}
-use Rattle.gurkenmond.specs.Calls.{LakeAnswer, refusesInput, filled, isLakeAt, wayOf, lakeAfter, lakeOf}
-use Rattle.gurkenmond.specs.steps.Asks.{notAsked, Standing, SaysWay, Asked}
+use Rattle.gurkenmond.specs.declared.LakeWay.{LakeWay}
+use Rattle.gurkenmond.specs.Answers.{verdictSays, waySays}
+use Rattle.gurkenmond.specs.Calls.{LakeAnswer, lakeAnswer, SaysWay, refusesInput, filled, isLakeAt, lakeAfter, lakeOf}
+use Rattle.gurkenmond.specs.steps.Asks.{notAsked, Standing, Asked}
 use Rattle.gurkenmond.specs.Runs.{Loopless}
 use Rattle.gurkenmond.specs.laws.Verdicts.{handed}
 use Rattle.gurkenmond.specs.laws.Matches.{plain-is, loopless, input-long, input-few, enough}
 
-says-by : (r : Way) (cs : List ℕ) (w : LakeAnswer) → record { way = r; cells = cs } ≡ w → SaysWay r cs w
-says-by r cs w e = (ap (λ (x : LakeAnswer). x .way) e, ap (λ (x : LakeAnswer). x .cells) e)
+-- an answer and the cells, in 01's terms
+abbrev told : LakeWay → List ℕ → LakeAnswer
+told r cs = lakeAnswer (waySays (r .way)) (verdictSays (r .verdict)) cs
+
+says-by : (r : LakeWay) (cs : List ℕ) (w : LakeAnswer) → told r cs ≡ w → SaysWay r cs w
+says-by r cs w e = (ap (λ (x : LakeAnswer). x .way) e, ap (λ (x : LakeAnswer). x .verdict) e, ap (λ (x : LakeAnswer). x .cells) e)
 
 pub lake-refused : (m : Mode) (s i cs : List ℕ) (l q : ℕ) (c : Counted) → c ≡ readOf m s → isRefused (c .verdict) ≡ true → SaysWay (notAsked (c .verdict)) cs (lakeOf m s i cs l q)
 unfolding lakeOf verdictOf
 lake-refused m s i cs l q c e h =
     let w = handed m s c e h in
     says-by (notAsked (c .verdict)) cs (lakeOf m s i cs l q)
-    (ap (λ (v : Verdict). record { way = notAsked v; cells = cs }) (w .2)
+    (ap (λ (v : Verdict). told (notAsked v) cs) (w .2)
     ∙ sym (ap (λ (o : Option Refusal). lakeAfter (o ▸ (refusesInput (prepared m s) i cs ▸ refuseIf (not (isLakeAt (prepared m s) l && leb q (length i))) 14 0)) (prepared m s) i cs l q) (w .1)))
 
 -- as many symbols as the grammar has
@@ -149,10 +155,10 @@ module _ (m : Mode) (s t mid : List ℕ) (ms : List Bool) (sets : List (List ℕ
                 ∙ ap (λ (z : List ℕ). wayIn g i new n z l q) (set-is a x)
                 ∙ ap₂ (λ (cs : List ℕ) (k : ℕ). wayIn g i cs k (altOf (analysis g) l) l q) cells-are count-is
 
-            pub lake-answered : (a : List ℕ) (w : ℕ) (r : Way) → a ≡ getD alts (rootIn mid l) empty → w ≡ wayIn (grammarIn t) i new n a l q → r ≡ wayOf w → SaysWay r new (lakeOf m s i cs l q)
+            pub lake-answered : (a : List ℕ) (w : ℕ) (r : Way) → a ≡ getD alts (rootIn mid l) empty → w ≡ wayIn (grammarIn t) i new n a l q → waySays r ≡ w → SaysWay (record { way = r; verdict = Accepted }) new (lakeOf m s i cs l q)
             lake-answered a w r x y z =
-                says-by r new (lakeOf m s i cs l q)
-                (ap₂ (λ (v : Way) (c : List ℕ). record { way = v; cells = c }) (z ∙ ap wayOf (way-all a w x y)) cells-are ∙ by-checks none none input-none checks)
+                says-by (record { way = r; verdict = Accepted }) new (lakeOf m s i cs l q)
+                (ap₂ (λ (v : ℕ) (c : List ℕ). lakeAnswer v none c) (z ∙ way-all a w x y) cells-are ∙ by-checks none none input-none checks)
 
 -- ── as the code has it ──
 module _ {t mid : List ℕ} {alts : List (List ℕ)} {out : List ℕ} (w : Standing t mid alts out) where
@@ -165,36 +171,31 @@ module _ {t mid : List ℕ} {alts : List (List ℕ)} {out : List ℕ} (w : Stand
   pub standing-terminals : terminalCount t ≤ 64
   standing-terminals = w .stands .table .few-terminals
 
-two : {r r′ : Way} {cs : List ℕ} {x : LakeAnswer} → r ≡ r′ → SaysWay r′ cs x → SaysWay r cs x
-two e s = (e ∙ s .0, s .1)
+-- the same answer says the same
+pub as-way : {r r′ : LakeWay} {cs : List ℕ} {x : LakeAnswer} → r ≡ r′ → SaysWay r′ cs x → SaysWay r cs x
+as-way e s = (ap (λ (x : LakeWay). waySays (x .way)) e ∙ s .0, ap (λ (x : LakeWay). verdictSays (x .verdict)) e ∙ s .1, s .2)
 
 module _ {t mid : List ℕ} {alts : List (List ℕ)} {out : List ℕ} (i cs : List ℕ) (l q : ℕ) where
-  pub asked-long : {r : Way} → r ≡ notAsked (VerdictRefused 9 65535) → 65535 < length i → Asked t mid alts out i cs l q cs r
-  asked-long e h = record { are = λ m s ms sets eps succ rounds st. two e (lake-long m s t mid ms sets eps succ alts out rounds st i cs l q h) }
+  pub asked-long : {r : LakeWay} → r ≡ notAsked (VerdictRefused 9 65535) → 65535 < length i → Asked t mid alts out i cs l q cs r
+  asked-long e h = record { are = λ m s ms sets eps succ rounds st. as-way e (lake-long m s t mid ms sets eps succ alts out rounds st i cs l q h) }
 
   module _ (n need : ℕ) (e : n ≡ symbolCount out) (short : length i ≤ 65535) (f : need ≡ n * (length i + 1)) where
-    pub asked-few : {r : Way} → r ≡ notAsked (VerdictRefused 10 need) → length cs < need → Asked t mid alts out i cs l q cs r
-    asked-few z h = record { are = λ m s ms sets eps succ rounds st. two z (lake-few m s t mid ms sets eps succ alts out rounds st i cs l q n need e short f h) }
+    pub asked-few : {r : LakeWay} → r ≡ notAsked (VerdictRefused 10 need) → length cs < need → Asked t mid alts out i cs l q cs r
+    asked-few z h = record { are = λ m s ms sets eps succ rounds st. as-way z (lake-few m s t mid ms sets eps succ alts out rounds st i cs l q n need e short f h) }
 
     module _ (room : need ≤ length cs) where
-      pub asked-past : {r : Way} → r ≡ notAsked (VerdictRefused 14 0) → n ≤ l → Asked t mid alts out i cs l q cs r
-      asked-past z h = record { are = λ m s ms sets eps succ rounds st. two z (lake-past m s t mid ms sets eps succ alts out rounds st i cs l q n need e short f room h) }
+      pub asked-past : {r : LakeWay} → r ≡ notAsked (VerdictRefused 14 0) → n ≤ l → Asked t mid alts out i cs l q cs r
+      asked-past z h = record { are = λ m s ms sets eps succ rounds st. as-way z (lake-past m s t mid ms sets eps succ alts out rounds st i cs l q n need e short f room h) }
 
       module _ (there : l < n) where
-        pub asked-other : {r : Way} → r ≡ notAsked (VerdictRefused 14 0) → lakeIn mid l ≡ false → Asked t mid alts out i cs l q cs r
-        asked-other z h = record { are = λ m s ms sets eps succ rounds st. two z (lake-other m s t mid ms sets eps succ alts out rounds st i cs l q n need e short f room there h) }
+        pub asked-other : {r : LakeWay} → r ≡ notAsked (VerdictRefused 14 0) → lakeIn mid l ≡ false → Asked t mid alts out i cs l q cs r
+        asked-other z h = record { are = λ m s ms sets eps succ rounds st. as-way z (lake-other m s t mid ms sets eps succ alts out rounds st i cs l q n need e short f room there h) }
 
-        pub asked-behind : {r : Way} → r ≡ notAsked (VerdictRefused 14 0) → lakeIn mid l ≡ true → length i < q → Asked t mid alts out i cs l q cs r
-        asked-behind z h k = record { are = λ m s ms sets eps succ rounds st. two z (lake-behind m s t mid ms sets eps succ alts out rounds st i cs l q n need e short f room there h k) }
+        pub asked-behind : {r : LakeWay} → r ≡ notAsked (VerdictRefused 14 0) → lakeIn mid l ≡ true → length i < q → Asked t mid alts out i cs l q cs r
+        asked-behind z h k = record { are = λ m s ms sets eps succ rounds st. as-way z (lake-behind m s t mid ms sets eps succ alts out rounds st i cs l q n need e short f room there h k) }
 
-        pub asked-all : lakeIn mid l ≡ true → q ≤ length i → (new : List ℕ) → Fills out i cs new → (a : List ℕ) (w : ℕ) (r : Way) → a ≡ getD alts (rootIn mid l) empty → w ≡ wayIn (grammarIn t) i new n a l q → r ≡ wayOf w
-            → Asked t mid alts out i cs l q new r
+        pub asked-all : lakeIn mid l ≡ true → q ≤ length i → (new : List ℕ) → Fills out i cs new → (a : List ℕ) (w : ℕ) (r : Way) → a ≡ getD alts (rootIn mid l) empty → w ≡ wayIn (grammarIn t) i new n a l q → waySays r ≡ w
+            → Asked t mid alts out i cs l q new (record { way = r; verdict = Accepted })
         asked-all is k new fills a w r x y z = record {
           are = λ m s ms sets eps succ rounds st. lake-answered m s t mid ms sets eps succ alts out rounds st i cs l q n need e short f room there is k new fills a w r x y z;
         }
-
-pub way-rest : (k : ℕ) → (k ≡ 0 → ⊥) → (k ≡ 1 → ⊥) → (k ≡ 2 → ⊥) → wayOf 3 ≡ wayOf k
-way-rest zero f g h = absurd (f refl)
-way-rest (suc zero) f g h = absurd (g refl)
-way-rest (suc (suc zero)) f g h = absurd (h refl)
-way-rest (suc (suc (suc k))) f g h = refl

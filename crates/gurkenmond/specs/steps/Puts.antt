@@ -5,21 +5,20 @@ use mathlib.Core.Bool.{Bool, true, false}
 use mathlib.Core.List.{List}
 use Rattle.prepare.specs.declared.Verdict.{Verdict}
 use Rattle.prepare.specs.declared.Verdict.the-variants.{Accepted, Refused as VerdictRefused}
-use Rattle.write_text.specs.steps.Texts.{textOf, Paged}
+use Rattle.write_text.specs.steps.Texts.{Paged}
 use Rattle.gurkenmond.specs.declared.Written.{Written}
-use Rattle.gurkenmond.specs.declared.Written.the-variants.{Bytes, Refused as WrittenRefused}
+
+-- a refusal, handed on
+abbrev pub notWritten : Verdict → Written
+notWritten v = record { bytes = 0; verdict = v }
 
 abbrev pub answerBy : Bool → ℕ → Written
-answerBy true n = Bytes n
-answerBy false n = WrittenRefused 13 n
+answerBy true n = record { bytes = n; verdict = Accepted }
+answerBy false n = notWritten (VerdictRefused 13 n)
 
--- a refusal of `read`, handed on
-abbrev pub notWritten : Verdict → Written
-notWritten Accepted = Bytes 0
-notWritten (VerdictRefused n p) = WrittenRefused n p
-
-pub record PutText (plain : Bool) (t old new : List ℕ) (r : Written) : Type 0 where
+-- the text w put into room that was `old`
+pub record Put (w old new : List ℕ) (r : Written) : Type 0 where
   pub bytes : ℕ
   pub fits : Bool
-  pub paged : Paged (textOf plain t) old new bytes fits
+  pub paged : Paged w old new bytes fits
   pub answer : r ≡ answerBy fits bytes

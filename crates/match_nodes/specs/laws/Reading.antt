@@ -10,7 +10,7 @@ use lib.ListN.{length, getD, take, drop}
 use borrow.Author.Tests.{le-leb, lt-leb, leb-true}
 use Rattle.base_facts.specs.laws.Bools.{and-parts}
 use Rattle.read_tokens.specs.Bounds.{nodeWords}
-use Rattle.match_nodes.specs.Nodes.{nodeAt, soundAt, partOf, nodeText}
+use Rattle.match_nodes.specs.Nodes.{nodeAt, soundAt, partOf, nodeText, nodeStart}
 use Rattle.match_nodes.specs.steps.Spans.{Spans}
 
 module _ (ws : List ℕ) (k n : ℕ) where
@@ -28,24 +28,26 @@ module _ (ws : List ℕ) (k n : ℕ) where
     sound-else h = rw (le-leb (4 * suc k) (length ws) (omega (arith, whole)), ← start, ← end, le-leb a b h)
 
     pub span-is : true ≡ soundAt ws k n → Spans ws k n a b
-    unfolding soundAt nodeAt nodeWords nodeText
+    unfolding soundAt nodeAt nodeWords nodeText nodeStart
     span-is h =
         let e : leb (4 * suc k) (length ws) ≡ true = le-leb (4 * suc k) (length ws) (omega (arith, whole)) in
         let f : (leb a b && leb b n) ≡ true = rw (start, end) (and-parts (leb (4 * suc k) (length ws)) _ (flip h) .1) in
         record {
           forward = leb-true a b (and-parts (leb a b) (leb b n) f .0);
           inside = leb-true b n (and-parts (leb a b) (leb b n) f .1);
+          from = start ∙ ap (λ (x : Bool). cond x (nodeAt ws k .start) 0) h;
           text = λ s g.
               ap (λ (x : ℕ). take (x - a) (drop a s)) end ∙ ap (λ (x : ℕ). take (getD ws (4 * k + 2) 0 - x) (drop x s)) start
               ∙ ap (λ (x : Bool). cond x (partOf s (nodeAt ws k)) []) (h ∙ ap (soundAt ws k) (flip g));
         }
 
   pub span-none : false ≡ soundAt ws k n → Spans ws k n 0 0
-  unfolding nodeText
+  unfolding nodeText nodeStart
   span-none h =
       record {
         forward = omega arith;
         inside = omega arith;
+        from = ap (λ (x : Bool). cond x (nodeAt ws k .start) 0) h;
         text = λ s g. nothing s ∙ ap (λ (x : Bool). cond x (partOf s (nodeAt ws k)) []) (h ∙ ap (soundAt ws k) (flip g));
       }
     where

@@ -3,10 +3,11 @@ use Prim.Native.Nat.{ℕ, _-_, _≤_}
 use mathlib.Core.Path.{_≡_}
 use mathlib.Core.List.{List}
 use lib.ListN.{length, take, drop}
-use Rattle.match_nodes.specs.Nodes.{nodeText}
+use Rattle.match_nodes.specs.Nodes.{nodeText, nodeStart}
 
 -- of any text of n bytes, from a to b
 pub record Spans (ws : List ℕ) (k n a b : ℕ) : Type 0 where
   pub forward : a ≤ b
   pub inside : b ≤ n
+  pub from : a ≡ nodeStart ws k n
   pub text : (s : List ℕ) → length s ≡ n → take (b - a) (drop a s) ≡ nodeText s ws k

@@ -1,5 +1,7 @@
 -- `match_nodes::nodes::text` meets its contract. Assumes nothing.
-use mathlib.Core.Path.{refl}
+use Prim.Native.Nat.{ℕ}
+use mathlib.Core.Path.{refl, ap}
+use native.Mathlib.Omega.{arith}
 use borrow.Author.Needs.{needs}
 use Rattle.match_nodes.proofs.nodes.text.Statement.{statement}
 use Rattle.match_nodes.proofs.nodes.text.Tie as tie
@@ -20,7 +22,7 @@ part-result-end : tie.Need-part-result-end
 part-result-end c = search needs
 
 returns : tie.Need-returns
-returns c = c .before .span .ensures .text (c .before .before .before .before .args .input .now) refl
+returns c = record { bytes = c .before .span .ensures .text (c .before .before .before .before .args .input .now) refl; place = ap (λ (j : ℕ). (c .before .before .before .before .args .input .ptr .0, j)) (omega (arith, c .before .span .ensures .from)) }
 
 pub text-spec : {M : Type 1} → statement M
 text-spec = tie.close (tie.spec span-requires sub-result part-result-start part-result-end returns)

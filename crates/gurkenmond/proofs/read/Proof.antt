@@ -1,0 +1,17 @@
+-- `gurkenmond::read` meets its contract. Assumes nothing.
+use Rattle.gurkenmond.specs.laws.Answers.{read-told}
+use borrow.Author.Needs.{needs}
+use Rattle.gurkenmond.proofs.read.Statement.{statement}
+use Rattle.gurkenmond.proofs.read.Tie as tie
+use Rattle.gurkenmond.proofs.read.Reads as reads
+use Rattle.gurkenmond.proofs.read.Lts as lts
+use Rattle.prepare.proofs.plainly.Reads as plainly-reads
+
+plainly-requires : tie.Need-plainly-requires
+plainly-requires c κs = search needs
+
+returns : tie.Need-returns
+returns c = read-told (c .before .before .before .before .args .mode) (c .before .before .before .before .args .text .now) (c .plainly .result) (c .plainly .ensures .answer)
+
+pub read-spec : {M : Type 1} → statement M
+read-spec = tie.close (tie.spec plainly-requires returns)
