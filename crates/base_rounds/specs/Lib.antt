@@ -1,3 +1,4 @@
 pub mod Rounds
+pub mod Sets
 pub mod Flow
 pub mod laws

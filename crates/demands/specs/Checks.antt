@@ -1,64 +1,62 @@
--- The checks of each call as a list, in the order of the table (01, Refusal numbers, in order of check). Assumes nothing: these are definitions.
-use Prim.Native.Nat.{ℕ}
+-- The order of checks: of each call the list of the rows that it looks at (01, Refusal numbers, in order of check). Assumes nothing: these are definitions.
+use Prim.Native.Nat.{ℕ, _≤_}
 use mathlib.Core.Path.{_≡_}
-use mathlib.Core.Bool.{not, _&&_}
+use mathlib.Core.Bool.{true}
 use mathlib.Core.List.{List, [], _∷_, _++_}
-use mathlib.Core.Option.{Option, none, some}
+use mathlib.Core.Logic.{_⊎_}
 use lib.ListN.{length}
-use lib.Dec.{ltb, leb}
 use Rattle.read_tokens.specs.declared.Mode.{Mode}
-use Rattle.read_tokens.specs.Bounds.{inputBound}
-use Rattle.read_tokens.specs.Tokens.{lexemes}
-use Rattle.grammar.specs.Refusal.{Refusal, refuseIf, refuseAt, _▸_}
-use Rattle.read_syntax.specs.Machine.{start, judge}
-use Rattle.read_syntax.specs.Reading.{tooLong, offence, second, unruled, leftsIn, tooMany, rulesOf}
 use Rattle.lake_sets.specs.Analysis.{isExpression}
-use Rattle.lake_step_two.specs.Plain.{tooLarge}
-use Rattle.lake_calls.specs.Calls.{looping}
+use Rattle.lake_step_two.specs.Plain.{plainRules}
+use Rattle.write_rules.specs.Writing.{text}
 use Rattle.prepare.specs.Prepare.{prepared}
-use Rattle.gurkenmond.specs.Calls.{cellsNeeded, isLakeAt}
+use Rattle.gurkenmond.specs.Calls.{isLakeAt}
+use Rattle.demands.specs.Rows.{Row, Row1, Row2, Row3, Row4, Row5, Row6, Row7, Row8, Row9, Row10, Row11, Row12, Row13, Row14}
 
--- 1; 2 and 3; 4; 5; 6; 7; 8. Each in the table's words: Row1 to Row8 of Rows.antt
-abbrev pub checksOf : Mode → List ℕ → List (Option Refusal)
-checksOf m t =
-    tooLong m t
-    ∷ offence (length t) (lexemes m t) (judge m 0 start (lexemes m t))
-    ∷ refuseAt 4 (second m [] (lexemes m t))
-    ∷ refuseAt 5 (unruled (leftsIn (lexemes m t)) (lexemes m t))
-    ∷ tooMany m (rulesOf m t)
-    ∷ tooLarge (prepared m t .bodies)
-    ∷ looping (prepared m t .bodies)
-    ∷ []
+-- the row holds nowhere
+abbrev pub Never : Row → Type 0
+Never R = (p : ℕ) → R .holds p → ⊥
 
--- "a match then 9 to 12": before the cells are filled, 9 and 10
-abbrev pub matchChecks : Mode → List ℕ → List ℕ → List ℕ → List (Option Refusal)
-matchChecks m t s cs =
-    checksOf m t
-    ++ (refuseIf (ltb inputBound (length s)) 9 inputBound ∷ refuseIf (ltb (length cs) (cellsNeeded (prepared m t) s)) 10 (cellsNeeded (prepared m t) s) ∷ [])
+-- refused k at p by a list: row k of the list holds at p, and no row before it in the list holds anywhere
+abbrev pub FirstRow : List Row → ℕ → ℕ → Type 0
+FirstRow [] k p = ⊥
+FirstRow (R ∷ l) k p = ((R .number ≡ k) × R .holds p) ⊎ (Never R × FirstRow l k p)
 
--- "the lake question 9, 10, then 14"
-abbrev pub lakeChecks : Mode → List ℕ → List ℕ → List ℕ → ℕ → ℕ → List (Option Refusal)
-lakeChecks m t s cs l q = matchChecks m t s cs ++ (refuseIf (not (isLakeAt (prepared m t) l && leb q (length s))) 14 0 ∷ [])
+-- not refused: no row of the list holds
+abbrev pub NoRow : List Row → Type 0
+NoRow [] = Unit {0}
+NoRow (R ∷ l) = Never R × NoRow l
 
-abbrev pub setsChecks : Mode → List ℕ → ℕ → List (Option Refusal)
-setsChecks m t e = checksOf m t ++ (refuseIf (not (isExpression (prepared m t .analysis) e)) 14 0 ∷ [])
+module _ (m : Mode) (t : List ℕ) where
+  -- what is looked at before there is a grammar
+  abbrev pub textChecks : List Row
+  textChecks = Row1 m t ∷ Row2 m t ∷ Row3 m t ∷ Row4 m t ∷ Row5 m t ∷ []
 
--- of the bytes w
-abbrev pub writeChecks : Mode → List ℕ → List ℕ → List ℕ → List (Option Refusal)
-writeChecks m t w out = checksOf m t ++ (refuseIf (ltb (length out) (length w)) 13 (length w) ∷ [])
+  -- "Every call on a grammar checks 1 to 8"
+  abbrev pub checks : List Row
+  checks = textChecks ++ (Row6 m t ∷ Row7 m t ∷ Row8 m t ∷ [])
 
--- the first check that refuses
-unfoldable pub firstOf : List (Option Refusal) → Option Refusal
-firstOf [] = none
-firstOf (o ∷ l) = o ▸ firstOf l
+  -- "a match then 9 to 12": 9 and 10 before the cells are filled, 11 and 12 on the list of nodes
+  abbrev pub inputChecks : List ℕ → List ℕ → List Row
+  inputChecks s cs = checks ++ (Row9 s ∷ Row10 m t s cs ∷ [])
 
-abbrev pub AllPass : List (Option Refusal) → Type 0
-AllPass [] = Unit {0}
-AllPass (o ∷ l) = (o ≡ none) × AllPass l
+  abbrev pub matchChecks : List ℕ → List ℕ → List ℕ → List Row
+  matchChecks s cs ws = inputChecks s cs ++ (Row11 m t s ws ∷ Row12 m t s ws ∷ [])
 
--- one check refuses, and every check before it lets through
-pub record Refuses (l : List (Option Refusal)) (r : Refusal) : Type 0 where
-  pub front : List (Option Refusal)
-  pub behind : List (Option Refusal)
-  pub splits : l ≡ front ++ (some r ∷ behind)
-  pub pass : AllPass front
+  -- "the lake question 9, 10, then 14"
+  abbrev pub lakeChecks : List ℕ → List ℕ → ℕ → ℕ → List Row
+  lakeChecks s cs l q = inputChecks s cs ++ (Row14 ((isLakeAt (prepared m t) l ≡ true) × (q ≤ length s)) ∷ [])
+
+  abbrev pub setsChecks : ℕ → List Row
+  setsChecks e = checks ++ (Row14 (isExpression (prepared m t .analysis) e ≡ true) ∷ [])
+
+  -- writing then 13, of the bytes w
+  abbrev pub writeChecks : List ℕ → List ℕ → List Row
+  writeChecks w out = checks ++ (Row13 w out ∷ [])
+
+  -- the bytes: "Rules that the grammar has (in plain, every symbol's)" (01, Writing)
+  abbrev pub ownText : List ℕ
+  ownText = text (prepared m t .rules)
+
+  abbrev pub plainText : List ℕ
+  plainText = text (plainRules (prepared m t .grammar) (prepared m t .analysis))

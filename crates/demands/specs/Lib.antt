@@ -4,4 +4,5 @@ pub mod Ways
 pub mod Rows
 pub mod Checks
 pub mod Meets
+pub mod Demands
 pub mod laws

@@ -17,7 +17,7 @@ use Rattle.match_meaning.specs.Meaning.{Body, rule, lake, Meant}
 use Rattle.match_cells.specs.Eval.{nowhere}
 use Rattle.prepare.specs.Prepare.{prepared}
 
--- a lake is its own right side, if it has a rule, and its alternative symbols; a nonterminal is its right side, and refusal 5 sees to it that there is one
+-- a lake is its own right side, if it has a rule, and its alternative symbols; a nonterminal is its right side: it has one (laws/Ruled.antt)
 abbrev pub standsFor : Bool → Option (Exp ℕ) → List (Exp ℕ) → Body
 standsFor true o ss = lake o ss
 standsFor false o ss = rule (rightOr o)

@@ -16,7 +16,7 @@ use Rattle.gurkenmond.specs.Answers.{value as Matched, nomatch as NoMatch, refu
 use Rattle.gurkenmond.specs.Calls.{Matching, matching, LakeAnswer, lakeAnswer}
 use Rattle.demands.specs.Meant.{meant, rightAt, alternativesAt}
 use Rattle.demands.specs.Offends.{Fits, TooDeep, NoRoom}
-use Rattle.demands.specs.Rows.{MatchRows, LakeRows, FirstRow, NoRow}
+use Rattle.demands.specs.Checks.{FirstRow, NoRow, inputChecks, lakeChecks}
 use Rattle.demands.specs.Ways.{Ways}
 
 -- R
@@ -39,25 +39,25 @@ pub record Listed (ws : List ℕ) (ns : List Node) (w : List ℕ) : Type 0 where
 -- s the input, cs the work cells, ws the node words that are lent
 pub data Meets (m : Mode) (t s cs ws : List ℕ) : Matching → Type 0 where
   -- "A refusal that is checked no later than 10 leaves all lent memory untouched"
-  refused : {k p : ℕ} → FirstRow (MatchRows m t s cs) k p → Meets m t s cs ws (matching 0 (OutcomeRefused k p) cs ws)
+  refused : {k p : ℕ} → FirstRow (inputChecks m t s cs) k p → Meets m t s cs ws (matching 0 (OutcomeRefused k p) cs ws)
   -- "No match is an answer: no node written, cells filled"
-  fails : {c : List ℕ} {ns : List Node} → NoRow (MatchRows m t s cs) → Tabled m t s cs c → Derives (meant m t) s 0 (sym 0) 0 0 ns
+  fails : {c : List ℕ} {ns : List Node} → NoRow (inputChecks m t s cs) → Tabled m t s cs c → Derives (meant m t) s 0 (sym 0) 0 0 ns
       → Meets m t s cs ws (matching 0 NoMatch c ws)
   -- the start symbol takes k bytes, and its nodes fit
-  takes : {k : ℕ} {c w : List ℕ} {ns : List Node} → NoRow (MatchRows m t s cs) → Tabled m t s cs c → Derives (meant m t) s 0 (sym 0) 0 (suc k) ns
+  takes : {k : ℕ} {c w : List ℕ} {ns : List Node} → NoRow (inputChecks m t s cs) → Tabled m t s cs c → Derives (meant m t) s 0 (sym 0) 0 (suc k) ns
       → Fits (roomOf ws) ns → Listed ws ns w
       → Meets m t s cs ws (matching (length ns) (Matched k) c w)
   -- "after one of a match that is checked later the cells hold the table"
-  too-deep : {k j : ℕ} {c : List ℕ} {ns : List Node} → NoRow (MatchRows m t s cs) → Tabled m t s cs c → Derives (meant m t) s 0 (sym 0) 0 (suc k) ns
+  too-deep : {k j : ℕ} {c : List ℕ} {ns : List Node} → NoRow (inputChecks m t s cs) → Tabled m t s cs c → Derives (meant m t) s 0 (sym 0) 0 (suc k) ns
       → TooDeep (roomOf ws) ns j
       → Meets m t s cs ws (matching 0 (OutcomeRefused 11 j) c ws)
-  no-room : {k j : ℕ} {c : List ℕ} {ns : List Node} → NoRow (MatchRows m t s cs) → Tabled m t s cs c → Derives (meant m t) s 0 (sym 0) 0 (suc k) ns
+  no-room : {k j : ℕ} {c : List ℕ} {ns : List Node} → NoRow (inputChecks m t s cs) → Tabled m t s cs c → Derives (meant m t) s 0 (sym 0) 0 (suc k) ns
       → NoRoom (roomOf ws) ns j
       → Meets m t s cs ws (matching 0 (OutcomeRefused 12 j) c ws)
 
 -- the same of the lake question, for lake l at place q
 pub data MeetsLake (m : Mode) (t s cs : List ℕ) (l q : ℕ) : LakeAnswer → Type 0 where
-  lake-refused : {k p : ℕ} → FirstRow (LakeRows m t s cs l q) k p → MeetsLake m t s cs l q (lakeAnswer 0 (some (refusal k p)) cs)
-  lake-answered : {w : ℕ} {c : List ℕ} → NoRow (LakeRows m t s cs l q) → Tabled m t s cs c
+  lake-refused : {k p : ℕ} → FirstRow (lakeChecks m t s cs l q) k p → MeetsLake m t s cs l q (lakeAnswer 0 (some (refusal k p)) cs)
+  lake-answered : {w : ℕ} {c : List ℕ} → NoRow (lakeChecks m t s cs l q) → Tabled m t s cs c
       → Ways (meant m t) s 0 (rightAt (prepared m t .grammar) l) (alternativesAt (prepared m t .grammar) (prepared m t .analysis) l) q w
       → MeetsLake m t s cs l q (lakeAnswer w none c)

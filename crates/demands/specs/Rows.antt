@@ -1,28 +1,34 @@
--- The table of refusals, row by row, in its own words: which number holds, and at which place (01, Refusal numbers, in order of check).
--- Assumes nothing: these are definitions.
+-- The table of refusals, row by row, in its own words: where a row holds (01, Refusal numbers, in order of check). In which order a call looks at them
+-- is said in Checks.antt. Assumes nothing: these are definitions.
 use Prim.Native.Nat.{ℕ, zero, suc, _≤_, _<_}
 use mathlib.Core.Path.{_≡_}
 use mathlib.Core.Bool.{Bool, true, false}
 use mathlib.Core.List.{List, _∷_}
-use mathlib.Core.Logic.{_⊎_}
-use mathlib.Core.Option.{Option, none, some}
 use lib.ListN.{length}
 use Rattle.read_tokens.specs.declared.Mode.{Mode}
 use Rattle.read_tokens.specs.Token.{Symbol, Lexeme, name, symbol}
 use Rattle.read_tokens.specs.Tokens.{lexemes}
 use Rattle.read_tokens.specs.Bounds.{textBound, symbolBound, terminalBound, expressionBound, plainBound, inputBound}
-use Rattle.grammar.specs.Exp.{Rule}
+use Rattle.grammar.specs.Exp.{Rule, sym}
 use Rattle.grammar.specs.Numbers.{symbolsOf, terminalsOf, expressionsOf}
-use Rattle.grammar.specs.Refusal.{Refusal}
 use Rattle.read_syntax.specs.Machine.{syntax, wide, placeOf}
-use Rattle.read_syntax.specs.Reading.{before, reserved, rulesOf}
-use Rattle.read_syntax.specs.laws.Bounds.{Says}
-use Rattle.lake_sets.specs.Analysis.{isExpression}
+use Rattle.read_syntax.specs.Offence.{Says}
+use Rattle.read_syntax.specs.Grammar.{GrammarOf}
+use Rattle.read_syntax.specs.Reading.{before, reserved}
 use Rattle.lake_step_two.specs.Plain.{sizes}
 use Rattle.lake_calls.specs.Calls.{callsOf}
-use Rattle.lake_calls.specs.laws.Reaches.{Smallest}
-use Rattle.prepare.specs.Prepare.{prepared}
-use Rattle.gurkenmond.specs.Calls.{cellsNeeded, isLakeAt}
+use Rattle.lake_calls.specs.laws.Reaches.{Reaches}
+use Rattle.match_meaning.specs.Meaning.{Node, Derives}
+use Rattle.match_nodes.specs.Nodes.{roomOf}
+use Rattle.prepare.specs.Prepare.{prepared, preparedBy}
+use Rattle.gurkenmond.specs.Calls.{cellsNeeded}
+use Rattle.demands.specs.Meant.{meant}
+use Rattle.demands.specs.Offends.{TooDeep, NoRoom}
+
+-- "a refusal has a number and a place": a row has its number, and says at which places it holds
+pub record Row : Type 1 where
+  pub number : ℕ
+  pub holds : ℕ → Type 0
 
 -- ── the tokens that 4 and 5 speak of ──
 -- token i is the name or lake h; followed by an arrow it is a left side (true), else a use (false)
@@ -52,73 +58,76 @@ pub data TooMany (m : Mode) (rs : List Rule) : ℕ → Type 0 where
   terminals : length (symbolsOf rs) ≤ symbolBound → terminalBound < length (terminalsOf rs) → TooMany m rs 2
   expressions : length (symbolsOf rs) ≤ symbolBound → length (terminalsOf rs) ≤ terminalBound → expressionBound m < expressionsOf rs → TooMany m rs 3
 
--- ── the rows: number k holds, at place p ──
--- refused k at p if a number is over its bound
-abbrev pub Over : ℕ → ℕ → ℕ → ℕ → ℕ → ℕ → Type 0
-Over number place bound n k p = (k ≡ number) × (p ≡ place) × (bound < n)
+-- ── "a loop is a symbol that reaches itself", one first call after the other; "smallest symbol on one" ──
+pub record OnLoop (calls : List ℕ) (p : ℕ) : Type 0 where
+  pub within : p < length calls
+  pub loops : Reaches calls p p
+  pub smallest : (y : ℕ) → y < p → Reaches calls y y → ⊥
+
+-- ── the rows ──
+-- n is over its bound
+abbrev pub Over : ℕ → ℕ → ℕ → ℕ → Row
+Over number place bound n = record { number = number; holds = λ p. (p ≡ place) × (bound < n) }
 
 module _ (m : Mode) (t : List ℕ) where
   -- "grammar text too long": its bound
-  abbrev pub Row1 : ℕ → ℕ → Type 0
-  Row1 k p = Over 1 (textBound m) (textBound m) (length t) k p
+  abbrev pub Row1 : Row
+  Row1 = Over 1 (textBound m) (textBound m) (length t)
 
   -- "syntax": "first token .. at which what stands before could still begin a grammar and with it could not"
-  abbrev pub Row2 : ℕ → ℕ → Type 0
-  Row2 k p = (k ≡ 2) × ((i : ℕ) × Says m (lexemes m t) (syntax i) × (p ≡ placeOf (length t) (lexemes m t) i))
+  abbrev pub Row2 : Row
+  Row2 = record { number = 2; holds = λ p. (i : ℕ) × Says m (lexemes m t) (syntax i) × (p ≡ placeOf (length t) (lexemes m t) i) }
 
   -- "name, literal or parenthesis over its bound": that token. "2 and 3: the leftmost place decides, then 2"
-  abbrev pub Row3 : ℕ → ℕ → Type 0
-  Row3 k p = (k ≡ 3) × ((i : ℕ) × Says m (lexemes m t) (wide i) × (p ≡ placeOf (length t) (lexemes m t) i))
+  abbrev pub Row3 : Row
+  Row3 = record { number = 3; holds = λ p. (i : ℕ) × Says m (lexemes m t) (wide i) × (p ≡ placeOf (length t) (lexemes m t) i) }
 
   -- "second left side, or reserved name": "leftmost such token"
-  abbrev pub Row4 : ℕ → ℕ → Type 0
-  Row4 k p = (k ≡ 4) × FirstToken (Doubled m (lexemes m t)) (length t) (lexemes m t) p
+  abbrev pub Row4 : Row
+  Row4 = record { number = 4; holds = FirstToken (Doubled m (lexemes m t)) (length t) (lexemes m t) }
 
   -- "nonterminal without a rule": "first such use"
-  abbrev pub Row5 : ℕ → ℕ → Type 0
-  Row5 k p = (k ≡ 5) × FirstToken (Ruleless (lexemes m t)) (length t) (lexemes m t) p
+  abbrev pub Row5 : Row
+  Row5 = record { number = 5; holds = FirstToken (Ruleless (lexemes m t)) (length t) (lexemes m t) }
 
-  abbrev pub Row6 : ℕ → ℕ → Type 0
-  Row6 k p = (k ≡ 6) × TooMany m (rulesOf m t) p
+  -- so much for a text that need not be a grammar; the others speak of the grammar that it is
+  abbrev pub Grammarly : (List Rule → Type 0) → Type 0
+  Grammarly P = (g : List Rule) × GrammarOf m t g × P g
+
+  abbrev pub Row6 : Row
+  Row6 = record { number = 6; holds = λ p. Grammarly (λ g. TooMany m g p) }
 
   -- "translation over 1,024 expressions": 1,025
-  abbrev pub Row7 : ℕ → ℕ → Type 0
-  Row7 k p = Over 7 (suc plainBound) plainBound (sizes (prepared m t .bodies)) k p
+  abbrev pub Row7 : Row
+  Row7 = record { number = 7; holds = λ p. (p ≡ suc plainBound) × Grammarly (λ g. plainBound < sizes (preparedBy g .bodies)) }
 
   -- "loop": "smallest symbol on one"
-  abbrev pub Row8 : ℕ → ℕ → Type 0
-  Row8 k p = (k ≡ 8) × Smallest (callsOf (prepared m t .bodies)) (length (callsOf (prepared m t .bodies))) 0 p
+  abbrev pub Row8 : Row
+  Row8 = record { number = 8; holds = λ p. Grammarly (λ g. OnLoop (callsOf (preparedBy g .bodies)) p) }
 
-  -- 1 to 8
-  abbrev pub Rows : ℕ → ℕ → Type 0
-  Rows k p = Row1 k p ⊎ ((Row2 k p ⊎ Row3 k p) ⊎ (Row4 k p ⊎ (Row5 k p ⊎ (Row6 k p ⊎ (Row7 k p ⊎ Row8 k p)))))
+  -- "work cells fewer than R·(n+1)": that number
+  abbrev pub Row10 : List ℕ → List ℕ → Row
+  Row10 s cs = Over 10 (cellsNeeded (prepared m t) s) (length cs) (cellsNeeded (prepared m t) s)
 
-  -- a match then 9 and 10: "input too long": 65,535; "work cells fewer than R·(n+1)": that number
-  abbrev pub MatchRows : List ℕ → List ℕ → ℕ → ℕ → Type 0
-  MatchRows s cs k p = Rows k p
-      ⊎ (Over 9 inputBound inputBound (length s) k p ⊎ Over 10 (cellsNeeded (prepared m t) s) (length cs) (cellsNeeded (prepared m t) s) k p)
+  -- "node deeper than 255", "no room for a node": its number in the list of a match that succeeds. "11 and 12: the first node in list order that
+  -- offends, then 11"
+  abbrev pub WithNodes : List ℕ → (List Node → Type 0) → Type 0
+  WithNodes s P = (k : ℕ) × (ns : List Node) × Derives (meant m t) s 0 (sym 0) 0 (suc k) ns × P ns
 
-  -- "the lake question 9, 10, then 14": "no such expression, lake or position": 0
-  abbrev pub LakeRows : List ℕ → List ℕ → ℕ → ℕ → ℕ → ℕ → Type 0
-  LakeRows s cs l q k p = MatchRows s cs k p ⊎ ((k ≡ 14) × (p ≡ 0) × ((isLakeAt (prepared m t) l ≡ true) × (q ≤ length s) → ⊥))
+  abbrev pub Row11 : List ℕ → List ℕ → Row
+  Row11 s ws = record { number = 11; holds = λ p. WithNodes s (λ ns. TooDeep (roomOf ws) ns p) }
 
-  abbrev pub SetsRows : ℕ → ℕ → ℕ → Type 0
-  SetsRows e k p = Rows k p ⊎ ((k ≡ 14) × (p ≡ 0) × (isExpression (prepared m t .analysis) e ≡ true → ⊥))
+  abbrev pub Row12 : List ℕ → List ℕ → Row
+  Row12 s ws = record { number = 12; holds = λ p. WithNodes s (λ ns. NoRoom (roomOf ws) ns p) }
 
-  -- writing then 13: "output room too small": "bytes needed"; w are the bytes
-  abbrev pub WriteRows : List ℕ → List ℕ → ℕ → ℕ → Type 0
-  WriteRows w out k p = Rows k p ⊎ Over 13 (length w) (length out) (length w) k p
+-- "input too long": 65,535
+abbrev pub Row9 : List ℕ → Row
+Row9 s = Over 9 inputBound inputBound (length s)
 
--- "refused k at p" of a chain of checks: k holds there, and nothing earlier in the table does
-pub record Tells (R : ℕ → ℕ → Type 0) (o : Option Refusal) : Type 0 where
-  pub says : (r : Refusal) → o ≡ some r → R (r .number) (r .place) × ((j q : ℕ) → j < r .number → R j q → ⊥)
-  pub first : (r : Refusal) → R (r .number) (r .place) → ((j q : ℕ) → j < r .number → R j q → ⊥) → o ≡ some r
-  pub silent : o ≡ none → (j q : ℕ) → R j q → ⊥
-  pub accepts : ((j q : ℕ) → R j q → ⊥) → o ≡ none
+-- "output room too small": "bytes needed"; w are the bytes
+abbrev pub Row13 : List ℕ → List ℕ → Row
+Row13 w out = Over 13 (length w) (length out) (length w)
 
--- row k holds at p, and no earlier row holds anywhere; no row holds
-abbrev pub FirstRow : (ℕ → ℕ → Type 0) → ℕ → ℕ → Type 0
-FirstRow R k p = R k p × ((j q : ℕ) → j < k → R j q → ⊥)
-
-abbrev pub NoRow : (ℕ → ℕ → Type 0) → Type 0
-NoRow R = (j q : ℕ) → R j q → ⊥
+-- "no such expression, lake or position": 0
+abbrev pub Row14 : Type 0 → Row
+Row14 There = record { number = 14; holds = λ p. (p ≡ 0) × (There → ⊥) }

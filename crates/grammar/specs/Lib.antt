@@ -1,5 +1,6 @@
 pub mod Exp
 pub mod Same
+pub mod SameGrammar
 pub mod Syntax
 pub mod Trees
 pub mod Numbers

@@ -1,5 +1,4 @@
--- The rules of a concrete syntax as trees. "Two grammars are the same when names, rules and expressions agree, terminals taken by content"
--- (01, Notation): they have equal lists of rules. Assumes nothing: these are definitions.
+-- The rules of a concrete syntax as trees (01, Notation: "Choice and sequence associate to the left"). Assumes nothing: these are definitions.
 use mathlib.Core.List.{List, [], _∷_, _++_}
 use Rattle.read_tokens.specs.Token.{Symbol, Leaf, Prefix, Suffix, amp, bang, query, asterisk, cross}
 use Rattle.grammar.specs.Syntax.{Choice, Sequence, Prefixed, Suffixed, Primary, Rules, one, or, first, next, bare, with, only, then, psym}

@@ -4,8 +4,7 @@ use mathlib.Core.Path.{_≡_}
 use mathlib.Core.Bool.{Bool, true, false}
 use mathlib.Core.List.{List, [], _∷_}
 use lib.ListN.{length, getD}
-use Rattle.base_rounds.specs.laws.Cells.{Every}
-use Rattle.base_rounds.specs.laws.Pair.{Set2, In2}
+use Rattle.base_rounds.specs.Sets.{Set2, In2, Every}
 use Rattle.grammar.specs.Exp.{Exp, ter}
 use Rattle.grammar.specs.Empty.{hasEmpty}
 use Rattle.grammar.specs.Parts.{Part, terminal, occurs, sequence, choice, option, repeat, repeat1, affirms, denies}

@@ -4,9 +4,11 @@ use Prim.Native.Nat.{ℕ, zero, suc, _-_}
 use mathlib.Core.Bool.{Bool, true, false, cond}
 use mathlib.Core.Path.{_≡_}
 use mathlib.Core.List.{List, [], _∷_}
+use mathlib.Core.Option.{Option, none, some}
 use lib.ListN.{getD, length}
 use Rattle.read_tokens.specs.declared.Mode.{Mode}
 use Rattle.read_tokens.specs.declared.Mode.the-variants.{Lake, Plain}
+use Rattle.grammar.specs.Refusal.{Refusal}
 use Rattle.lake_sets.specs.declared.Sets.{Sets}
 use Rattle.match_meaning.specs.Meaning.{Node}
 use Rattle.match_nodes.specs.Nodes.{nodeAt, soundAt}
@@ -15,14 +17,8 @@ use Rattle.prepare.specs.declared.Verdict.{Verdict}
 use Rattle.prepare.specs.declared.Verdict.the-variants.{Accepted, Refused as VerdictRefused}
 use Rattle.gurkenmond.specs.declared.SetsOf.{SetsOf}
 use Rattle.gurkenmond.specs.declared.Lakes.{Lakes}
-use Rattle.gurkenmond.specs.declared.Match.{Match}
-use Rattle.gurkenmond.specs.declared.Outcome.{Outcome}
-use Rattle.gurkenmond.specs.declared.Outcome.the-variants.{Matched, NoMatch, Refused as OutcomeRefused}
-use Rattle.gurkenmond.specs.declared.Way.{Way}
-use Rattle.gurkenmond.specs.declared.Way.the-variants.{Not, ByRule, ByWater, BySkip, Refused as WayRefused}
-use Rattle.gurkenmond.specs.declared.Written.{Written}
-use Rattle.gurkenmond.specs.declared.Written.the-variants.{Bytes, Refused as WrittenRefused}
-use Rattle.gurkenmond.specs.Calls.{Matching, LakeAnswer, Writing}
+use Rattle.gurkenmond.specs.Answers.{Says, refused, nomatch, value}
+use Rattle.gurkenmond.specs.Calls.{MatchAnswer, Matching, LakeAnswer, Writing}
 
 -- the mode of a byte: 0 is lake, every other one plain
 abbrev pub modeOf : ℕ → Mode
@@ -66,27 +62,25 @@ abbrev pub lakesWords : Lakes → List ℕ
 lakesWords l = lakesBy (l .verdict) (l .word)
 
 -- ── match: 0, bytes taken, nodes; the cells and node words are those of the call's definition ──
-abbrev pub matchBy : Outcome → ℕ → List ℕ
-matchBy (Matched p) k = four 0 p k 0
-matchBy NoMatch k = four 100 0 0 0
-matchBy (OutcomeRefused n p) k = four n p 0 0
+abbrev pub matchBy : Says → ℕ → List ℕ
+matchBy (value p) k = four 0 p k 0
+matchBy nomatch k = four 100 0 0 0
+matchBy (refused n p) k = four n p 0 0
 
-abbrev pub matchWords : Match → List ℕ
+abbrev pub matchWords : MatchAnswer → List ℕ
 matchWords m = matchBy (m .outcome) (m .nodes)
 
 abbrev pub SaysMatch : ℕ → List ℕ → List ℕ → List ℕ → Matching → Type 0
 SaysMatch r out cs ws m = (out ≡ matchWords (m .answer)) × (r ≡ getD out 0 0) × (cs ≡ m .cells) × (ws ≡ m .nodes)
 
--- ── the lake question: 0, then "0 not, 1 by its rule, 2 by water, 3 by one skipped byte" ──
-abbrev pub wayWords : Way → List ℕ
-wayWords Not = four 0 0 0 0
-wayWords ByRule = four 0 1 0 0
-wayWords ByWater = four 0 2 0 0
-wayWords BySkip = four 0 3 0 0
-wayWords (WayRefused n p) = four n p 0 0
+-- ── one value, or a refusal ──
+abbrev pub oneBy : Option Refusal → ℕ → List ℕ
+oneBy none x = four 0 x 0 0
+oneBy (some r) x = four (r .number) (r .place) 0 0
 
+-- ── the lake question: 0, then "0 not, 1 by its rule, 2 by water, 3 by one skipped byte" ──
 abbrev pub SaysLake : ℕ → List ℕ → List ℕ → LakeAnswer → Type 0
-SaysLake r out cs a = (out ≡ wayWords (a .way)) × (r ≡ getD out 0 0) × (cs ≡ a .cells)
+SaysLake r out cs a = (out ≡ oneBy (a .verdict) (a .way)) × (r ≡ getD out 0 0) × (cs ≡ a .cells)
 
 -- ── a node: 0, then 1 for sound and 0 for unsound ──
 abbrev pub soundWords : Bool → List ℕ
@@ -102,9 +96,5 @@ abbrev pub spanWords : List ℕ → List ℕ → ℕ → List ℕ
 spanWords s ws k = spanBy (soundAt ws k (length s)) (nodeAt ws k)
 
 -- ── writing: 0, bytes written; the room is that of the call's definition ──
-abbrev pub writtenWords : Written → List ℕ
-writtenWords (Bytes n) = four 0 n 0 0
-writtenWords (WrittenRefused n p) = four n p 0 0
-
 abbrev pub SaysText : ℕ → List ℕ → List ℕ → Writing → Type 0
-SaysText r out room w = (out ≡ writtenWords (w .answer)) × (r ≡ getD out 0 0) × (room ≡ w .out)
+SaysText r out room w = (out ≡ oneBy (w .verdict) (w .bytes)) × (r ≡ getD out 0 0) × (room ≡ w .out)

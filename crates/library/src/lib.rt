@@ -86,7 +86,10 @@ pub extern "C" fn gm_lake_at(
 {
     let m = numbers::mode_of(mode);
     let a = gurkenmond::lake_at(m, text, input, cells, lake, place);
-    let w = numbers::of_way(a);
+    let y = a.way;
+    let v = a.verdict;
+    let x = numbers::of_way(y);
+    let w = numbers::of_one(v, x);
     *out = w;
     w[0]
 }
@@ -120,7 +123,8 @@ pub extern "C" fn gm_write_own(mode: u8, text: &[u8], room: &mut [u8], out: &mut
 {
     let m = numbers::mode_of(mode);
     let a = gurkenmond::write_own(m, text, room);
-    let w = numbers::of_written(a);
+    let v = a.verdict;
+    let w = numbers::of_one(v, a.bytes);
     *out = w;
     w[0]
 }
@@ -132,7 +136,8 @@ pub extern "C" fn gm_write_plain(mode: u8, text: &[u8], room: &mut [u8], out: &m
 {
     let m = numbers::mode_of(mode);
     let a = gurkenmond::write_plain(m, text, room);
-    let w = numbers::of_written(a);
+    let v = a.verdict;
+    let w = numbers::of_one(v, a.bytes);
     *out = w;
     w[0]
 }

@@ -1,11 +1,11 @@
 // The answers of the public calls as numbers (specs/Words.antt).
 ghost use mathlib.Core.Path.{_≡_};
-ghost use Rattle.library.specs.Words.{modeOf, bitOf, four, readBy, setsBy, lakesBy, matchBy, wayWords, spanWords, writtenWords};
+ghost use Rattle.gurkenmond.specs.Answers.{verdictSays, outcomeSays, waySays};
+ghost use Rattle.library.specs.Words.{modeOf, bitOf, four, readBy, setsBy, lakesBy, matchBy, oneBy, spanWords};
+use gurkenmond::Mode;
 use gurkenmond::Outcome;
 use gurkenmond::Verdict;
 use gurkenmond::Way;
-use gurkenmond::Written;
-use read_tokens::Mode;
 
 // 0 is lake, every other byte plain.
 pub fn mode_of(m: u8) -> Mode
@@ -44,7 +44,7 @@ pub fn of_read(v: Verdict, s: usize, t: usize, e: usize) -> [u64; 4]
     }
 }
 
-pub fn of_sets(v: Verdict, rounds: usize, s: lake_sets::Sets) -> [u64; 9]
+pub fn of_sets(v: Verdict, rounds: usize, s: gurkenmond::Sets) -> [u64; 9]
     ensures { λ r. ⌜ r ≡ setsBy v rounds s ⌝ }
 {
     let b = s.begin;
@@ -73,7 +73,7 @@ pub fn of_lakes(v: Verdict, w: u64) -> [u64; 4]
 }
 
 pub fn of_match(o: Outcome, k: usize) -> [u64; 4]
-    ensures { λ r. ⌜ r ≡ matchBy o k ⌝ }
+    ensures { λ r. ⌜ r ≡ matchBy (outcomeSays o) k ⌝ }
 {
     match o {
         Outcome::Matched(taken) => [0, taken as u64, k as u64, 0],
@@ -85,15 +85,25 @@ pub fn of_match(o: Outcome, k: usize) -> [u64; 4]
     }
 }
 
-pub fn of_way(v: Way) -> [u64; 4]
-    ensures { λ r. ⌜ r ≡ wayWords v ⌝ }
+// What a case of the lake question says.
+pub fn of_way(w: Way) -> usize
+    ensures { λ r. ⌜ r ≡ waySays w ⌝ }
+{
+    match w {
+        Way::Not => 0,
+        Way::ByRule => 1,
+        Way::ByWater => 2,
+        Way::BySkip => 3,
+    }
+}
+
+// One value, or a refusal.
+pub fn of_one(v: Verdict, x: usize) -> [u64; 4]
+    ensures { λ r. ⌜ r ≡ oneBy (verdictSays v) x ⌝ }
 {
     match v {
-        Way::Not => [0, 0, 0, 0],
-        Way::ByRule => [0, 1, 0, 0],
-        Way::ByWater => [0, 2, 0, 0],
-        Way::BySkip => [0, 3, 0, 0],
-        Way::Refused {
+        Verdict::Accepted => [0, x as u64, 0, 0],
+        Verdict::Refused {
             number: n,
             place: p,
         } => refusal(n, p),
@@ -114,16 +124,4 @@ pub fn of_span(input: &[u8], nodes: &[u32], k: usize) -> [u64; 4]
         return [0, a as u64, (b - a) as u64, 0];
     }
     [0, 0, 0, 0]
-}
-
-pub fn of_written(v: Written) -> [u64; 4]
-    ensures { λ r. ⌜ r ≡ writtenWords v ⌝ }
-{
-    match v {
-        Written::Bytes(n) => [0, n as u64, 0, 0],
-        Written::Refused {
-            number: n,
-            place: p,
-        } => refusal(n, p),
-    }
 }

@@ -1,5 +1,6 @@
 pub mod Machine
 pub mod Exceeds
+pub mod Offence
 pub mod Reader
 pub mod Reading
 pub mod Grammar

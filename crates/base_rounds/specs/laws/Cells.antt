@@ -5,6 +5,7 @@ use Prim.Native.Nat.{ℕ, zero, suc, _+_, _*_, _≤_, _<_}
 use native.Mathlib.Nat.{zero-mul, suc-mul}
 use native.Mathlib.Omega.{arith}
 use lib.ListN.{length, getD}
+pub use Rattle.base_rounds.specs.Sets.{Every}
 use Rattle.base_rounds.specs.laws.Fix.{Lattice}
 
 -- a lattice with a bottom, transitivity and joins, and a size that a step up makes larger
@@ -17,10 +18,6 @@ pub record Joins {A : Type 0} (L : Lattice A) (join : A → A → A) (bot : A) :
   pub join-good : (x y : A) → L .Good x → L .Good y → L .Good (join x y)
   pub bot-good : L .Good bot
   pub bot-le : (x : A) → L .Good x → L .Le bot x
-
-pub record Every {A : Type 0} (P : A → Type 0) (d : A) (n : ℕ) (s : List A) : Type 0 where
-  pub long : length s ≡ n
-  pub each : (i : ℕ) → i < n → P (getD s i d)
 
 module _ {A : Type 0} (L : Lattice A) (join : A → A → A) (bot d : A) (J : Joins L join bot) where
   abbrev pub Below : ℕ → List A → List A → Type 0

@@ -11,17 +11,9 @@ use lib.Pow.{pow-pos}
 use Rattle.base_words.specs.Set.{bit, unionOf, empty, ones}
 use Rattle.base_words.specs.laws.Members.{two-words}
 use Rattle.base_words.specs.laws.Order.{Sub, ones-le, ones-mono, ones-strict, sub-or-l, sub-or-r, or-sub, bit-none}
+pub use Rattle.base_rounds.specs.Sets.{Set2, In2}
 use Rattle.base_rounds.specs.laws.Fix.{Lattice}
 use Rattle.base_rounds.specs.laws.Cells.{Joins}
-
-pub record Set2 (r t : ℕ) (s : List ℕ) : Type 0 where
-  pub two : length s ≡ 2
-  pub first : getD s 0 0 < 2 ^ r
-  pub second : getD s 1 0 < 2 ^ t
-
-pub record In2 (s u : List ℕ) : Type 0 where
-  pub first : Sub (getD s 0 0) (getD u 0 0)
-  pub second : Sub (getD s 1 0) (getD u 1 0)
 
 module _ (r t : ℕ) where
   abbrev pub count : List ℕ → ℕ

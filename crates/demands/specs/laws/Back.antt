@@ -1,5 +1,5 @@
--- There and back (01, What the promises have to nail: demand 3): the plain text of an accepted grammar, read again in plain mode, is accepted, and every match of it is
--- the match of the grammar, with answer, cells and nodes, for every input; writing it again gives the same bytes. Stated over the public definitions. Assumes nothing.
+-- There and back: the plain text of an accepted grammar, read again in plain mode, is accepted and has the same plain bodies; its own text is read as the
+-- same rules. What demand 3 and `own-text-back` (Demands.antt) stand on. Assumes nothing.
 use Prim.Native.Nat.{ℕ, _+_, _*_, _≤_, _<_}
 use mathlib.Core.Path.{_≡_, refl, sym, ap, ap₂, _∙_, subst}
 use mathlib.Core.Bool.{Bool, true, false}
@@ -30,13 +30,14 @@ use Rattle.lake_step_two.specs.laws.Bodies.{sizes-total}
 use Rattle.read_grammar.specs.steps.Promises.{Sound}
 use Rattle.match_cells.specs.Cells.{cells}
 use Rattle.write_rules.specs.Writing.{text}
-use Rattle.write_back.specs.laws.Own.{own-again, too-long-again}
+use Rattle.write_back.specs.laws.Own.{own-again}
 use Rattle.write_back.specs.laws.Plain.{plain-again}
 use Rattle.write_back.specs.laws.Same.{again-bodies, again-plain}
 use Rattle.prepare.specs.Prepare.{Prepared, prepared, preparedBy, refuses}
 use Rattle.gurkenmond.specs.Calls.{refusesInput, matchBy, matchAfter, matchOf, writeBy, writeOwnOf, writePlainOf}
 use Rattle.prepare.specs.laws.Loads.{some-none}
 use Rattle.prepare.specs.laws.Reads.{split, grammar-read}
+use Rattle.demands.specs.Checks.{ownText, plainText}
 
 -- ── no check refuses: none of them does ──
 if-none : (b : Bool) (k p : ℕ) → refuseIf b k p ≡ none → b ≡ false
@@ -90,12 +91,6 @@ module _ (m : Mode) (t : List ℕ) (b : Bytes t) (g : Rules) (sound : Sound m t 
   own-accepted-again short = own-again m t g b sound few-symbols few-terminals in-expressions short
 
 -- ── on the public definitions ──
-abbrev pub plainText : Mode → List ℕ → List ℕ
-plainText m t = text (plainRules (prepared m t .grammar) (prepared m t .analysis))
-
-abbrev pub ownText : Mode → List ℕ → List ℕ
-ownText m t = text (prepared m t .rules)
-
 module _ (m : Mode) (t : List ℕ) (b : Bytes t) (ok : refuses m t ≡ none) where
   abbrev n : Grammar
   n = numbered (rulesOf m t)
@@ -149,7 +144,7 @@ module _ (m : Mode) (t : List ℕ) (b : Bytes t) (ok : refuses m t ≡ none) whe
       ∙ ap (λ (bs : List (Exp ℕ)). tooLarge bs ▸ looping bs) bodies-back
       ∙ parts .1
 
-  -- THE DEMAND: every match of it is the match of the grammar: answer, cells and nodes
+  -- the match asks for bodies only
   pub match-back : (s cs ws : List ℕ) → matchOf Plain (plainText m t) s cs ws ≡ matchOf m t s cs ws
   unfolding matchOf
   match-back s cs ws =
@@ -192,8 +187,3 @@ module _ (m : Mode) (t : List ℕ) (b : Bytes t) (ok : refuses m t ≡ none) whe
       ap₂ (λ (o : Option Refusal) (p : Prepared). o ▸ (tooLarge (p .bodies) ▸ looping (p .bodies))) (ap (refusesText m) own-is ∙ own-read k .0) (prepared-back short)
       ∙ ap (λ (o : Option Refusal). o ▸ (tooLarge (prepared m t .bodies) ▸ looping (prepared m t .bodies))) (sym (parts .0))
       ∙ ok
-
-  -- "A lake grammar's own text may pass 16,384 bytes; reading it then refuses 1"
-  pub own-too-long : textBound m < length (ownText m t) → refuses m (ownText m t) ≡ some (refusal 1 (textBound m))
-  unfolding refuses
-  own-too-long l = ap (λ (o : Option Refusal). o ▸ (tooLarge (prepared m (ownText m t) .bodies) ▸ looping (prepared m (ownText m t) .bodies))) (too-long-again m (ownText m t) l)

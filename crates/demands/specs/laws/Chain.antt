@@ -1,140 +1,155 @@
--- Checks one after the other: the first that refuses is the answer (01, Refusal numbers, in order of check). Assumes nothing.
-use Prim.Native.Nat.{ℕ, suc, _≤_, _<_}
+-- Checks one after the other: the first that refuses is the answer, and it is the first row that holds of the list (01, Refusal numbers, in order of check).
+-- Assumes nothing.
+use Prim.Native.Nat.{ℕ, _<_}
 use mathlib.Core.Path.{_≡_, refl, sym, ap, _∙_, subst}
 use mathlib.Core.Bool.{Bool, true, false, not, true≢false}
+use mathlib.Core.List.{List, [], _∷_, _++_}
 use mathlib.Core.Logic.{_⊎_, inl, inr}
 use mathlib.Core.Option.{Option, none, some, Option·some-injective}
-use native.Mathlib.Omega.{arith}
 use lib.Dec.{ltb}
 use borrow.Author.Tests.{ltb-true, lt-ltb}
 use Rattle.grammar.specs.Refusal.{Refusal, refusal, refuseIf, refuseAt, _▸_}
 use Rattle.prepare.specs.laws.Loads.{some-none}
-use Rattle.demands.specs.Rows.{Over, Tells}
+use Rattle.demands.specs.Rows.{Row, Over, Row14}
+use Rattle.demands.specs.Checks.{Never, FirstRow, NoRow}
 
 pub same-refusal : {r q : Refusal} → some r ≡ some q → r ≡ q
 same-refusal {r} {q} e = Option·some-injective r q e
 
--- one check, of rows with numbers from lo to below hi, no two of which hold
-pub record Level (R : ℕ → ℕ → Type 0) (o : Option Refusal) (lo hi : ℕ) : Type 0 where
-  pub within : (k p : ℕ) → R k p → (lo ≤ k) × (k < hi)
-  pub tells : Tells R o
+-- ── lists of rows ──
+pub first-not-none : (l : List Row) (k p : ℕ) → FirstRow l k p → NoRow l → ⊥
+first-not-none [] k p x n = x
+first-not-none (R ∷ l) k p (inl x) n = n .0 p (x .1)
+first-not-none (R ∷ l) k p (inr x) n = first-not-none l k p (x .1) (n .1)
 
-module _ (R : ℕ → ℕ → Type 0) (o : Option Refusal) (lo hi : ℕ) (within : (k p : ℕ) → R k p → (lo ≤ k) × (k < hi))
-    (sound : (r : Refusal) → o ≡ some r → R (r .number) (r .place)) (full : (k p : ℕ) → R k p → o ≡ some (refusal k p)) where
-  silent-by : o ≡ none → (j q : ℕ) → R j q → ⊥
-  silent-by e j q r = some-none (refusal j q) (sym (full j q r) ∙ e)
+none-first : (l : List Row) → ((k p : ℕ) → FirstRow l k p → ⊥) → NoRow l
+none-first [] f = tt
+none-first (R ∷ l) f =
+    let here : Never R = λ p h. f (R .number) p (inl (refl, h)) in
+    (here, none-first l (λ k p x. f k p (inr (here, x))))
 
-  accepts-by : (c : Option Refusal) → o ≡ c → ((j q : ℕ) → R j q → ⊥) → o ≡ none
-  accepts-by none e f = e
-  accepts-by (some r) e f = absurd (f (r .number) (r .place) (sound r e))
+front : (l r : List Row) (k p : ℕ) → FirstRow l k p → FirstRow (l ++ r) k p
+front [] r k p x = absurd x
+front (R ∷ l) r k p (inl x) = inl x
+front (R ∷ l) r k p (inr x) = inr (x .0, front l r k p (x .1))
 
-  earlier-by : (r : Refusal) → o ≡ some r → (j q : ℕ) → j < r .number → R j q → ⊥
-  earlier-by r e j q l h =
-      let z : r ≡ refusal j q = same-refusal (sym e ∙ full j q h) in
-      omega (arith, l, ap (λ (x : Refusal). x .number) z)
+behind : (l r : List Row) (k p : ℕ) → NoRow l → FirstRow r k p → FirstRow (l ++ r) k p
+behind [] r k p n x = x
+behind (R ∷ l) r k p n x = inr (n .0, behind l r k p (n .1) x)
 
-  pub level : Level R o lo hi
-  level = record {
-    within = within;
-    tells = record {
-      says = λ r e. (sound r e, earlier-by r e);
-      first = λ r h f. full (r .number) (r .place) h;
-      silent = silent-by;
-      accepts = λ f. accepts-by o refl f;
-    };
-  }
-
-pub widen : {R : ℕ → ℕ → Type 0} {o : Option Refusal} {lo hi : ℕ} (less : ℕ) → Level R o lo hi → less ≤ lo → Level R o less hi
-widen less x h = record { within = λ k p r. (omega (arith, h, x .within k p r .0), x .within k p r .1); tells = x .tells }
-
--- a check, and the next one where it lets through
-pub join : {R S : ℕ → ℕ → Type 0} {lo mid hi : ℕ} (a b : Option Refusal) → lo ≤ mid → mid ≤ hi → Level R a lo mid → Level S b mid hi → Level (λ k p. R k p ⊎ S k p) (a ▸ b) lo hi
-join {R} {S} {lo} {mid} {hi} a b l h x y = record { within = within; tells = by-first a (x .tells) }
+parted : (l r : List Row) (k p : ℕ) → FirstRow (l ++ r) k p → FirstRow l k p ⊎ (NoRow l × FirstRow r k p)
+parted [] r k p x = inr (tt, x)
+parted (R ∷ l) r k p (inl x) = inl (inl x)
+parted (R ∷ l) r k p (inr x) = go (parted l r k p (x .1))
   where
-    within : (k p : ℕ) → R k p ⊎ S k p → (lo ≤ k) × (k < hi)
-    within k p (inl r) = (x .within k p r .0, omega (arith, x .within k p r .1, h))
-    within k p (inr s) = (omega (arith, y .within k p s .0, l), y .within k p s .1)
+    go : FirstRow l k p ⊎ (NoRow l × FirstRow r k p) → FirstRow (R ∷ l) k p ⊎ (NoRow (R ∷ l) × FirstRow r k p)
+    go (inl y) = inl (inr (x .0, y))
+    go (inr y) = inr ((x .0, y .0), y .1)
 
-    -- the first refuses: nothing of the second is earlier
-    before-second : (k p : ℕ) → R k p → ((j q : ℕ) → j < k → R j q → ⊥) → (j q : ℕ) → j < k → R j q ⊎ S j q → ⊥
-    before-second k p r f j q i (inl z) = f j q i z
-    before-second k p r f j q i (inr z) = omega (arith, x .within k p r .1, y .within j q z .0, i)
+pub none-of-both : (l r : List Row) → NoRow (l ++ r) → NoRow l × NoRow r
+none-of-both [] r n = (tt, n)
+none-of-both (R ∷ l) r n = let w = none-of-both l r (n .1) in ((n .0, w .0), w .1)
 
-    -- the first lets through
-    no-first : ((j q : ℕ) → R j q → ⊥) → (k : ℕ) → ((j q : ℕ) → j < k → S j q → ⊥) → (j q : ℕ) → j < k → R j q ⊎ S j q → ⊥
-    no-first z k f j q i (inl r) = z j q r
-    no-first z k f j q i (inr s) = f j q i s
+-- ── what an answer tells of a list ──
+pub record Tells (l : List Row) (o : Option Refusal) : Type 0 where
+  pub says : (r : Refusal) → o ≡ some r → FirstRow l (r .number) (r .place)
+  pub first : {k p : ℕ} → FirstRow l k p → o ≡ some (refusal k p)
 
-    none-of : ((j q : ℕ) → R j q → ⊥) → ((j q : ℕ) → S j q → ⊥) → (j q : ℕ) → R j q ⊎ S j q → ⊥
-    none-of f g j q (inl r) = f j q r
-    none-of f g j q (inr s) = g j q s
+module _ {l : List Row} {o : Option Refusal} (t : Tells l o) where
+  pub silent : o ≡ none → NoRow l
+  silent e = none-first l (λ k p x. some-none (refusal k p) (sym (t .first x) ∙ e))
 
-    by-first : (a : Option Refusal) → Tells R a → Tells (λ k p. R k p ⊎ S k p) (a ▸ b)
-    by-first none t = record {
-      says = λ r e. let w = y .tells .says r e in (inr (w .0), no-first (t .silent refl) (r .number) (w .1));
-      first = λ r z f. first-none r z f;
-      silent = λ e. none-of (t .silent refl) (y .tells .silent e);
-      accepts = λ f. y .tells .accepts (λ j q s. f j q (inr s));
-    }
+  pub accepts : NoRow l → o ≡ none
+  accepts n = go o refl
+    where
+      go : (c : Option Refusal) → o ≡ c → o ≡ none
+      go none e = e
+      go (some r) e = absurd (first-not-none l (r .number) (r .place) (t .says r e) n)
+
+-- a check, and the next ones where it lets through
+pub join : {l r : List Row} (a b : Option Refusal) → Tells l a → (a ≡ none → Tells r b) → Tells (l ++ r) (a ▸ b)
+join {l} {r} a b t u = go a refl
+  where
+    by-none : a ≡ none → (x : Tells r b) → Tells (l ++ r) b
+    by-none e x = record { says = λ c h. behind l r (c .number) (c .place) (silent t e) (x .says c h); first = last }
       where
-        first-none : (r : Refusal) → R (r .number) (r .place) ⊎ S (r .number) (r .place) → ((j q : ℕ) → j < r .number → R j q ⊎ S j q → ⊥) → b ≡ some r
-        first-none r (inl z) f = absurd (t .silent refl (r .number) (r .place) z)
-        first-none r (inr z) f = y .tells .first r z (λ j q i s. f j q i (inr s))
-    by-first (some c) t = record {
-      says = λ r e. let w = t .says r e in (inl (w .0), before-second (r .number) (r .place) (w .0) (w .1));
-      first = λ r z f. first-some r z f;
-      silent = λ e. absurd (some-none c e);
-      accepts = λ f. absurd (f (c .number) (c .place) (inl (t .says c refl .0)));
-    }
+        later : (k p : ℕ) → FirstRow l k p ⊎ (NoRow l × FirstRow r k p) → b ≡ some (refusal k p)
+        later k p (inl y) = absurd (some-none (refusal k p) (sym (t .first y) ∙ e))
+        later k p (inr y) = x .first (y .1)
+
+        last : {k p : ℕ} → FirstRow (l ++ r) k p → b ≡ some (refusal k p)
+        last {k} {p} y = later k p (parted l r k p y)
+
+    by-some : (c : Refusal) → a ≡ some c → Tells (l ++ r) (some c)
+    by-some c e = record { says = λ d h. front l r (d .number) (d .place) (t .says d (e ∙ h)); first = already }
       where
-        first-some : (r : Refusal) → R (r .number) (r .place) ⊎ S (r .number) (r .place) → ((j q : ℕ) → j < r .number → R j q ⊎ S j q → ⊥) → some c ≡ some r
-        first-some r (inl z) f = t .first r z (λ j q i s. f j q i (inl s))
-        first-some r (inr z) f =
-            absurd (f (c .number) (c .place) (omega (arith, x .within (c .number) (c .place) (t .says c refl .0) .1, y .within (r .number) (r .place) z .0)) (inl (t .says c refl .0)))
+        earlier : (k p : ℕ) → FirstRow l k p ⊎ (NoRow l × FirstRow r k p) → a ≡ some (refusal k p)
+        earlier k p (inl y) = t .first y
+        earlier k p (inr y) = absurd (some-none c (sym e ∙ accepts t (y .0)))
+
+        already : {k p : ℕ} → FirstRow (l ++ r) k p → some c ≡ some (refusal k p)
+        already {k} {p} y = sym e ∙ earlier k p (parted l r k p y)
+
+    go : (c : Option Refusal) → a ≡ c → Tells (l ++ r) (c ▸ b)
+    go none e = by-none e (u e)
+    go (some c) e = by-some c e
 
 -- ── one check ──
--- a number over its bound
-pub over : (number place bound n : ℕ) → Level (Over number place bound n) (refuseIf (ltb bound n) number place) number (suc number)
-over number place bound n =
-    level (Over number place bound n) (refuseIf (ltb bound n) number place) number (suc number) (λ k p h. (omega (arith, h .0), omega (arith, h .0))) (λ r e. sound (ltb bound n) refl r e) full
+module _ (R : Row) (o : Option Refusal) where
+  pub row-tells : ((r : Refusal) → o ≡ some r → (R .number ≡ r .number) × R .holds (r .place)) → ((p : ℕ) → R .holds p → o ≡ some (refusal (R .number) p)) → Tells (R ∷ []) o
+  row-tells f g = record { says = λ r e. inl (f r e); first = only }
+    where
+      only : {k p : ℕ} → FirstRow (R ∷ []) k p → o ≡ some (refusal k p)
+      only {k} {p} (inl x) = g p (x .1) ∙ ap (λ (i : ℕ). some (refusal i p)) (x .0)
+      only (inr x) = absurd (x .1)
+
+-- the same row in other words
+pub as-row : (number : ℕ) {F G : ℕ → Type 0} {o : Option Refusal} → ((p : ℕ) → F p → G p) → ((p : ℕ) → G p → F p)
+    → Tells (record { number = number; holds = F } ∷ []) o → Tells (record { number = number; holds = G } ∷ []) o
+as-row number {F} {G} {o} f g t = record { says = λ r e. there (t .says r e); first = λ x. t .first (back x) }
   where
-    sound : (b : Bool) → ltb bound n ≡ b → (r : Refusal) → refuseIf b number place ≡ some r → Over number place bound n (r .number) (r .place)
+    there : {k p : ℕ} → FirstRow (record { number = number; holds = F } ∷ []) k p → FirstRow (record { number = number; holds = G } ∷ []) k p
+    there {p = p} (inl x) = inl (x .0, f p (x .1))
+    there (inr x) = absurd (x .1)
+
+    back : {k p : ℕ} → FirstRow (record { number = number; holds = G } ∷ []) k p → FirstRow (record { number = number; holds = F } ∷ []) k p
+    back {p = p} (inl x) = inl (x .0, g p (x .1))
+    back (inr x) = absurd (x .1)
+
+-- a number over its bound
+pub over : (number place bound n : ℕ) → Tells (Over number place bound n ∷ []) (refuseIf (ltb bound n) number place)
+over number place bound n = row-tells (Over number place bound n) (refuseIf (ltb bound n) number place) (λ r e. sound (ltb bound n) refl r e) full
+  where
+    sound : (b : Bool) → ltb bound n ≡ b → (r : Refusal) → refuseIf b number place ≡ some r → (number ≡ r .number) × ((r .place ≡ place) × (bound < n))
     sound true h r e =
         let z : refusal number place ≡ r = same-refusal e in
-        (sym (ap (λ (x : Refusal). x .number) z), sym (ap (λ (x : Refusal). x .place) z), ltb-true bound n h)
+        (ap (λ (x : Refusal). x .number) z, (sym (ap (λ (x : Refusal). x .place) z), ltb-true bound n h))
     sound false h r e = absurd (some-none r (sym e))
 
-    full : (k p : ℕ) → Over number place bound n k p → refuseIf (ltb bound n) number place ≡ some (refusal k p)
-    full k p h =
-        ap (λ (b : Bool). refuseIf b number place) (lt-ltb bound n (h .2))
-        ∙ ap (λ (i : ℕ). some (refusal i place)) (sym (h .0)) ∙ ap (λ (i : ℕ). some (refusal k i)) (sym (h .1))
+    full : (p : ℕ) → (p ≡ place) × (bound < n) → refuseIf (ltb bound n) number place ≡ some (refusal number p)
+    full p h = ap (λ (b : Bool). refuseIf b number place) (lt-ltb bound n (h .1)) ∙ ap (λ (i : ℕ). some (refusal number i)) (sym (h .0))
 
 -- a place that is found
 pub found-at : (number : ℕ) (F : ℕ → Type 0) (o : Option ℕ) → ((p : ℕ) → o ≡ some p → F p) → ((p : ℕ) → F p → o ≡ some p)
-    → Level (λ k p. (k ≡ number) × F p) (refuseAt number o) number (suc number)
-found-at number F o f g =
-    level (λ k p. (k ≡ number) × F p) (refuseAt number o) number (suc number) (λ k p h. (omega (arith, h .0), omega (arith, h .0))) (λ r e. sound o refl r e) full
+    → Tells (record { number = number; holds = F } ∷ []) (refuseAt number o)
+found-at number F o f g = row-tells (record { number = number; holds = F }) (refuseAt number o) (λ r e. sound o refl r e) (λ p h. ap (refuseAt number) (g p h))
   where
-    sound : (c : Option ℕ) → o ≡ c → (r : Refusal) → refuseAt number c ≡ some r → (r .number ≡ number) × F (r .place)
+    sound : (c : Option ℕ) → o ≡ c → (r : Refusal) → refuseAt number c ≡ some r → (number ≡ r .number) × F (r .place)
     sound none h r e = absurd (some-none r (sym e))
     sound (some p) h r e =
         let z : refusal number p ≡ r = same-refusal e in
-        (sym (ap (λ (x : Refusal). x .number) z), subst F (ap (λ (x : Refusal). x .place) z) (f p h))
-
-    full : (k p : ℕ) → (k ≡ number) × F p → refuseAt number o ≡ some (refusal k p)
-    full k p h = ap (refuseAt number) (g p (h .1)) ∙ ap (λ (i : ℕ). some (refusal i p)) (sym (h .0))
+        (ap (λ (x : Refusal). x .number) z, subst F (ap (λ (x : Refusal). x .place) z) (f p h))
 
 -- what there is not
-pub missing : (number : ℕ) (b : Bool) (A : Type 0) → (b ≡ true → A) → (A → b ≡ true) → Level (λ k p. (k ≡ number) × (p ≡ 0) × (A → ⊥)) (refuseIf (not b) number 0) number (suc number)
-missing number b A f g =
-    level (λ k p. (k ≡ number) × (p ≡ 0) × (A → ⊥)) (refuseIf (not b) number 0) number (suc number) (λ k p h. (omega (arith, h .0), omega (arith, h .0))) (λ r e. sound b refl r e) (λ k p h. full b refl k p h)
+pub missing : (b : Bool) (A : Type 0) → (b ≡ true → A) → (A → b ≡ true) → Tells (Row14 A ∷ []) (refuseIf (not b) 14 0)
+missing b A f g = row-tells (Row14 A) (refuseIf (not b) 14 0) (λ r e. sound b refl r e) (λ p h. full b refl p h)
   where
-    sound : (c : Bool) → b ≡ c → (r : Refusal) → refuseIf (not c) number 0 ≡ some r → (r .number ≡ number) × (r .place ≡ 0) × (A → ⊥)
+    sound : (c : Bool) → b ≡ c → (r : Refusal) → refuseIf (not c) 14 0 ≡ some r → (14 ≡ r .number) × ((r .place ≡ 0) × (A → ⊥))
     sound true h r e = absurd (some-none r (sym e))
     sound false h r e =
-        let z : refusal number 0 ≡ r = same-refusal e in
-        (sym (ap (λ (x : Refusal). x .number) z), sym (ap (λ (x : Refusal). x .place) z), λ a. true≢false (sym (g a) ∙ h))
+        let z : refusal 14 0 ≡ r = same-refusal e in
+        (ap (λ (x : Refusal). x .number) z, (sym (ap (λ (x : Refusal). x .place) z), λ a. true≢false (sym (g a) ∙ h)))
 
-    full : (c : Bool) → b ≡ c → (k p : ℕ) → (k ≡ number) × (p ≡ 0) × (A → ⊥) → refuseIf (not c) number 0 ≡ some (refusal k p)
-    full true e k p h = absurd (h .2 (f e))
-    full false e k p h = ap (λ (i : ℕ). some (refusal i 0)) (sym (h .0)) ∙ ap (λ (i : ℕ). some (refusal k i)) (sym (h .1))
+    full : (c : Bool) → b ≡ c → (p : ℕ) → (p ≡ 0) × (A → ⊥) → refuseIf (not c) 14 0 ≡ some (refusal 14 p)
+    full true e p h = absurd (h .1 (f e))
+    full false e p h = ap (λ (i : ℕ). some (refusal 14 i)) (sym (h .0))

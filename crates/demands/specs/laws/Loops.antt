@@ -20,13 +20,8 @@ use Rattle.lake_step_two.specs.laws.Proper.{plain-proper}
 use Rattle.match_cells.specs.laws.Full.{calls-small}
 use Rattle.prepare.specs.Prepare.{prepared, preparedBy}
 use Rattle.prepare.specs.laws.Reads.{is-good}
+use Rattle.demands.specs.Rows.{OnLoop}
 use Rattle.demands.specs.laws.Meant.{bodies-many}
-
--- p is the smallest symbol that reaches itself, one first call after the other
-pub record OnLoop (calls : List ℕ) (p : ℕ) : Type 0 where
-  pub within : p < length calls
-  pub loops : Reaches calls p p
-  pub smallest : (y : ℕ) → y < p → Reaches calls y y → ⊥
 
 module _ (m : Mode) (t : List ℕ) (ok : refusesText m t ≡ none) where
   abbrev calls : List ℕ

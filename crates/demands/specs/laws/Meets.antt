@@ -27,14 +27,15 @@ use Rattle.gurkenmond.specs.Answers.{value as Matched, nomatch as NoMatch, refu
 use Rattle.gurkenmond.specs.Calls.{Matching, matching, cellsNeeded, refusesInput, filled, matchOf}
 use Rattle.demands.specs.Meant.{meant}
 use Rattle.demands.specs.Offends.{Fits}
-use Rattle.demands.specs.Rows.{MatchRows, NoRow}
+use Rattle.demands.specs.Checks.{NoRow, inputChecks}
 use Rattle.demands.specs.Meets.{symbolsIn, Tabled, Listed, Meets, refused, fails, takes, too-deep, no-room}
 use Rattle.demands.specs.laws.Meant.{bodies-many, from-plain}
 use Rattle.demands.specs.laws.Offends.{OneOf, one-of}
 use Rattle.demands.specs.laws.Cells.{filled-as-meant, filled-later}
 use Rattle.demands.specs.laws.Matches.{start-meant, not-matched, matched, nodes-back, nodes-behind, nodes-many}
 use Rattle.demands.specs.laws.Matches.{too-deep as too-deep-is, no-room as no-room-is}
-use Rattle.demands.specs.laws.Refusals.{match-chain}
+use Rattle.demands.specs.laws.Chain.{silent}
+use Rattle.demands.specs.laws.Refusals.{input-chain}
 use Rattle.demands.specs.laws.Refused.{match-refused, match-passes}
 
 -- ── two tables are one ──
@@ -103,15 +104,15 @@ listed-one ws ns v w a b = ext-getD 0 v w (a .long ∙ flip (b .long)) (λ i l. 
 
 -- ── the match ──
 module _ (m : Mode) (t s cs ws : List ℕ) where
-  module _ (z : NoRow (MatchRows m t s cs)) where
+  module _ (z : NoRow (inputChecks m t s cs)) where
     ok : refuses m t ≡ none
-    ok = match-passes m t s cs ws z .0
+    ok = match-passes m t s cs z .0
 
     short : length s ≤ inputBound
-    short = match-passes m t s cs ws z .1
+    short = match-passes m t s cs z .1
 
     room : cellsNeeded (prepared m t) s ≤ length cs
-    room = match-passes m t s cs ws z .2
+    room = match-passes m t s cs z .2
 
     abbrev R : ℕ
     R = symbolsIn m t
@@ -152,9 +153,9 @@ module _ (m : Mode) (t s cs ws : List ℕ) where
   match-meets = go (refuses m t ▸ refusesInput (prepared m t) s cs) refl
     where
       go : (o : Option Refusal) → (refuses m t ▸ refusesInput (prepared m t) s cs) ≡ o → Meets m t s cs ws (matchOf m t s cs ws)
-      go none e = by-rules (match-chain m t s cs .tells .silent e)
+      go none e = by-rules (silent (input-chain m t s cs) e)
       go (some r) e =
-          let f = match-chain m t s cs .tells .says r e in
+          let f = input-chain m t s cs .says r e in
           subst (Meets m t s cs ws) (flip (match-refused m t s cs ws {k = r .number} {p = r .place} f)) (refused f)
 
   -- and nothing else does

@@ -23,7 +23,7 @@ array-read-result : tie.Need-array-read-result
 array-read-result c = search needs
 
 returns : tie.Need-returns
-returns c = rw (← (c .before .before .mode-of .ensures)) (c .of-lakes .ensures ∙ ap lakesWords (c .before .cannot-skip .ensures), refl)
+returns c = rw (← (c .before .before .mode-of .ensures)) (c .of-lakes .ensures ∙ ap lakesWords (c .before .cannot-skip .ensures .0), refl)
 
 pub gm-cannot-skip-spec : {M : Type 1} → statement M
 gm-cannot-skip-spec =

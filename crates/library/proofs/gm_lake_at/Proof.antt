@@ -1,6 +1,6 @@
 -- `library::gm_lake_at` meets its contract. Assumes nothing.
-use mathlib.Core.Path.{ap, _∙_, refl}
-use Rattle.library.specs.Words.{wayWords}
+use mathlib.Core.Path.{ap₂, _∙_, refl}
+use Rattle.library.specs.Words.{oneBy}
 use borrow.Author.Needs.{needs}
 use Rattle.library.proofs.gm_lake_at.Statement.{statement}
 use Rattle.library.proofs.gm_lake_at.Tie as tie
@@ -8,6 +8,7 @@ use Rattle.library.proofs.gm_lake_at.Reads as reads
 use Rattle.library.proofs.gm_lake_at.Lts as lts
 use Rattle.gurkenmond.proofs.lake_at.Reads as lake-at-reads
 use Rattle.library.proofs.numbers.mode_of.Reads as mode-of-reads
+use Rattle.library.proofs.numbers.of_one.Reads as of-one-reads
 use Rattle.library.proofs.numbers.of_way.Reads as of-way-reads
 
 mode-of-requires : tie.Need-mode-of-requires
@@ -19,6 +20,9 @@ lake-at-requires c κs = search needs
 of-way-requires : tie.Need-of-way-requires
 of-way-requires c κs = search needs
 
+of-one-requires : tie.Need-of-one-requires
+of-one-requires c κs = search needs
+
 array-read-result : tie.Need-array-read-result
 array-read-result c = search needs
 
@@ -27,11 +31,10 @@ same-length c = search needs
 
 returns : tie.Need-returns
 returns c =
-    rw (← (c .before .before .before .before .before .mode-of .ensures)) (
-      c .of-way .ensures ∙ ap wayWords
-          (c .before .before .before .lake-at .ensures .0),
+    rw (← (c .before .before .before .before .before .before .mode-of .ensures)) (
+      c .of-one .ensures ∙ ap₂ oneBy (c .before .before .before .before .lake-at .ensures .1) (c .before .of-way .ensures ∙ c .before .before .before .before .lake-at .ensures .0),
       refl,
-      c .before .before .before .lake-at .ensures .1,
+      c .before .before .before .before .lake-at .ensures .2,
     )
 
 pub gm-lake-at-spec : {M : Type 1} → statement M
@@ -41,6 +44,7 @@ gm-lake-at-spec =
     mode-of-requires
     lake-at-requires
     of-way-requires
+    of-one-requires
     array-read-result
     same-length
     returns)

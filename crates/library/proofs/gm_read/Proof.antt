@@ -23,7 +23,7 @@ array-read-result : tie.Need-array-read-result
 array-read-result c = search needs
 
 returns : tie.Need-returns
-returns c = rw (← (c .before .before .mode-of .ensures)) (c .of-read .ensures ∙ ap readWords (c .before .read .ensures), refl)
+returns c = rw (← (c .before .before .mode-of .ensures)) (c .of-read .ensures ∙ ap readWords (c .before .read .ensures .0), refl)
 
 pub gm-read-spec : {M : Type 1} → statement M
 gm-read-spec =

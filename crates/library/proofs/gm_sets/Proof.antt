@@ -23,7 +23,7 @@ array-read-result : tie.Need-array-read-result
 array-read-result c = search needs
 
 returns : tie.Need-returns
-returns c = rw (← (c .before .before .before .mode-of .ensures)) (c .of-sets .ensures ∙ ap setsWords (c .before .before .sets .ensures), refl)
+returns c = rw (← (c .before .before .before .mode-of .ensures)) (c .of-sets .ensures ∙ ap setsWords (c .before .before .sets .ensures .0), refl)
 
 pub gm-sets-spec : {M : Type 1} → statement M
 gm-sets-spec =

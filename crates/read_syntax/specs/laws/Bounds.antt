@@ -9,38 +9,12 @@ use lib.ListN.{length, take}
 use Rattle.read_tokens.specs.declared.Mode.{Mode}
 use Rattle.read_tokens.specs.Token.{Tok, symbol, leaf, pre, suf, arrow, slash, opens, closes, bad, Lexeme}
 use Rattle.read_tokens.specs.Tokens.{toksOf}
-use Rattle.grammar.specs.Syntax.{Grammatical, Offends}
+use Rattle.grammar.specs.Syntax.{Offends}
 use Rattle.read_syntax.specs.Machine.{State, start, head, need, bound, prim, part, maybe, close, newRule, after, step, accepting, runs, accepts, over, openIn, Judged, fine, syntax, wide, judgeBy, judge}
+pub use Rattle.read_syntax.specs.Offence.{fewer, opened, Says}
+unfoldable pub use Rattle.read_syntax.specs.Offence.{overAt}
 use Rattle.read_syntax.specs.laws.Back.{grammar}
 use Rattle.read_syntax.specs.laws.Place.{live-viable, Dies, runs-step, dies-end, dies-here, dies-on, viable-take, one-place, offends-not, dies-offends}
-
--- how many parentheses are open after a token
-abbrev pub fewer : ℕ → ℕ
-fewer zero = zero
-fewer (suc d) = d
-
-abbrev pub opened : ℕ → Tok → ℕ
-opened d (symbol h) = d
-opened d (leaf y) = d
-opened d (pre y) = d
-opened d (suf y) = d
-opened d arrow = d
-opened d slash = d
-opened d opens = suc d
-opened d closes = fewer d
-opened d bad = d
-
--- token k is over its bound, where d parentheses are open before the first
-unfoldable pub overAt : Mode → ℕ → List Lexeme → ℕ → Bool
-overAt m d [] k = false
-overAt m d (x ∷ l) zero = over m d (x .is)
-overAt m d (x ∷ l) (suc k) = overAt m (opened d (x .is)) l k
-
--- what the document says of the answer: "2 and 3: the leftmost place decides, then 2" (01, Refusal numbers)
-abbrev pub Says : Mode → List Lexeme → Judged → Type 0
-Says m xs fine = Grammatical (toksOf xs) × ((j : ℕ) → overAt m 0 xs j ≡ false)
-Says m xs (syntax k) = Offends (toksOf xs) k × ((j : ℕ) → j < k → overAt m 0 xs j ≡ false)
-Says m xs (wide k) = (overAt m 0 xs k ≡ true) × ((j : ℕ) → j < k → overAt m 0 xs j ≡ false) × ((j : ℕ) → Offends (toksOf xs) j → k < j)
 
 -- the automaton's counter counts what is open
 abbrev Counts : ℕ → Option State → Type 0
