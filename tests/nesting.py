@@ -10,13 +10,12 @@ import resource
 import subprocess
 import sys
 
-from matcher import Grammar, Matcher, spans
+from matcher import Grammar, Matcher, matched
 from programs import Programs
 
 LEVELS = 32
 FACTOR = 4
-NODES = 16
-UNTOUCHED = 3735928559
+NODE_WORDS = 64
 WRAPS = ["({})?", "({})*", "({})+", "&({})", "!({})", "({} / 'x')", "('y' / {})", "({} 'x'?)", "('x'? {})", "({} .)*"]
 
 
@@ -26,34 +25,17 @@ def nest(levels, inner, outer, core):
     return core
 
 
-def words(label, numbers):
-    return "".join(f" {number}" for number in [f"; {label}", *numbers])
-
-
-def cells(grammar, matcher):
-    """The table of 01: 0 where a symbol fails at a place, else 1 + the bytes taken."""
-    for place in range(len(matcher.text) + 1):
-        for name in grammar.symbols:
-            answer = matcher.symbol(name, place)
-            yield answer[0] - place + 1 if answer else 0
-
-
 def match(source, grammar, text):
     """A question and its answer."""
-    first, *lines = spans(grammar, text, nodes=NODES)
-    nodes = []
-    for start, end, depth, name in (line.split(" ") for line in lines):
-        nodes += [grammar.symbols.index(name), start, end, depth]
-    nodes += [UNTOUCHED] * (4 * NODES - len(nodes))
-    table = list(cells(grammar, Matcher(grammar, text)))
-    return (f"match lake {source.hex()} {text.hex() or '-'} {len(table)} {4 * NODES}", first + words("cells", table) + words("nodes", nodes))
+    cells = len(grammar.symbols) * (len(text) + 1)
+    return f"match lake {source.hex()} {text.hex() or '-'} {cells} {NODE_WORDS}", matched(grammar, text, cells, NODE_WORDS)
 
 
 def lake(source, grammar, text, name, place):
     matcher = Matcher(grammar, text)
-    table = list(cells(grammar, matcher))
+    table = matcher.cells()
     return (f"lake lake {source.hex()} {text.hex() or '-'} {len(table)} {grammar.symbols.index(name)} {place}",
-            f"value {matcher.lake(name, place)[0]}" + words("cells", table))
+            " ".join([f"value {matcher.lake(name, place)[0]}", "; cells", *map(str, table)]))
 
 
 def questions(levels, inner, outer):
