@@ -13,3 +13,4 @@ pub mod Keys
 pub mod Order
 pub mod Full
 pub mod Runs
+pub mod Firsts

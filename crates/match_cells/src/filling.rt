@@ -51,7 +51,7 @@ fn order_front(
     )
 }
 
-// Fills the cell of symbol r at p.
+// Fills the cell of symbol r at p; one that cannot match at its byte is not evaluated.
 fn store(t: &[u32], s: &[u8], cells: &mut [u32], mem: &[u32], n: usize, r: usize, p: usize)
     requires { ⌜ ((n ≡ symbolCount (now t)) × (n ≤ 64) × (r < n) × (length (now s) ≤ 65535) × (p ≤ length (now s)))
         × Knows (now t) (now s) (now cells) n (now mem) (p + 1) ⌝ }
@@ -60,12 +60,17 @@ fn store(t: &[u32], s: &[u8], cells: &mut [u32], mem: &[u32], n: usize, r: usize
         (bodyAt (bodiesOf (now (t .entry))) (now (s .entry)) (now (cells .entry)) r p))
         × Knows (now (t .entry)) (now (s .entry)) (now (cells .exit)) n (now (mem .entry)) (p + 1) ⌝ }
 {
-    let b = base_words::word(
-        t,
-        grammar_table::SYMBOLS_AT + grammar_table::SYMBOL_WORDS * r + grammar_table::BODY,
-    );
-    let v = crate::eval_with(t, s, cells, mem, n, b, p);
-    base_words::put(cells, p * n + r, v);
+    let b = crate::firsts::byte_at(s, p);
+    if crate::firsts::barred(mem, b, r) {
+        base_words::put(cells, p * n + r, 0);
+    } else {
+        let x = base_words::word(
+            t,
+            grammar_table::SYMBOLS_AT + grammar_table::SYMBOL_WORDS * r + grammar_table::BODY,
+        );
+        let v = crate::eval_with(t, s, cells, mem, n, x, p);
+        base_words::put(cells, p * n + r, v);
+    }
 }
 
 // Fills the cells of all symbols at p, in an order that puts first-called symbols first.
@@ -105,6 +110,7 @@ fn rows_in(t: &[u32], s: &[u8], cells: &mut [u32], order: &[u32], n: usize)
 {
     let mut mem: crate::memory::Memory = [0; crate::memory::WORDS];
     crate::memory::enter_all(t, &mut mem);
+    crate::firsts::bar_text(t, s, &mut mem, n);
     rows(t, s, cells, &mut mem, order, n, s.len() + 1);
 }
 

@@ -9,6 +9,7 @@ ghost use Rattle.match_cells.specs.steps.Memory.{roundsOf, Knows};
 ghost use Rattle.grammar_table.specs.Trees.{treeOf};
 
 pub mod filling;
+pub mod firsts;
 pub mod memory;
 
 // What any byte takes.

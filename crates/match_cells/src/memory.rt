@@ -1,6 +1,7 @@
 // Rounds that are remembered: a repeat at a place ends with what was known at a later one, so that a run of single bytes takes time linear in the text
 // (01, Meaning of a match). Repeated parts with the same tree share what is remembered: each of them has a key, the same for all. The memory is one run of
-// words: how many places of each key it keeps, how many keys there are, the key of each part (0: none), a part of each key, then entries.
+// words: how many places of each key it keeps, how many keys there are, the key of each part (0: none), a part of each key, the bars (firsts.rt), then
+// entries.
 ghost use Prim.Native.Nat.{ℕ, _<_, _≤_};
 ghost use mathlib.Core.Path.{_≡_};
 ghost use mathlib.Core.Bool.{true};
@@ -21,7 +22,12 @@ pub const PARTS: usize = 1025;
 
 pub const PARTS_AT: usize = 1027;
 
-pub const ENTRIES_AT: usize = 2052;
+// Whether a byte has been seen, then 64 words a byte: which symbols are barred where it stands.
+pub const SEEN_AT: usize = 2052;
+
+pub const BARS_AT: usize = 2309;
+
+pub const ENTRIES_AT: usize = 18757;
 
 // What an entry is about, in one word, and the bytes that rounds take: key · 65,536 + place.
 pub const ENTRY_WORDS: usize = 2;
@@ -31,7 +37,7 @@ pub const TEXT: usize = 65536;
 // No key has more places than there are entries.
 pub const ENTRIES: usize = 4096;
 
-pub const WORDS: usize = 10244;
+pub const WORDS: usize = 26949;
 
 pub type Memory = [u32; WORDS];
 

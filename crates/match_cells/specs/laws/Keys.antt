@@ -10,10 +10,11 @@ use lib.ListN.{getD, length, set, length-set, replicate, length-replicate}
 use lib.Seq.{getD-set-same, getD-set-other}
 use Rattle.read_tokens.specs.Token.{Leaf}
 use Rattle.grammar.specs.Exp.{Exp, sym, ter, seq, alt, opt, star, plus, ahead, never}
-use Rattle.grammar_table.specs.Table.{expressionsAt, expressionWords, leafIn, nodeBy}
+use Rattle.grammar_table.specs.Table.{expressionsAt, expressionWords, leafIn, nodeBy, symbolWord}
 use Rattle.grammar_table.specs.Trees.{treeOf, below}
 use Rattle.grammar_table.specs.laws.Trees.{node-at}
-use Rattle.match_cells.specs.steps.Memory.{countAt, keysAt, partsAt, entriesAt, parts, Key, Found, Fresh}
+use Rattle.match_cells.specs.steps.Memory.{countAt, keysAt, partsAt, seenAt, barsAt, entriesAt, parts, Bars, Key, Found, Fresh}
+use Rattle.match_cells.specs.steps.Firsts.{Off}
 use Rattle.match_cells.specs.laws.Memory.{zeros, alike-none}
 
 -- ── the same words, the same tree ──
@@ -57,6 +58,10 @@ module _ (mem new : List ℕ) (y k : ℕ) (here : getD new (keysAt + y) 0 ≡ k)
       go (yes e) = inl (e, flip (a .2) ∙ ap (λ (z : ℕ). getD new (keysAt + z) 0) e ∙ here)
       go (no f) = inr (a .0, a .1, flip (there x f (a .0)) ∙ a .2)
 
+-- bars stand behind the keys
+bars-kept : (t mem new : List ℕ) → ((j : ℕ) → barsAt ≤ j → getD new j 0 ≡ getD mem j 0) → Bars t mem → Bars t new
+bars-kept t mem new f w b r i j h = w b r i j (subst (λ (z : ℕ). 0 < z) (f (barsAt + 64 * b + r) (omega arith)) h)
+
 module _ (t mem : List ℕ) (w : Fresh t mem) where
   module _ (y : ℕ) (small : y < parts) where
     -- the key of a part with the same tree
@@ -86,6 +91,7 @@ module _ (t mem : List ℕ) (w : Fresh t mem) where
               λ x j h. subst (λ (i : ℕ). j ≤ i) (flip (getD-set-other mem (keysAt + y) countAt k 0 (λ e. omega (arith, e)))) (like-most x j (like-split x j h));
           like = λ x z j h g. like-same x z j (like-split x j h) (like-split z j g);
         };
+        bars = bars-kept t mem given (λ j l. getD-set-other mem (keysAt + y) j k 0 (λ e. omega (arith, e, l, small))) (w .bars);
         room = subst (λ (i : ℕ). entriesAt ≤ i) (flip (length-set mem (keysAt + y) k)) (w .room);
         blank = λ j l. getD-set-other mem (keysAt + y) j k 0 (λ e. omega (arith, e, l, small)) ∙ w .blank j l;
       }
@@ -135,6 +141,7 @@ module _ (t mem : List ℕ) (w : Fresh t mem) where
           most = λ x j h. subst (λ (i : ℕ). j ≤ i) (flip counted) (own-most x j (own-split x j h));
           like = λ x z j h g. own-same x z j (own-split x j h) (own-split z j g);
         };
+        bars = bars-kept t mem three (λ j l. other j (λ e. omega (arith, e, l, less)) (λ e. omega (arith, e, l)) (λ e. omega (arith, e, l, small))) (w .bars);
         room = omega (arith, length-set two (keysAt + y) (d + 1), long-two, w .room);
         blank = λ j l. other j (λ e. omega (arith, e, l, less)) (λ e. omega (arith, e, l)) (λ e. omega (arith, e, l, small)) ∙ w .blank j l;
       }
@@ -146,6 +153,7 @@ module _ (t mem : List ℕ) (w : Fresh t mem) where
       most = λ x j h. subst (λ (i : ℕ). j ≤ i) (flip (getD-set-other mem 0 countAt v 0 (λ e. omega (arith, e)))) (w .shared .most x j (back x j h));
       like = λ x z j h g. w .shared .like x z j (back x j h) (back z j g);
     };
+    bars = bars-kept t mem (set mem 0 v) (λ j l. getD-set-other mem 0 j v 0 (λ e. omega (arith, e, l))) (w .bars);
     room = subst (λ (i : ℕ). entriesAt ≤ i) (flip (length-set mem 0 v)) (w .room);
     blank = λ j l. getD-set-other mem 0 j v 0 (λ e. omega (arith, e, l)) ∙ w .blank j l;
   }
@@ -153,10 +161,45 @@ module _ (t mem : List ℕ) (w : Fresh t mem) where
       back : (x j : ℕ) → Key (set mem 0 v) x j → Key mem x j
       back x j h = (h .0, h .1, flip (getD-set-other mem 0 (keysAt + x) v 0 (λ e. omega (arith, e))) ∙ h .2)
 
+-- a word behind the keys and before the entries
+module _ (t mem : List ℕ) (w : Fresh t mem) (i v : ℕ) (low : seenAt ≤ i) (high : i < entriesAt) where
+  back-key : (x j : ℕ) → Key (set mem i v) x j → Key mem x j
+  back-key x j h = (h .0, h .1, flip (getD-set-other mem i (keysAt + x) v 0 (λ e. omega (arith, e, low, h .0))) ∙ h .2)
+
+  fresh-set : Bars t (set mem i v) → Fresh t (set mem i v)
+  fresh-set bs = record {
+    shared = record {
+      most = λ x j h. subst (λ (z : ℕ). j ≤ z) (flip (getD-set-other mem i countAt v 0 (λ e. omega (arith, e, low)))) (w .shared .most x j (back-key x j h));
+      like = λ x z j h g. w .shared .like x z j (back-key x j h) (back-key z j g);
+    };
+    bars = bs;
+    room = subst (λ (z : ℕ). entriesAt ≤ z) (flip (length-set mem i v)) (w .room);
+    blank = λ j l. getD-set-other mem i j v 0 (λ e. omega (arith, e, l, high)) ∙ w .blank j l;
+  }
+
+-- a byte is seen
+pub fresh-seen : (t mem : List ℕ) → Fresh t mem → (b : ℕ) → b ≤ 256 → (v : ℕ) → Fresh t (set mem (seenAt + b) v)
+fresh-seen t mem w b l v =
+    fresh-set t mem w (seenAt + b) v (omega arith) (omega arith)
+    (bars-kept t mem (set mem (seenAt + b) v) (λ j h. getD-set-other mem (seenAt + b) j v 0 (λ e. omega (arith, e, h, l))) (w .bars))
+
+-- a symbol is barred
+pub fresh-bar : (t mem : List ℕ) → Fresh t mem → (b r : ℕ) → b ≤ 256 → r < 64 → Off b (treeOf t (symbolWord t r 1)) → Fresh t (set mem (barsAt + 64 * b + r) 1)
+fresh-bar t mem w b r lb lr off =
+    fresh-set t mem w (barsAt + 64 * b + r) 1 (omega arith) (omega arith) (λ d q i j h. go d q i j h (ℕ-discrete (barsAt + 64 * d + q) (barsAt + 64 * b + r)))
+  where
+    go : (d q : ℕ) → d ≤ 256 → q < 64 → 0 < getD (set mem (barsAt + 64 * b + r) 1) (barsAt + 64 * d + q) 0 → Dec (barsAt + 64 * d + q ≡ barsAt + 64 * b + r) → Off d (treeOf t (symbolWord t q 1))
+    go d q i j h (yes e) =
+        let u : b ≡ d = omega (arith, e, lr, j) in
+        let v : r ≡ q = omega (arith, e, lr, j) in
+        subst (λ (z : ℕ). Off z (treeOf t (symbolWord t q 1))) u (subst (λ (z : ℕ). Off b (treeOf t (symbolWord t z 1))) v off)
+    go d q i j h (no f) = w .bars d q i j (subst (λ (z : ℕ). 0 < z) (getD-set-other mem (barsAt + 64 * b + r) (barsAt + 64 * d + q) 1 0 f) h)
+
 -- nothing but 0
 pub fresh-none : (t : List ℕ) (m : ℕ) → entriesAt ≤ m → Fresh t (replicate {A = ℕ} m 0)
 fresh-none t m l = record {
   shared = alike-none t (replicate {A = ℕ} m 0) (zeros m);
+  bars = λ b r i j h. absurd (omega (arith, zeros m (barsAt + 64 * b + r), h));
   room = subst (λ (i : ℕ). entriesAt ≤ i) (flip (length-replicate {A = ℕ} m 0)) l;
   blank = λ j g. zeros m j;
 }

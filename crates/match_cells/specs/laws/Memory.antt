@@ -12,7 +12,7 @@ use Rattle.grammar.specs.Exp.{Exp}
 use Rattle.match_cells.specs.Eval.{ev, rep}
 use Rattle.match_cells.specs.laws.Within.{ev-within, rep-within}
 use Rattle.grammar_table.specs.Trees.{treeOf}
-use Rattle.match_cells.specs.steps.Memory.{countAt, keysAt, entriesAt, roundsOf, Key, Alike, Fresh, Says, Told, Knows, Same, Noted}
+use Rattle.match_cells.specs.steps.Memory.{countAt, keysAt, barsAt, entriesAt, roundsOf, Key, Alike, Fresh, Says, Told, Knows, Same, Noted}
 use Rattle.match_cells.specs.laws.Frame.{rounds-same, rep-enough}
 
 module _ (t s cs mem : List ℕ) (n : ℕ) where
@@ -32,12 +32,13 @@ module _ (t s cs mem : List ℕ) (n : ℕ) where
       )
 
   pub knows-from : (k j : ℕ) → j ≤ k → Knows t s cs n mem k → Knows t s cs n mem j
-  knows-from k j h w = record { shared = w .shared; from = λ i x y q l a b. omega (arith, w .from i x y q l a b); right = w .right }
+  knows-from k j h w = record { shared = w .shared; bars = w .bars; from = λ i x y q l a b. omega (arith, w .from i x y q l a b); right = w .right }
 
   -- where no entry says anything
   pub knows-fresh : (k : ℕ) → Fresh t mem → Knows t s cs n mem k
   knows-fresh k f = record {
     shared = f .shared;
+    bars = f .bars;
     from = λ i x j q l a b. absurd (omega (arith, f .blank (entriesAt + 2 * i) (omega arith), a .1, b));
     right = λ i x j q l a b. absurd (omega (arith, f .blank (entriesAt + 2 * i) (omega arith), a .1, b));
   }
@@ -46,6 +47,7 @@ module _ (t s cs mem : List ℕ) (n : ℕ) where
   pub knows-stored : (p r v : ℕ) → r < n → Knows t s cs n mem (p + 1) → Knows t s (set cs (p * n + r) v) n mem (p + 1)
   knows-stored p r v l w = record {
     shared = w .shared;
+    bars = w .bars;
     from = w .from;
     right =
         λ i x k q b a d.
@@ -80,6 +82,7 @@ module _ (t s cs old new : List ℕ) (n x k p c : ℕ) (small : p < 65536) (has 
       most = λ y j h. subst (λ (z : ℕ). j ≤ z) (sym (o .front countAt (omega arith))) (w .shared .most y j (key-back y j h));
       like = λ y z j h g. w .shared .like y z j (key-back y j h) (key-back z j g);
     };
+    bars = λ b r i j h. w .bars b r i j (subst (λ (z : ℕ). 0 < z) (o .front (barsAt + 64 * b + r) (omega arith)) h);
     from = λ i y j q l h a. first i y j q l h a (o .at i);
     right = λ i y j q l h a. second i y j q l h a (o .at i);
   }
@@ -132,6 +135,7 @@ alike-none t mem z = record {
 pub knows-nothing : (t s cs : List ℕ) (n k m : ℕ) → Knows t s cs n (replicate {A = ℕ} m 0) k
 knows-nothing t s cs n k m = record {
   shared = alike-none t (replicate {A = ℕ} m 0) (zeros m);
+  bars = λ b r i j h. absurd (omega (arith, zeros m (barsAt + 64 * b + r), h));
   from = λ i x j q l a b. absurd (omega (arith, zeros m (keysAt + x), a .1, a .2));
   right = λ i x j q l a b. absurd (omega (arith, zeros m (keysAt + x), a .1, a .2));
 }
