@@ -3,5 +3,6 @@ pub mod Walks
 pub mod Names
 pub mod Hits
 pub mod Offences
-pub mod Lefts
-pub mod Index
+pub mod Order
+pub mod Marks
+pub mod Sweeps
