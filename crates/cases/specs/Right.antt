@@ -28,8 +28,8 @@ use Rattle.lake_calls.specs.Calls.{firstCalls, callsOf, calledBy, reach, loopFr
 use Rattle.lake_step_two.specs.Plain.{nonterminalsIn, terminalsIn, alternatives, plainFrom, plainBodies, sizes, rulesBy, plainRules}
 use Rattle.match_cells.specs.Cells.{bodyAt, rowOf, fillOf, cells}
 use Rattle.match_cells.specs.Eval.{stands, leafAt, cellAt, joinOf, seqOf, altOf, stepOf, rep, plusOf, optOf, aheadOf, neverOf, ev}
-use Rattle.match_nodes.specs.Nodes.{seqN, altN, optN, stepN, repN, walkOf, nodeIf, nodesOf, levels, listOf, listingOf, putNode, written, wordsOf}
-use Rattle.match_nodes.specs.Nodes.{roomOf, nodeAt, nodesAt, soundAt, nodeText}
+use Rattle.match_nodes.specs.Nodes.{seqN, altN, optN, stepN, repN, walkOf, nodeIf, nodesOf, levels, listOf, listingOf, inWords, putNode, written}
+use Rattle.match_nodes.specs.Nodes.{wordsOf, roomOf, nodeAt, nodesAt, soundAt, nodeText}
 use Rattle.write_rules.specs.Writing.{byteText, litChar, classChar, litChars, runs as writing-runs, runText, runsText, leafText, symbolText}
 use Rattle.write_rules.specs.Writing.{exprText, ruleText, text}
 use Rattle.prepare.specs.Reads.{verdictOf, readOf}
@@ -51,7 +51,7 @@ unfolding cases answered text-bytes oneOf ranges kindAt textBound nameBound open
     beginningsFrom beginnings sets-over given leastBy waterIn bodiesBy intermediate firstCalls callsOf calledBy reach loopFrom loop ranksOf ofRank
     orderFrom order nonterminalsIn terminalsIn alternatives plainFrom plainBodies sizes rulesBy plainRules bodyAt rowOf fillOf cells stands leafAt
     cellAt joinOf seqOf altOf stepOf rep plusOf optOf aheadOf neverOf ev seqN altN optN stepN repN walkOf nodeIf nodesOf levels listOf listingOf
-    putNode written wordsOf roomOf nodeAt nodesAt soundAt nodeText byteText litChar classChar litChars writing-runs runText runsText leafText
+    inWords putNode written wordsOf roomOf nodeAt nodesAt soundAt nodeText byteText litChar classChar litChars writing-runs runText runsText leafText
     symbolText exprText ruleText text verdictOf readOf setsOf cannotSkipOf matchOf noneMatches wayNumber wayIn lakeOf writeOwnOf writePlainOf
     preparedBy prepared refuses
 cases-right = refl

@@ -5,7 +5,8 @@ use mathlib.Core.Path.{_≡_}
 use mathlib.Core.Bool.{Bool, cond, _&&_}
 use mathlib.Core.List.{List, [], _∷_, _++_}
 use lib.Dec.{leb, ltb}
-use lib.ListN.{length, getD, set, take, drop}
+use lib.ListN.{length, getD, take, drop}
+use lib.Seq.{sets}
 use Rattle.read_tokens.specs.Bounds.{depthBound, nodeWords}
 use Rattle.grammar.specs.Exp.{Exp, sym, ter, seq, alt, opt, star, plus, ahead, never}
 use Rattle.match_meaning.specs.Meaning.{Node, nd}
@@ -78,11 +79,13 @@ listingOf room k [] = all k
 listingOf room k (n ∷ ns) = cond (ltb depthBound (n .depth)) (deep k) (cond (ltb k room) (listingOf room (suc k) ns) (full k))
 
 -- ── the words ──
--- node k is written: "four u32 words: symbol, start, end, depth"
+-- "four u32 words: symbol, start, end, depth"
+unfoldable pub inWords : Node → List ℕ
+inWords n = n .symbol ∷ n .start ∷ n .end ∷ n .depth ∷ []
+
+-- node k is written
 unfoldable pub putNode : List ℕ → ℕ → Node → List ℕ
-putNode ws k n =
-    let i : ℕ = nodeWords * k in
-    set (set (set (set ws i (n .symbol)) (i + 1) (n .start)) (i + 2) (n .end)) (i + 3) (n .depth)
+putNode ws k n = sets ws (nodeWords * k) (inWords n)
 
 -- the words after a list is written, its first node as node k
 unfoldable pub written : List ℕ → ℕ → List Node → List ℕ
@@ -103,8 +106,12 @@ unfoldable pub roomOf : List ℕ → ℕ
 roomOf ws = length ws / nodeWords
 
 -- ── reading them ──
+-- word j of node k
+abbrev pub nodeWord : List ℕ → ℕ → ℕ → ℕ
+nodeWord ws k j = getD ws (nodeWords * k + j) 0
+
 unfoldable pub nodeAt : List ℕ → ℕ → Node
-nodeAt ws k = let i : ℕ = nodeWords * k in nd (getD ws i 0) (getD ws (i + 1) 0) (getD ws (i + 2) 0) (getD ws (i + 3) 0)
+nodeAt ws k = nd (nodeWord ws k 0) (nodeWord ws k 1) (nodeWord ws k 2) (nodeWord ws k 3)
 
 -- c nodes from number k on
 unfoldable pub nodesAt : List ℕ → ℕ → ℕ → List Node

@@ -5,10 +5,10 @@ ghost use Prim.Native.Nat.{ℕ, _+_, _*_, _/_, _%_, _≤_, _<_};
 ghost use mathlib.Core.Path.{_≡_};
 ghost use lib.ListN.{length};
 ghost use Rattle.match_meaning.specs.Meaning.{nd};
-ghost use Rattle.match_nodes.specs.Nodes.{putNode, listOf, listingOf, wordsOf, roomOf};
+ghost use Rattle.match_nodes.specs.Nodes.{listOf, listingOf, wordsOf, roomOf};
 ghost use Rattle.match_nodes.specs.steps.Passes.{out, putIf, note as noted, run, decode};
 ghost use Rattle.grammar_table.specs.Trees.{bodiesOf};
-ghost use Rattle.match_nodes.specs.steps.Tasks.{walk, again, enter as entering, taskOf, takes, Able, depthOf, pushed, stackOf, Step};
+ghost use Rattle.match_nodes.specs.steps.Tasks.{walk, again, enter as entering, taskWord, taskOf, takes, Able, depthOf, pushed, stackOf, Step};
 ghost use Rattle.match_nodes.specs.steps.Parts.{Made, Picked, Chosen};
 ghost use Rattle.match_nodes.specs.steps.Turns.{Ready, said, Moved, State, Turned};
 
@@ -18,6 +18,29 @@ pub enum Listed {
     Deep(usize),
     Full(usize),
 }
+
+// No alternative matches: above every expression's number.
+const FAILS: usize = 4096;
+// The deepest node that is listed.
+const DEEPEST: usize = 255;
+// A pass's answer is a refusal from here on: this and the number of the node that is too deep, or twice this where a node has no room.
+const REFUSED: usize = 4611686018427387904;
+
+const NO_ROOM: usize = 9223372036854775808;
+// The stack: as many words as expressions, for each level.
+const STACK_WORDS: usize = 263168;
+// Kinds of a task: an expression that matches, further rounds of one, a symbol that matches.
+const TO_WALK: usize = 1;
+
+const TO_REPEAT: usize = 2;
+
+const TO_ENTER: usize = 3;
+// A task's word: of each level so many kinds, of each kind so many numbers.
+const KINDS: usize = 4;
+
+const NUMBERS: usize = 2048;
+
+const LEVEL: usize = 8192;
 
 // An expression's kind, its left word and its parts.
 struct Seen {
@@ -34,6 +57,7 @@ struct Plan {
     high: usize,
 }
 
+// A plan, and the count of nodes.
 struct Move {
     place: usize,
     low: usize,
@@ -41,6 +65,14 @@ struct Move {
     at: usize,
 }
 
+// What a pass keeps: how many symbols, how many nodes there is room for, and whether it writes.
+struct Setting {
+    n: usize,
+    room: usize,
+    write: usize,
+}
+
+// Where a pass stands: on the stack, in the text, in the list.
 struct Stand {
     height: usize,
     place: usize,
@@ -66,6 +98,14 @@ fn look(t: &[u32], x: usize) -> Seen
     }
 }
 
+// A task in one word.
+fn task(kind: usize, d: usize, x: usize) -> usize
+    requires { ⌜ (kind < 4) × (d ≤ 257) × (x < 4294967296) ⌝ }
+    ensures { λ r. ⌜ r ≡ taskWord kind d x ⌝ }
+{
+    (d * KINDS + kind) * NUMBERS + x
+}
+
 // x where it matches at p, 4,096 where it fails.
 fn whole(t: &[u32], s: &[u8], cells: &[u32], n: usize, x: usize, p: usize) -> usize
     requires { ⌜ (n ≤ 64) × (x < 2048) × (length (now s) ≤ 65535) × (p ≤ length (now s)) ⌝ }
@@ -73,7 +113,7 @@ fn whole(t: &[u32], s: &[u8], cells: &[u32], n: usize, x: usize, p: usize) -> us
 {
     let v = match_cells::eval(t, s, cells, n, x, p);
     if v == 0 {
-        return 4096;
+        return FAILS;
     }
     x
 }
@@ -93,7 +133,7 @@ fn pick(t: &[u32], s: &[u8], cells: &[u32], n: usize, x: usize, p: usize) -> usi
     }
     let y = g.y;
     let a = pick(t, s, cells, n, y, p);
-    if a != 4096 {
+    if a != FAILS {
         return a;
     }
     let z = g.z;
@@ -106,7 +146,7 @@ fn choose(t: &[u32], s: &[u8], cells: &[u32], n: usize, y: usize, z: usize, p: u
     ensures { λ r. ⌜ Chosen (now (t .entry)) (now (s .entry)) (now (cells .entry)) n y z p r ⌝ }
 {
     let a = pick(t, s, cells, n, y, p);
-    if a != 4096 {
+    if a != FAILS {
         return a;
     }
     pick(t, s, cells, n, z, p)
@@ -142,19 +182,19 @@ fn walk_plan(t: &[u32], s: &[u8], cells: &[u32], n: usize, x: usize, d: usize, p
         grammar_table::SYMBOL => Plan {
             place: p,
             low: 0,
-            high: (d * 4 + 3) * 2048 + left,
+            high: task(TO_ENTER, d, left),
         },
         grammar_table::SEQUENCE => Plan {
             place: p,
-            low: (d * 4 + 1) * 2048 + z,
-            high: (d * 4 + 1) * 2048 + y,
+            low: task(TO_WALK, d, z),
+            high: task(TO_WALK, d, y),
         },
         grammar_table::CHOICE => {
             let a = choose(t, s, cells, n, y, z, p);
             Plan {
                 place: p,
                 low: 0,
-                high: (d * 4 + 1) * 2048 + a,
+                high: task(TO_WALK, d, a),
             }
         }
         grammar_table::OPTION => {
@@ -169,18 +209,18 @@ fn walk_plan(t: &[u32], s: &[u8], cells: &[u32], n: usize, x: usize, d: usize, p
             Plan {
                 place: p,
                 low: 0,
-                high: (d * 4 + 1) * 2048 + y,
+                high: task(TO_WALK, d, y),
             }
         }
         grammar_table::STAR => Plan {
             place: p,
             low: 0,
-            high: (d * 4 + 2) * 2048 + y,
+            high: task(TO_REPEAT, d, y),
         },
         grammar_table::PLUS => Plan {
             place: p,
-            low: (d * 4 + 2) * 2048 + y,
-            high: (d * 4 + 1) * 2048 + y,
+            low: task(TO_REPEAT, d, y),
+            high: task(TO_WALK, d, y),
         },
         grammar_table::AHEAD => Plan {
             place: p,
@@ -211,80 +251,58 @@ fn again_plan(t: &[u32], s: &[u8], cells: &[u32], n: usize, x: usize, d: usize, 
     }
     Plan {
         place: p,
-        low: (d * 4 + 2) * 2048 + x,
-        high: (d * 4 + 1) * 2048 + x,
+        low: task(TO_REPEAT, d, x),
+        high: task(TO_WALK, d, x),
     }
-}
-
-// The four words of node k.
-fn put_node(nodes: &mut [u32], k: usize, r: usize, p: usize, q: usize, d: usize)
-    requires { ⌜ (k < 4611686018427387904) × (r < 4294967296) × (p < 4294967296) × (q < 4294967296) × (d < 4294967296) ⌝ }
-    ensures { λ z. ⌜ now (nodes .exit) ≡ putNode (now (nodes .entry)) k (nd r p q d) ⌝ }
-{
-    let i = 4 * k;
-    base_words::put(nodes, i, r);
-    base_words::put(nodes, i + 1, p);
-    base_words::put(nodes, i + 2, q);
-    base_words::put(nodes, i + 3, d);
 }
 
 // One node: its number, or the refusal. "11 and 12: the first node in list order that offends, then 11".
-fn note(
-    nodes: &mut [u32],
-    room: usize,
-    write: usize,
-    at: usize,
-    r: usize,
-    p: usize,
-    q: usize,
-    d: usize,
-) -> usize
+fn note(nodes: &mut [u32], g: Setting, at: usize, r: usize, p: usize, q: usize, d: usize) -> usize
     requires { ⌜ (at < 4611686018427387904) × (r < 4294967296) × (p < 4294967296) × (q < 4294967296) × (d < 4294967296) ⌝ }
-    ensures { λ v. ⌜ out (now (nodes .exit)) v ≡ noted room write (out (now (nodes .entry)) at) (nd r p q d) ⌝ }
+    ensures { λ v. ⌜ out (now (nodes .exit)) v ≡ noted (g .room) (g .write) (out (now (nodes .entry)) at) (nd r p q d) ⌝ }
 {
-    if 255 < d {
-        return at + 4611686018427387904;
+    if DEEPEST < d {
+        return at + REFUSED;
     }
-    if room <= at {
-        return 9223372036854775808;
+    if g.room <= at {
+        return NO_ROOM;
     }
-    if write == 0 {
+    if g.write == 0 {
         return at + 1;
     }
-    put_node(nodes, at, r, p, q, d);
+    nodes::put_node(nodes, at, r, p, q, d);
     at + 1
 }
 
-// Symbol r, which matches at p: its node, and then its body.
+// The symbol of task w, which matches: its node, and then its body.
 fn enter(
     t: &[u32],
     s: &[u8],
     cells: &[u32],
-    n: usize,
     nodes: &mut [u32],
-    room: usize,
-    write: usize,
-    at: usize,
-    r: usize,
-    d: usize,
-    p: usize,
+    g: Setting,
+    w: usize,
+    st: Stand,
 ) -> Move
-    requires { ⌜ Ready (now t) (now s) (now cells) n × (at < 4611686018427387904) × (d ≤ 256) × (r < 2048) × (p ≤ length (now s))
-        × (Able (now t) (now s) (now cells) n (entering r d) p) ⌝ }
-    ensures { λ g.
-        ⌜ Moved (now (t .entry)) (now (s .entry)) (now (cells .entry)) n room write (out (now (nodes .entry)) at) (out (now (nodes .exit)) (g .at))
-        (entering r d) p (g .low) (g .high) (g .place) ⌝ }
+    requires { ⌜ Ready (now t) (now s) (now cells) (g .n) × (st .at < 4611686018427387904) × (w / 8192 ≤ 256) × (st .place ≤ length (now s))
+        × (Able (now t) (now s) (now cells) (g .n) (entering (w % 2048) (w / 8192)) (st .place)) ⌝ }
+    ensures { λ m.
+        ⌜ Moved (now (t .entry)) (now (s .entry)) (now (cells .entry)) (g .n) (g .room) (g .write) (out (now (nodes .entry)) (st .at))
+        (out (now (nodes .exit)) (m .at)) (entering (w % 2048) (w / 8192)) (st .place) (m .low) (m .high) (m .place) ⌝ }
 {
-    let c = match_cells::cell_at(s, cells, n, r, p);
+    let r = w % NUMBERS;
+    let d = w / LEVEL;
+    let p = st.place;
+    let c = match_cells::cell_at(s, cells, g.n, r, p);
     let b = base_words::word(
         t,
         grammar_table::SYMBOLS_AT + grammar_table::SYMBOL_WORDS * r + grammar_table::BODY,
     );
-    let v = note(nodes, room, write, at, r, p, p + (c - 1), d);
+    let v = note(nodes, g, st.at, r, p, p + (c - 1), d);
     Move {
         place: p,
         low: 0,
-        high: ((d + 1) * 4 + 1) * 2048 + b,
+        high: task(TO_WALK, d + 1, b),
         at: v,
     }
 }
@@ -294,42 +312,39 @@ fn act(
     t: &[u32],
     s: &[u8],
     cells: &[u32],
-    n: usize,
     nodes: &mut [u32],
-    room: usize,
-    write: usize,
-    at: usize,
+    g: Setting,
     w: usize,
-    p: usize,
+    st: Stand,
 ) -> Move
-    requires { ⌜ Ready (now t) (now s) (now cells) n × (at < 4611686018427387904) × (w < 4294967296) × (p ≤ length (now s))
-        × Able (now t) (now s) (now cells) n (taskOf w) p × (depthOf (taskOf w) ≤ 256) ⌝ }
-    ensures { λ g.
-        ⌜ Moved (now (t .entry)) (now (s .entry)) (now (cells .entry)) n room write (out (now (nodes .entry)) at) (out (now (nodes .exit)) (g .at))
-        (taskOf w) p (g .low) (g .high) (g .place) ⌝ }
+    requires { ⌜ Ready (now t) (now s) (now cells) (g .n) × (st .at < 4611686018427387904) × (w < 4294967296) × (st .place ≤ length (now s))
+        × Able (now t) (now s) (now cells) (g .n) (taskOf w) (st .place) × (depthOf (taskOf w) ≤ 256) ⌝ }
+    ensures { λ m.
+        ⌜ Moved (now (t .entry)) (now (s .entry)) (now (cells .entry)) (g .n) (g .room) (g .write) (out (now (nodes .entry)) (st .at))
+        (out (now (nodes .exit)) (m .at)) (taskOf w) (st .place) (m .low) (m .high) (m .place) ⌝ }
 {
-    let x = w % 2048;
-    let d = w / 8192;
-    let k = w / 2048 % 4;
-    if k == 1 {
-        let g = walk_plan(t, s, cells, n, x, d, p);
+    let x = w % NUMBERS;
+    let d = w / LEVEL;
+    let k = w / NUMBERS % KINDS;
+    if k == TO_WALK {
+        let m = walk_plan(t, s, cells, g.n, x, d, st.place);
         return Move {
-            place: g.place,
-            low: g.low,
-            high: g.high,
-            at: at,
+            place: m.place,
+            low: m.low,
+            high: m.high,
+            at: st.at,
         };
     }
-    if k == 2 {
-        let g = again_plan(t, s, cells, n, x, d, p);
+    if k == TO_REPEAT {
+        let m = again_plan(t, s, cells, g.n, x, d, st.place);
         return Move {
-            place: g.place,
-            low: g.low,
-            high: g.high,
-            at: at,
+            place: m.place,
+            low: m.low,
+            high: m.high,
+            at: st.at,
         };
     }
-    enter(t, s, cells, n, nodes, room, write, at, x, d, p)
+    enter(t, s, cells, nodes, g, w, st)
 }
 
 // A word on the stack, if there is one: the new height.
@@ -357,28 +372,25 @@ fn turn(
     t: &[u32],
     s: &[u8],
     cells: &[u32],
-    n: usize,
     nodes: &mut [u32],
-    room: usize,
-    write: usize,
+    g: Setting,
     stack: &mut [u32],
-    h: usize,
-    p: usize,
-    at: usize,
+    st: Stand,
 ) -> Stand
-    requires { ⌜ Ready (now t) (now s) (now cells) n × (at < 4611686018427387904) × (0 < h) × (length (now stack) ≡ 263168)
-        × State (now t) (now s) (now cells) n (stackOf (now stack) h) p ⌝ }
-    ensures { λ g.
-        ⌜ Turned (now (t .entry)) (now (s .entry)) (now (cells .entry)) n room write (out (now (nodes .entry)) at) (out (now (nodes .exit)) (g .at))
-        (stackOf (now (stack .entry)) h) p (stackOf (now (stack .exit)) (g .height)) (g .place) ⌝ }
+    requires { ⌜ Ready (now t) (now s) (now cells) (g .n) × (st .at < 4611686018427387904) × (0 < st .height) × (length (now stack) ≡ 263168)
+        × State (now t) (now s) (now cells) (g .n) (stackOf (now stack) (st .height)) (st .place) ⌝ }
+    ensures { λ r.
+        ⌜ Turned (now (t .entry)) (now (s .entry)) (now (cells .entry)) (g .n) (g .room) (g .write) (out (now (nodes .entry)) (st .at))
+        (out (now (nodes .exit)) (r .at)) (stackOf (now (stack .entry)) (st .height)) (st .place) (stackOf (now (stack .exit)) (r .height)) (r .place) ⌝ }
 {
-    let w = base_words::word(stack, h - 1);
-    let g = act(t, s, cells, n, nodes, room, write, at, w, p);
-    let k = push_both(stack, h - 1, g.low, g.high);
+    let h = st.height - 1;
+    let w = base_words::word(stack, h);
+    let m = act(t, s, cells, nodes, g, w, st);
+    let k = push_both(stack, h, m.low, m.high);
     Stand {
         height: k,
-        place: g.place,
-        at: g.at,
+        place: m.place,
+        at: m.at,
     }
 }
 
@@ -392,15 +404,31 @@ fn pass(t: &[u32], s: &[u8], cells: &[u32], n: usize, nodes: &mut [u32], write: 
     if c == 0 {
         return 0;
     }
-    let room = nodes.len() / 4;
-    let mut stack: [u32; 263168] = [0; 263168];
-    let mut h = push(&mut stack, 0, 6144);
+    let room = nodes.len() / nodes::NODE_WORDS;
+    let mut stack: [u32; STACK_WORDS] = [0; STACK_WORDS];
+    let mut h = push(&mut stack, 0, task(TO_ENTER, 0, 0));
     let mut p: usize = 0;
     let mut at: usize = 0;
     while 0 < h {
-        let g = turn(t, s, cells, n, nodes, room, write, &mut stack, h, p, at);
+        let g = turn(
+            t,
+            s,
+            cells,
+            nodes,
+            Setting {
+                n: n,
+                room: room,
+                write: write,
+            },
+            &mut stack,
+            Stand {
+                height: h,
+                place: p,
+                at: at,
+            },
+        );
         at = g.at;
-        if 4611686018427387904 <= at {
+        if REFUSED <= at {
             return at;
         }
         h = g.height;
@@ -413,11 +441,11 @@ fn pass(t: &[u32], s: &[u8], cells: &[u32], n: usize, nodes: &mut [u32], write: 
 fn answer(room: usize, v: usize) -> Listed
     ensures { λ r. ⌜ said r ≡ decode room v ⌝ }
 {
-    if v < 4611686018427387904 {
+    if v < REFUSED {
         return Listed::All(v);
     }
-    if v < 9223372036854775808 {
-        return Listed::Deep(v - 4611686018427387904);
+    if v < NO_ROOM {
+        return Listed::Deep(v - REFUSED);
     }
     Listed::Full(room)
 }
@@ -429,9 +457,9 @@ pub fn list(t: &[u32], s: &[u8], cells: &[u32], n: usize, nodes: &mut [u32]) -> 
         × (now (nodes .exit)
         ≡ wordsOf (roomOf (now (nodes .entry))) (now (nodes .entry)) (listOf (bodiesOf (now (t .entry))) (now (s .entry)) (now (cells .entry)))) ⌝ }
 {
-    let room = nodes.len() / 4;
+    let room = nodes.len() / nodes::NODE_WORDS;
     let v = pass(t, s, cells, n, nodes, 0);
-    if 4611686018427387904 <= v {
+    if REFUSED <= v {
         return answer(room, v);
     }
     let i = pass(t, s, cells, n, nodes, 1);

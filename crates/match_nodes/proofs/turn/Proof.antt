@@ -13,20 +13,17 @@ use Rattle.match_nodes.proofs.act.Reads as act-reads
 use Rattle.match_nodes.proofs.push_both.Reads as push-both-reads
 use Rattle.base_words.proofs.word.Reads as word-reads
 
-sub-word : tie.Need-sub-word
-sub-word c = search needs
+sub-h : tie.Need-sub-h
+sub-h c = search needs
 
 word-requires : tie.Need-word-requires
 word-requires c κs = search needs
 
 act-requires : tie.Need-act-requires
-act-requires c κs = let a = top-able (c .before .before .before .before .before .before .before .before .args .t .now) (c .before .before .before .before .before .before .before .before .args .s .now) (c .before .before .before .before .before .before .before .before .args .cells .now) (c .before .before .before .before .before .before .before .before .args .n) (stackOf (c .before .before .before .before .before .before .before .before .args .stack .now) (c .before .before .before .before .before .before .before .before .args .h)) (stackOf (c .before .before .before .before .before .before .before .before .args .stack .now) (c .before .before .before .before .before .before .before .before .args .h - 1)) (c .before .word .result) (c .before .before .before .before .before .before .before .before .args .p) (stack-top (c .before .before .before .before .before .before .before .before .args .stack .now) (c .before .before .before .before .before .before .before .before .args .h) (c .before .word .result) (c .before .before .before .before .before .before .before .before .pre .2) (c .before .word .ensures .0)) (c .before .before .before .before .before .before .before .before .pre .4) in (c .before .before .before .before .before .before .before .before .pre .0, c .before .before .before .before .before .before .before .before .pre .1, c .before .word .ensures .1, c .before .before .before .before .before .before .before .before .pre .4 .place, a .0, a .1 .1)
-
-sub-push-both : tie.Need-sub-push-both
-sub-push-both c = search needs
+act-requires c κs = let a = top-able (c .before .before .before .before .before .before .before .before .before .args .t .now) (c .before .before .before .before .before .before .before .before .before .args .s .now) (c .before .before .before .before .before .before .before .before .before .args .cells .now) (c .before .before .before .before .before .before .before .before .before .args .g .n) (stackOf (c .before .before .before .before .before .before .before .before .before .args .stack .now) (c .before .before .before .before .before .before .before .before .before .args .st .height)) (stackOf (c .before .before .before .before .before .before .before .before .before .args .stack .now) (c .before .before .before .before .before .before .before .before .before .args .st .height - 1)) (c .before .word .result) (c .before .before .before .before .before .before .before .before .before .args .st .place) (stack-top (c .before .before .before .before .before .before .before .before .before .args .stack .now) (c .before .before .before .before .before .before .before .before .before .args .st .height) (c .before .word .result) (c .before .before .before .before .before .before .before .before .before .pre .2) (c .before .word .ensures .0)) (c .before .before .before .before .before .before .before .before .before .pre .4) in (c .before .before .before .before .before .before .before .before .before .pre .0, c .before .before .before .before .before .before .before .before .before .pre .1, c .before .word .ensures .1, c .before .before .before .before .before .before .before .before .before .pre .4 .place, a .0, a .1 .1)
 
 push-both-requires : tie.Need-push-both-requires
-push-both-requires c κs = let a = top-able (c .before .before .before .before .before .before .before .before .before .before .before .before .args .t .now) (c .before .before .before .before .before .before .before .before .before .before .before .before .args .s .now) (c .before .before .before .before .before .before .before .before .before .before .before .before .args .cells .now) (c .before .before .before .before .before .before .before .before .before .before .before .before .args .n) (stackOf (c .before .before .before .before .before .before .before .before .before .before .before .before .args .stack .now) (c .before .before .before .before .before .before .before .before .before .before .before .before .args .h)) (stackOf (c .before .before .before .before .before .before .before .before .before .before .before .before .args .stack .now) (c .before .before .before .before .before .before .before .before .before .before .before .before .args .h - 1)) (c .before .before .before .before .before .word .result) (c .before .before .before .before .before .before .before .before .before .before .before .before .args .p) (stack-top (c .before .before .before .before .before .before .before .before .before .before .before .before .args .stack .now) (c .before .before .before .before .before .before .before .before .before .before .before .before .args .h) (c .before .before .before .before .before .word .result) (c .before .before .before .before .before .before .before .before .before .before .before .before .pre .2) (c .before .before .before .before .before .word .ensures .0)) (c .before .before .before .before .before .before .before .before .before .before .before .before .pre .4) in (top-low (taskOf (c .before .before .before .before .before .word .result)) (stackOf (c .before .before .before .before .before .before .before .before .before .before .before .before .args .stack .now) (c .before .before .before .before .before .before .before .before .before .before .before .before .args .h - 1)) (c .before .before .before .before .before .before .before .before .before .before .before .before .args .h - 1) _ (stack-length (c .before .before .before .before .before .before .before .before .before .before .before .before .args .stack .now) (c .before .before .before .before .before .before .before .before .before .before .before .before .args .h - 1)) (a .1) (c .before .before .before .before .before .before .before .before .before .before .before .before .pre .3), c .before .before .before .act .ensures .low-small, c .before .before .before .act .ensures .high-small)
+push-both-requires c κs = let a = top-able (c .before .before .before .before .before .before .before .before .before .before .before .before .before .args .t .now) (c .before .before .before .before .before .before .before .before .before .before .before .before .before .args .s .now) (c .before .before .before .before .before .before .before .before .before .before .before .before .before .args .cells .now) (c .before .before .before .before .before .before .before .before .before .before .before .before .before .args .g .n) (stackOf (c .before .before .before .before .before .before .before .before .before .before .before .before .before .args .stack .now) (c .before .before .before .before .before .before .before .before .before .before .before .before .before .args .st .height)) (stackOf (c .before .before .before .before .before .before .before .before .before .before .before .before .before .args .stack .now) (c .before .before .before .before .before .before .before .before .before .before .before .before .before .args .st .height - 1)) (c .before .before .before .before .before .word .result) (c .before .before .before .before .before .before .before .before .before .before .before .before .before .args .st .place) (stack-top (c .before .before .before .before .before .before .before .before .before .before .before .before .before .args .stack .now) (c .before .before .before .before .before .before .before .before .before .before .before .before .before .args .st .height) (c .before .before .before .before .before .word .result) (c .before .before .before .before .before .before .before .before .before .before .before .before .before .pre .2) (c .before .before .before .before .before .word .ensures .0)) (c .before .before .before .before .before .before .before .before .before .before .before .before .before .pre .4) in (top-low (taskOf (c .before .before .before .before .before .word .result)) (stackOf (c .before .before .before .before .before .before .before .before .before .before .before .before .before .args .stack .now) (c .before .before .before .before .before .before .before .before .before .before .before .before .before .args .st .height - 1)) (c .before .before .before .before .before .before .before .before .before .before .before .before .before .args .st .height - 1) _ (stack-length (c .before .before .before .before .before .before .before .before .before .before .before .before .before .args .stack .now) (c .before .before .before .before .before .before .before .before .before .before .before .before .before .args .st .height - 1)) (a .1) (c .before .before .before .before .before .before .before .before .before .before .before .before .before .pre .3), c .before .before .before .act .ensures .low-small, c .before .before .before .act .ensures .high-small)
 
 same-length : tie.Need-same-length
 same-length c = search needs
@@ -35,16 +32,15 @@ same-length-2 : tie.Need-same-length-2
 same-length-2 c = search needs
 
 returns : tie.Need-returns
-returns c = turned (c .before .before .before .before .before .before .before .before .before .before .before .before .before .before .before .args .t .now) (c .before .before .before .before .before .before .before .before .before .before .before .before .before .before .before .args .s .now) (c .before .before .before .before .before .before .before .before .before .before .before .before .before .before .before .args .cells .now) (c .before .before .before .before .before .before .before .before .before .before .before .before .before .before .before .args .n) (c .before .before .before .before .before .before .before .before .before .before .before .before .before .before .before .args .room) (c .before .before .before .before .before .before .before .before .before .before .before .before .before .before .before .args .write) (out (c .before .before .before .before .before .before .before .before .before .before .before .before .before .before .before .args .nodes .now) (c .before .before .before .before .before .before .before .before .before .before .before .before .before .before .before .args .at)) _ (stackOf (c .before .before .before .before .before .before .before .before .before .before .before .before .before .before .before .args .stack .now) (c .before .before .before .before .before .before .before .before .before .before .before .before .before .before .before .args .h)) (stackOf (c .before .before .before .before .before .before .before .before .before .before .before .before .before .before .before .args .stack .now) (c .before .before .before .before .before .before .before .before .before .before .before .before .before .before .before .args .h - 1)) _ (c .before .before .before .before .before .before .before .before .word .result) (c .before .before .before .before .before .before .before .before .before .before .before .before .before .before .before .args .p) (c .before .before .before .before .before .before .act .result .low) (c .before .before .before .before .before .before .act .result .high) (c .before .before .before .before .before .before .act .result .place) (stack-top (c .before .before .before .before .before .before .before .before .before .before .before .before .before .before .before .args .stack .now) (c .before .before .before .before .before .before .before .before .before .before .before .before .before .before .before .args .h) (c .before .before .before .before .before .before .before .before .word .result) (c .before .before .before .before .before .before .before .before .before .before .before .before .before .before .before .pre .2) (c .before .before .before .before .before .before .before .before .word .ensures .0)) (c .before .before .before .before .before .before .before .before .before .before .before .before .before .before .before .pre .4) (c .before .before .before .before .before .before .act .ensures) (c .before .before .push-both .ensures)
+returns c = turned (c .before .before .before .before .before .before .before .before .before .before .before .before .before .before .before .before .args .t .now) (c .before .before .before .before .before .before .before .before .before .before .before .before .before .before .before .before .args .s .now) (c .before .before .before .before .before .before .before .before .before .before .before .before .before .before .before .before .args .cells .now) (c .before .before .before .before .before .before .before .before .before .before .before .before .before .before .before .before .args .g .n) (c .before .before .before .before .before .before .before .before .before .before .before .before .before .before .before .before .args .g .room) (c .before .before .before .before .before .before .before .before .before .before .before .before .before .before .before .before .args .g .write) (out (c .before .before .before .before .before .before .before .before .before .before .before .before .before .before .before .before .args .nodes .now) (c .before .before .before .before .before .before .before .before .before .before .before .before .before .before .before .before .args .st .at)) _ (stackOf (c .before .before .before .before .before .before .before .before .before .before .before .before .before .before .before .before .args .stack .now) (c .before .before .before .before .before .before .before .before .before .before .before .before .before .before .before .before .args .st .height)) (stackOf (c .before .before .before .before .before .before .before .before .before .before .before .before .before .before .before .before .args .stack .now) (c .before .before .before .before .before .before .before .before .before .before .before .before .before .before .before .before .args .st .height - 1)) _ (c .before .before .before .before .before .before .before .before .word .result) (c .before .before .before .before .before .before .before .before .before .before .before .before .before .before .before .before .args .st .place) (c .before .before .before .before .before .before .act .result .low) (c .before .before .before .before .before .before .act .result .high) (c .before .before .before .before .before .before .act .result .place) (stack-top (c .before .before .before .before .before .before .before .before .before .before .before .before .before .before .before .before .args .stack .now) (c .before .before .before .before .before .before .before .before .before .before .before .before .before .before .before .before .args .st .height) (c .before .before .before .before .before .before .before .before .word .result) (c .before .before .before .before .before .before .before .before .before .before .before .before .before .before .before .before .pre .2) (c .before .before .before .before .before .before .before .before .word .ensures .0)) (c .before .before .before .before .before .before .before .before .before .before .before .before .before .before .before .before .pre .4) (c .before .before .before .before .before .before .act .ensures) (c .before .before .push-both .ensures)
 
 pub turn-spec : {M : Type 1} → statement M
 turn-spec =
     tie.close
     (tie.spec
-    sub-word
+    sub-h
     word-requires
     act-requires
-    sub-push-both
     push-both-requires
     same-length
     same-length-2

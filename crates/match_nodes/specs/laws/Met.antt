@@ -18,7 +18,7 @@ use Rattle.match_cells.specs.Eval.{stands, leafAt, cellAt, joinOf, seqOf, altOf
 use Rattle.match_cells.specs.Cells.{bodyAt, rowOf, fillOf, cells}
 use Rattle.grammar.specs.Empty.{emptyLeaf, hasEmpty}
 use Rattle.match_cells.specs.First.{Calls, Markings, In, Ordered}
-use Rattle.match_nodes.specs.Nodes.{seqN, altN, optN, stepN, repN, walkOf, nodeIf, nodesOf, levels, listOf, listingOf, putNode, written, wordsOf, nodeAt, soundAt, nodeText}
+use Rattle.match_nodes.specs.Nodes.{seqN, altN, optN, stepN, repN, walkOf, nodeIf, nodesOf, levels, listOf, listingOf, inWords, putNode, written, wordsOf, nodeAt, soundAt, nodeText}
 use Rattle.match_cells.specs.laws.Agrees.{Right}
 use Rattle.match_cells.specs.laws.Filled.{filled-right}
 
@@ -114,5 +114,5 @@ four = refl
 
 -- written behind nothing else, the second node's text is `a;`
 pub second : nodeText text (wordsOf 4 (replicate 17 9) (listOf G text twenty)) 1 ≡ 97 ∷ 59 ∷ []
-unfolding depthBound nodeWords listingOf putNode written wordsOf nodeAt soundAt nodeText
+unfolding depthBound nodeWords listingOf inWords putNode written wordsOf nodeAt soundAt nodeText
 second = rw four

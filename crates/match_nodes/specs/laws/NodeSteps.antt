@@ -1,7 +1,7 @@
 -- The node list step by step, in the form in which code has it: a is what code holds where the definition has x.
 -- Assumes nothing.
 use Prim.Native.Nat.{ℕ, zero, suc, _+_, _-_, _*_, _≤_, _<_}
-use mathlib.Core.Path.{_≡_, refl, ap}
+use mathlib.Core.Path.{_≡_, refl, ap, _∙_}
 use mathlib.Core.Path.{sym as flip}
 use mathlib.Core.List.{List, [], _∷_, _++_}
 use native.Mathlib.Omega.{arith}
@@ -11,7 +11,7 @@ use Rattle.read_tokens.specs.Bounds.{nodeWords}
 use Rattle.grammar.specs.Exp.{Exp}
 use Rattle.match_meaning.specs.Meaning.{Node, nd}
 use Rattle.match_cells.specs.Eval.{bodyOf, cellAt, ev}
-use Rattle.match_nodes.specs.Nodes.{seqN, altN, optN, stepN, repN, walkOf, nodeIf, nodesOf, putNode}
+use Rattle.match_nodes.specs.Nodes.{seqN, altN, optN, stepN, repN, walkOf, nodeIf, nodesOf, inWords, putNode}
 use Rattle.match_cells.specs.laws.EvalSteps.{less-one}
 
 pub seq-none : (x : ℕ) (l : List Node) (k : ℕ → List Node) (a : ℕ) → a ≡ x → a ≡ 0 → [] ≡ seqN x l k
@@ -85,8 +85,17 @@ module _ (bodies : List (Exp ℕ)) (s cs : List ℕ) (d r p : ℕ) where
   nodes-more (suc left) zero f h z = absurd (z refl)
   nodes-more (suc left) (suc c) f h z = rw (← h, less-one c, less-one left, add-one d)
 
--- a node's four words, stored one after the other
-pub put-four : (ws a b c o : List ℕ) (k r p q d : ℕ) → a ≡ set ws (nodeWords * k) r → b ≡ set a (nodeWords * k + 1) p → c ≡ set b (nodeWords * k + 2) q → o ≡ set c (nodeWords * k + 3) d
-    → o ≡ putNode ws k (nd r p q d)
-unfolding putNode
-put-four ws a b c o k r p q d h i j l = rw (← h, ← i, ← j) l
+-- a node's words, stored one after the other
+pub put-words : (ws a b c o : List ℕ) (k r p q d : ℕ) → a ≡ set ws (nodeWords * k + 0) r → b ≡ set a (nodeWords * k + 1) p → c ≡ set b (nodeWords * k + 2) q
+    → o ≡ set c (nodeWords * k + 3) d → o ≡ putNode ws k (nd r p q d)
+unfolding putNode inWords nodeWords
+put-words ws a b c o k r p q d h i j l =
+    let m : ℕ = nodeWords * k in
+    let e0 : nodeWords * k + 0 ≡ nodeWords * k = omega arith in
+    let e1 : nodeWords * k + 1 ≡ suc (nodeWords * k) = omega arith in
+    let e2 : nodeWords * k + 2 ≡ suc (suc (nodeWords * k)) = omega arith in
+    let e3 : nodeWords * k + 3 ≡ suc (suc (suc (nodeWords * k))) = omega arith in
+    let f : a ≡ set ws m r = h ∙ ap (λ (x : ℕ). set ws x r) e0 in
+    let g : b ≡ set (set ws m r) (suc m) p = i ∙ ap (λ (x : ℕ). set a x p) e1 ∙ ap (λ (y : List ℕ). set y (suc m) p) f in
+    let u : c ≡ set (set (set ws m r) (suc m) p) (suc (suc m)) q = j ∙ ap (λ (x : ℕ). set b x q) e2 ∙ ap (λ (y : List ℕ). set y (suc (suc m)) q) g in
+    l ∙ ap (λ (x : ℕ). set c x d) e3 ∙ ap (λ (y : List ℕ). set y (suc (suc (suc m))) d) u

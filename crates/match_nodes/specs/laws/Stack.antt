@@ -7,25 +7,25 @@ use native.Mathlib.Omega.{arith}
 use native.Mathlib.Numerals.{add-one}
 use lib.ListN.{length, getD, set}
 use lib.Seq.{getD-set-same, getD-set-other}
-use Rattle.match_nodes.specs.steps.Tasks.{walk, again, enter, taskBy, taskOf, pushed, stackOf}
+use Rattle.match_nodes.specs.steps.Tasks.{walk, again, enter, taskWord, taskBy, taskOf, pushed, stackOf}
 
 -- ── words ──
 module _ (x d k : ℕ) (h : x < 2048) (g : k < 4) where
-  word-task : taskOf ((d * 4 + k) * 2048 + x) ≡ taskBy k x d
+  word-task : taskOf (taskWord k d x) ≡ taskBy k x d
   unfolding taskOf
   word-task =
-      let a : ((d * 4 + k) * 2048 + x) / 2048 % 4 ≡ k = omega arith in
-      let b : ((d * 4 + k) * 2048 + x) % 2048 ≡ x = omega arith in
-      let c : ((d * 4 + k) * 2048 + x) / 8192 ≡ d = omega arith in
+      let a : (taskWord k d x) / 2048 % 4 ≡ k = omega arith in
+      let b : (taskWord k d x) % 2048 ≡ x = omega arith in
+      let c : (taskWord k d x) / 8192 ≡ d = omega arith in
       rw (a, b, c)
 
-pub walk-word : (x d : ℕ) → x < 2048 → taskOf ((d * 4 + 1) * 2048 + x) ≡ walk x d
+pub walk-word : (x d : ℕ) → x < 2048 → taskOf (taskWord 1 d x) ≡ walk x d
 walk-word x d h = word-task x d 1 h (omega arith)
 
-pub again-word : (x d : ℕ) → x < 2048 → taskOf ((d * 4 + 2) * 2048 + x) ≡ again x d
+pub again-word : (x d : ℕ) → x < 2048 → taskOf (taskWord 2 d x) ≡ again x d
 again-word x d h = word-task x d 2 h (omega arith)
 
-pub enter-word : (x d : ℕ) → x < 2048 → taskOf ((d * 4 + 3) * 2048 + x) ≡ enter x d
+pub enter-word : (x d : ℕ) → x < 2048 → taskOf (taskWord 3 d x) ≡ enter x d
 enter-word x d h = word-task x d 3 h (omega arith)
 
 -- a word by its kind

@@ -23,7 +23,7 @@ use Rattle.match_nodes.specs.laws.NodeSteps.{nodes-more, nodes-fails}
 use Rattle.match_nodes.specs.laws.Passes.{run-none, note-deep}
 use Rattle.grammar_table.specs.Trees.{treeOf, bodiesOf}
 use Rattle.match_cells.specs.laws.Rows.{bodies-length, body-at}
-use Rattle.match_nodes.specs.steps.Tasks.{Task, walk, again, enter, taskOf, pushed, stackOf, under, takes, walked, nodes, after, Able, listed, AllAble, depthOf, Top, Fits, rank, cost, costOf, toDo, Step}
+use Rattle.match_nodes.specs.steps.Tasks.{Task, walk, again, enter, taskWord, taskOf, pushed, stackOf, under, takes, walked, nodes, after, Able, listed, AllAble, depthOf, Top, Fits, rank, cost, costOf, toDo, Step}
 use Rattle.match_nodes.specs.steps.Turns.{Ready, Goes, Moved, State, Turned}
 use Rattle.match_nodes.specs.laws.Stack.{is-walk, is-again, is-enter}
 use Rattle.match_nodes.specs.laws.Steps.{cost-less, push-listed, push-to-do, push-able, push-fits}
@@ -102,7 +102,7 @@ module _ (t s cs : List ℕ) (n : ℕ) (ready : Ready t s cs n) where
         go false e = ltb-false 255 d e
 
     abbrev high : ℕ
-    high = ((d + 1) * 4 + 1) * 2048 + b
+    high = taskWord 1 (d + 1) b
 
     fall : cost (length s) (rank b (d + 1)) + 1 ≤ cost (length s) (rank 0 d)
     unfolding rank
@@ -125,9 +125,13 @@ module _ (t s cs : List ℕ) (n : ℕ) (ready : Ready t s cs n) where
           less = λ vs. omega (arith, fall, push-to-do t s cs n high (walk b (d + 1)) (walks b (d + 1) (omega (arith, small-b))) vs p, ap (toDo t s cs n vs) after-is);
         }
 
-    pub moved-enter : Moved t s cs n room w (out ws at) o (enter r d) p 0 (((d + 1) * 4 + 1) * 2048 + b) p
+    moved-enter : Moved t s cs n room w (out ws at) o (enter r d) p 0 (taskWord 1 (d + 1) b) p
     unfolding pushed
     moved-enter = record { same = enter-same; goes = enter-goes; low-small = omega arith; high-small = omega (arith, depth, small-b) }
+
+    -- by the word that code holds
+    pub entered : (i : ℕ) → i ≡ taskWord 1 (d + 1) b → Moved t s cs n room w (out ws at) o (enter r d) p 0 i p
+    entered i e = subst (λ (j : ℕ). Moved t s cs n room w (out ws at) o (enter r d) p 0 j p) (flip e) moved-enter
 
 -- ── one turn ──
 module _ (t s cs : List ℕ) (n : ℕ) where
@@ -150,21 +154,21 @@ module _ (t s cs : List ℕ) (n : ℕ) where
       }
 
   -- ── the start and the end ──
-  module _ (st so : List ℕ) (h : ℕ) (e : stackOf st h ≡ pushed 6144 (stackOf so 0)) where
+  module _ (st so : List ℕ) (h : ℕ) (e : stackOf st h ≡ pushed (taskWord 3 0 0) (stackOf so 0)) where
     pub start-state : (c : ℕ) → c ≡ cellAt s cs n 0 0 → (c ≡ 0 → ⊥) → State t s cs n (stackOf st h) 0
     unfolding stackOf
     start-state c g f =
         record {
           place = omega arith;
-          able = subst (λ (x : List ℕ). AllAble t s cs n x 0) (flip e) (push-able t s cs n 6144 (enter 0 0) (enters 0 0 (omega arith)) [] 0 (λ z. f (g ∙ z)) tt);
-          fits = subst Fits (flip e) (push-fits 6144 (enter 0 0) [] (enters 0 0 (omega arith)) (omega arith, omega arith) tt);
+          able = subst (λ (x : List ℕ). AllAble t s cs n x 0) (flip e) (push-able t s cs n (taskWord 3 0 0) (enter 0 0) (enters 0 0 (omega arith)) [] 0 (λ z. f (g ∙ z)) tt);
+          fits = subst Fits (flip e) (push-fits (taskWord 3 0 0) (enter 0 0) [] (enters 0 0 (omega arith)) (omega arith, omega arith) tt);
         }
 
     pub start-list : listed t s cs n (stackOf st h) 0 ≡ listOf (bodiesOf t) s cs
     unfolding stackOf listed nodes under listOf
     start-list =
         let z : levels - 0 ≡ levels = omega arith in
-        ap (λ (x : List ℕ). listed t s cs n x 0) e ∙ push-listed t s cs n 6144 (enter 0 0) (enters 0 0 (omega arith)) [] 0
+        ap (λ (x : List ℕ). listed t s cs n x 0) e ∙ push-listed t s cs n (taskWord 3 0 0) (enter 0 0) (enters 0 0 (omega arith)) [] 0
         ∙ append-nil (under t s cs n 0 0 0) ∙ ap (λ (x : ℕ). nodesOf (bodiesOf t) s cs x 0 0 0) z
 
   pub end-list : (room w h p : ℕ) (o : Out) (st : List ℕ) → h ≤ 0 → run room w o (listed t s cs n (stackOf st h) p) ≡ o

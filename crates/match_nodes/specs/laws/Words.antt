@@ -7,27 +7,50 @@ use mathlib.Core.Bool.{true}
 use mathlib.Core.List.{List, [], _∷_}
 use native.Mathlib.Omega.{arith}
 use lib.ListN.{length, getD, set, length-set}
-use lib.Seq.{getD-set-same, getD-set-other}
+use lib.Seq.{sets, length-sets, getD-set-same, getD-set-other}
 use Rattle.read_tokens.specs.Bounds.{nodeWords}
 use borrow.Author.Tests.{le-leb}
 use Rattle.grammar.specs.Exp.{Exp}
 use Rattle.match_meaning.specs.Meaning.{Meant, Node, nd, Derives}
 use Rattle.match_meaning.specs.laws.Shape.{Spans, spans}
-use Rattle.match_nodes.specs.Nodes.{Listing, all, deep, full, listingOf, putNode, written, ifAll, wordsOf, roomOf, nodeAt, nodesAt, soundAt, partOf, nodeText}
+use Rattle.match_nodes.specs.Nodes.{Listing, all, deep, full, listingOf, inWords, putNode, written, ifAll, wordsOf, roomOf, nodeWord, nodeAt, nodesAt, soundAt, partOf, nodeText}
 use Rattle.match_nodes.specs.laws.Cut.{IsAll, all-fit}
+
+-- ── a run of words, stored from i on ──
+sets-other : (ws : List ℕ) (i : ℕ) (vs : List ℕ) (j : ℕ) → (i ≤ j → j < i + length vs → ⊥) → getD (sets ws i vs) j 0 ≡ getD ws j 0
+sets-other ws i [] j f = refl
+sets-other ws i (v ∷ vs) j f =
+    sets-other (set ws i v) (suc i) vs j (λ a b. f (omega (arith, a)) (omega (arith, b))) ∙ getD-set-other ws i j v 0 (λ e. f (omega (arith, e)) (omega (arith, e)))
+
+sets-at : (ws : List ℕ) (i : ℕ) (vs : List ℕ) (j : ℕ) → i + length vs ≤ length ws → j < length vs → getD (sets ws i vs) (i + j) 0 ≡ getD vs j 0
+sets-at ws i [] j h l = absurd (omega arith)
+sets-at ws i (v ∷ vs) zero h l =
+    let e : i + 0 ≡ i = omega arith in
+    ap (λ (x : ℕ). getD (sets (set ws i v) (suc i) vs) x 0) e ∙ sets-other (set ws i v) (suc i) vs i (λ a b. omega (arith, a))
+    ∙ getD-set-same ws i v 0 (omega (arith, h))
+sets-at ws i (v ∷ vs) (suc j) h l =
+    let e : i + suc j ≡ suc i + j = omega arith in
+    ap (λ (x : ℕ). getD (sets (set ws i v) (suc i) vs) x 0) e
+    ∙ sets-at (set ws i v) (suc i) vs j (rw (length-set ws i v) (omega (arith, h))) (omega (arith, l))
+
+-- ── a node is one: it has so many words ──
+many-words : (n : Node) → length (inWords n) ≡ nodeWords
+unfolding inWords nodeWords
+many-words n = refl
 
 pub put-length : (ws : List ℕ) (k : ℕ) (n : Node) → length (putNode ws k n) ≡ length ws
 unfolding putNode
-put-length ws k n = simp length-set
+put-length ws k n = length-sets ws (nodeWords * k) (inWords n)
 
 -- a word of another node
 put-other : (ws : List ℕ) (k : ℕ) (n : Node) (i : ℕ) → (nodeWords * k ≤ i → i < nodeWords * suc k → ⊥) → getD (putNode ws k n) i 0 ≡ getD ws i 0
 unfolding putNode nodeWords
-put-other ws k n i f =
-    getD-set-other (set (set (set ws (4 * k) (n .symbol)) (4 * k + 1) (n .start)) (4 * k + 2) (n .end)) (4 * k + 3) i (n .depth) 0 (λ e. f (omega arith) (omega arith))
-    ∙ getD-set-other (set (set ws (4 * k) (n .symbol)) (4 * k + 1) (n .start)) (4 * k + 2) i (n .end) 0 (λ e. f (omega arith) (omega arith))
-    ∙ getD-set-other (set ws (4 * k) (n .symbol)) (4 * k + 1) i (n .start) 0 (λ e. f (omega arith) (omega arith))
-    ∙ getD-set-other ws (4 * k) i (n .symbol) 0 (λ e. f (omega arith) (omega arith))
+put-other ws k n i f = sets-other ws (nodeWords * k) (inWords n) i (λ a b. f a (omega (arith, b, many-words n)))
+
+-- word j of a node that is written
+put-word : (ws : List ℕ) (k : ℕ) (n : Node) (j : ℕ) → nodeWords * suc k ≤ length ws → j < nodeWords → nodeWord (putNode ws k n) k j ≡ getD (inWords n) j 0
+unfolding putNode nodeWords
+put-word ws k n j h l = sets-at ws (nodeWords * k) (inWords n) j (omega (arith, h, many-words n)) (omega (arith, l, many-words n))
 
 pub written-length : (ws : List ℕ) (k : ℕ) (ns : List Node) → length (written ws k ns) ≡ length ws
 unfolding written
@@ -49,30 +72,17 @@ same-node : {a b c d a′ b′ c′ d′ : ℕ} → a ≡ a′ → b ≡ b′ �
 same-node e f g i = rw (e, f, g, i)
 
 put-node : (ws : List ℕ) (k : ℕ) (n : Node) → nodeWords * suc k ≤ length ws → nodeAt (putNode ws k n) k ≡ n
-unfolding putNode nodeAt nodeWords
-put-node ws k n h = same-node {a′ = n .symbol} {b′ = n .start} {c′ = n .end} {d′ = n .depth}
-    (getD-set-other w3 (4 * k + 3) (4 * k) (n .depth) 0 (λ e. omega arith) ∙ getD-set-other w2 (4 * k + 2) (4 * k) (n .end) 0 (λ e. omega arith)
-    ∙ getD-set-other w1 (4 * k + 1) (4 * k) (n .start) 0 (λ e. omega arith) ∙ getD-set-same ws (4 * k) (n .symbol) 0 (omega arith))
-    (getD-set-other w3 (4 * k + 3) (4 * k + 1) (n .depth) 0 (λ e. omega arith) ∙ getD-set-other w2 (4 * k + 2) (4 * k + 1) (n .end) 0 (λ e. omega arith)
-    ∙ getD-set-same w1 (4 * k + 1) (n .start) 0 (simp length-set (omega arith)))
-    (getD-set-other w3 (4 * k + 3) (4 * k + 2) (n .depth) 0 (λ e. omega arith) ∙ getD-set-same w2 (4 * k + 2) (n .end) 0 (simp length-set (omega arith)))
-    (getD-set-same w3 (4 * k + 3) (n .depth) 0 (simp length-set (omega arith)))
-  where
-    w1 : List ℕ
-    w1 = set ws (4 * k) (n .symbol)
-
-    w2 : List ℕ
-    w2 = set w1 (4 * k + 1) (n .start)
-
-    w3 : List ℕ
-    w3 = set w2 (4 * k + 2) (n .end)
+unfolding nodeAt nodeWords inWords
+put-node ws k n h =
+    same-node {a′ = n .symbol} {b′ = n .start} {c′ = n .end} {d′ = n .depth} (put-word ws k n 0 h (omega arith)) (put-word ws k n 1 h (omega arith))
+    (put-word ws k n 2 h (omega arith)) (put-word ws k n 3 h (omega arith))
 
 -- nodes that are written later leave this one as it is
 later-node : (ws : List ℕ) (k : ℕ) (ns : List Node) → nodeAt (written ws (suc k) ns) k ≡ nodeAt ws k
 unfolding nodeAt nodeWords
 later-node ws k ns =
-    same-node (written-before ws (suc k) ns (4 * k) (omega arith)) (written-before ws (suc k) ns (4 * k + 1) (omega arith))
-    (written-before ws (suc k) ns (4 * k + 2) (omega arith)) (written-before ws (suc k) ns (4 * k + 3) (omega arith))
+    same-node (written-before ws (suc k) ns (nodeWords * k + 0) (omega arith)) (written-before ws (suc k) ns (nodeWords * k + 1) (omega arith))
+    (written-before ws (suc k) ns (nodeWords * k + 2) (omega arith)) (written-before ws (suc k) ns (nodeWords * k + 3) (omega arith))
 
 -- what was written is read back
 pub read-back : (ws : List ℕ) (k : ℕ) (ns : List Node) → nodeWords * (k + length ns) ≤ length ws → nodesAt (written ws k ns) k (length ns) ≡ ns

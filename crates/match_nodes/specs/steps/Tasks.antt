@@ -1,5 +1,5 @@
 -- The node list by a stack of tasks: what is still to be walked, the next on top, each from the place where the one above it ends.
--- A task is one word, (4 · depth + kind) · 2048 + number, and 0 is none.
+-- A task is one word, and 0 is none.
 -- Assumes nothing: these are definitions.
 use Prim.Native.Nat.{ℕ, zero, suc, _+_, _-_, _*_, _/_, _%_, _≤_}
 use mathlib.Core.Path.{_≡_}
@@ -13,6 +13,10 @@ use Rattle.grammar_table.specs.Trees.{treeOf, bodiesOf}
 -- walk: expression x - 1, which matches there, and `.` for 0; again: rounds of it; enter: symbol r, which matches there. The second number is the depth
 pub data Task : Type 0 where
   walk again enter : ℕ → ℕ → Task
+
+-- kind k, depth d, number x in one word
+abbrev pub taskWord : ℕ → ℕ → ℕ → ℕ
+taskWord k d x = (d * 4 + k) * 2048 + x
 
 abbrev pub taskBy : ℕ → ℕ → ℕ → Task
 taskBy zero x d = enter x d
