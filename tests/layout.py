@@ -19,7 +19,7 @@ LEFT = {
     "table numbers in code": 0,
     "table numbers in definitions": 0,
     "table numbers in laws and proofs": 0,
-    "functions with too many parameters": 20,
+    "functions with too many parameters": 14,
     "long lines in code": 2,
     "long lines in definitions": 0,
     "long lines in documents": 0,

@@ -16,8 +16,7 @@ use Rattle.read_syntax.specs.Offence.{Says}
 use Rattle.read_syntax.specs.Grammar.{GrammarOf}
 use Rattle.read_syntax.specs.Reading.{before, reserved}
 use Rattle.lake_step_two.specs.Plain.{sizes}
-use Rattle.lake_calls.specs.Calls.{callsOf}
-use Rattle.lake_calls.specs.laws.Reaches.{Reaches}
+use Rattle.lake_calls.specs.Loops.{SmallestLoop}
 use Rattle.match_meaning.specs.Meaning.{Node, Derives}
 use Rattle.match_nodes.specs.Nodes.{roomOf}
 use Rattle.prepare.specs.Prepare.{prepared, preparedBy}
@@ -58,12 +57,6 @@ pub data TooMany (m : Mode) (rs : List Rule) : ℕ → Type 0 where
   terminals : length (symbolsOf rs) ≤ symbolBound → terminalBound < length (terminalsOf rs) → TooMany m rs 2
   expressions : length (symbolsOf rs) ≤ symbolBound → length (terminalsOf rs) ≤ terminalBound → expressionBound m < expressionsOf rs → TooMany m rs 3
 
--- ── "a loop is a symbol that reaches itself", one first call after the other; "smallest symbol on one" ──
-pub record OnLoop (calls : List ℕ) (p : ℕ) : Type 0 where
-  pub within : p < length calls
-  pub loops : Reaches calls p p
-  pub smallest : (y : ℕ) → y < p → Reaches calls y y → ⊥
-
 -- ── the rows ──
 -- n is over its bound
 abbrev pub Over : ℕ → ℕ → ℕ → ℕ → Row
@@ -103,7 +96,7 @@ module _ (m : Mode) (t : List ℕ) where
 
   -- "loop": "smallest symbol on one"
   abbrev pub Row8 : Row
-  Row8 = record { number = 8; holds = λ p. Grammarly (λ g. OnLoop (callsOf (preparedBy g .bodies)) p) }
+  Row8 = record { number = 8; holds = λ p. Grammarly (λ g. SmallestLoop (preparedBy g .bodies) p) }
 
   -- "work cells fewer than R·(n+1)": that number
   abbrev pub Row10 : List ℕ → List ℕ → Row

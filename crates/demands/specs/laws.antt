@@ -7,7 +7,6 @@ pub mod Matches
 pub mod Lakes
 pub mod Chain
 pub mod Tokens
-pub mod Loops
 pub mod Refusals
 pub mod Refused
 pub mod Late

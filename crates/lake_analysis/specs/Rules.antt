@@ -4,12 +4,30 @@ use mathlib.Core.Path.{_≡_}
 use mathlib.Core.Bool.{Bool, true, false}
 use mathlib.Core.List.{List, [], _∷_}
 use lib.ListN.{length, getD}
+use Rattle.base_words.specs.Set.{symbolSet, terminalSet}
 use Rattle.base_rounds.specs.Sets.{Set2, In2, Every}
 use Rattle.grammar.specs.Exp.{Exp, ter}
 use Rattle.grammar.specs.Empty.{hasEmpty}
 use Rattle.grammar.specs.Parts.{Part, terminal, occurs, sequence, choice, option, repeat, repeat1, affirms, denies}
 use Rattle.read_tokens.specs.Token.{any}
-use Rattle.lake_sets.specs.Beginning.{Beginning, marked}
+use Rattle.lake_sets.specs.Beginning.{Beginning, nothing, marked}
+
+-- contained, ε too
+abbrev pub InB : Beginning → Beginning → Type 0
+InB a b = In2 (a .set) (b .set) × (a .eps ≡ true → b .eps ≡ true)
+
+-- BEGINNING: "Terminal t: {t}. Symbol X: {X}, and ε if X's body has ε. `&e`, `!e`: {ε}. Choice: the union. `e?`, `e*`: e's and ε. `e+`: e's.
+-- Sequence a b: a's; if a has ε, a's without ε, and b's." root gives the number of a symbol's body
+abbrev pub BeginRule : (ℕ → ℕ) → (ℕ → Beginning) → ℕ → Part → Type 0
+BeginRule root y i (terminal t) = In2 (terminalSet t) (y i .set)
+BeginRule root y i (occurs r) = In2 (symbolSet r) (y i .set) × (y (root r) .eps ≡ true → y i .eps ≡ true)
+BeginRule root y i (sequence a b) = In2 (y a .set) (y i .set) × (y a .eps ≡ true → InB (y b) (y i))
+BeginRule root y i (choice a b) = InB (y a) (y i) × InB (y b) (y i)
+BeginRule root y i (option a) = In2 (y a .set) (y i .set) × (y i .eps ≡ true)
+BeginRule root y i (repeat a) = In2 (y a .set) (y i .set) × (y i .eps ≡ true)
+BeginRule root y i (repeat1 a) = InB (y a) (y i)
+BeginRule root y i (affirms a) = y i .eps ≡ true
+BeginRule root y i (denies a) = y i .eps ≡ true
 
 module _ (bs : ℕ → Beginning) (root : ℕ → ℕ) where
   -- SUCCEED: "In a b: b gets the sequence's; a gets B(b), and the sequence's if b has ε. Choice, `?`: parts get the whole's. `*`, `+`: e gets B(e) and
@@ -38,19 +56,27 @@ module _ (bs : ℕ → Beginning) (root : ℕ → ℕ) where
   AltRule succ y i (affirms a) = Unit {0}
   AltRule succ y i (denies a) = Unit {0}
 
--- sets over r symbols and x terminals, one for each of n expressions, that satisfy a rule
-pub record Solves (r x n : ℕ) (part : ℕ → Part) (rule : (ℕ → List ℕ) → ℕ → Part → Type 0) (y : List (List ℕ)) : Type 0 where
-  pub sets : Every (Set2 r x) [] n y
-  pub rules : (i : ℕ) → i < n → rule (λ j. getD y j []) i (part i)
+-- what a rule asks of what the expressions have, at the expression with a number
+abbrev pub Rule : Type 0 → Type 1
+Rule A = (ℕ → A) → ℕ → Part → Type 0
 
--- contained, expression by expression
-abbrev pub Within : ℕ → List (List ℕ) → List (List ℕ) → Type 0
-Within n s y = (i : ℕ) → i < n → In2 (getD s i []) (getD y i [])
+-- what is fine, one for each of n expressions, and satisfies a rule; d: of an expression that there is not
+pub record Solves {A : Type 0} (fine : A → Type 0) (d : A) (n : ℕ) (part : ℕ → Part) (rule : Rule A) (y : List A) : Type 0 where
+  pub sets : Every fine d n y
+  pub rules : (i : ℕ) → i < n → rule (λ j. getD y j d) i (part i)
 
--- a solution that lies within every solution
-pub record Least (r x n : ℕ) (part : ℕ → Part) (rule : (ℕ → List ℕ) → ℕ → Part → Type 0) (s : List (List ℕ)) : Type 0 where
-  pub solves : Solves r x n part rule s
-  pub within : (y : List (List ℕ)) → Solves r x n part rule y → Within n s y
+-- "All are least": a solution that lies within every solution, expression by expression
+pub record LeastBy {A : Type 0} (fine : A → Type 0) (In : A → A → Type 0) (d : A) (n : ℕ) (part : ℕ → Part) (rule : Rule A) (s : List A) : Type 0 where
+  pub solves : Solves fine d n part rule s
+  pub within : (y : List A) → Solves fine d n part rule y → (i : ℕ) → i < n → In (getD s i d) (getD y i d)
+
+-- of sets over r symbols and x terminals: SUCCEED, ALT
+abbrev pub Least : ℕ → ℕ → ℕ → (ℕ → Part) → Rule (List ℕ) → List (List ℕ) → Type 0
+Least r x n part rule s = LeastBy (Set2 r x) In2 [] n part rule s
+
+-- of such sets with or without ε: BEGINNING
+abbrev pub LeastBegin : ℕ → ℕ → ℕ → (ℕ → Part) → (ℕ → ℕ) → List Beginning → Type 0
+LeastBegin r x n part root s = LeastBy (λ b. Set2 r x (b .set)) InB nothing n part (BeginRule root) s
 
 -- "ε if X's body has ε": marks that have it whenever the body has
 abbrev pub Marks : List (Exp ℕ) → List Bool → Type 0

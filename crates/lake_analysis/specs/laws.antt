@@ -3,4 +3,5 @@ pub mod Joined
 pub mod Skip
 pub mod Rules
 pub mod Marks
+pub mod Beginning
 pub mod Least

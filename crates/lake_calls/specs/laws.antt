@@ -5,6 +5,7 @@ pub mod Order
 pub mod Tables
 pub mod Ranks
 pub mod Reaches
+pub mod Exact
 pub mod Traps
 pub mod Trees
 pub mod Rights

@@ -6,6 +6,9 @@ use gurkenmond::Mode;
 use gurkenmond::Outcome;
 use gurkenmond::Verdict;
 use gurkenmond::Way;
+use match_nodes::nodes::END;
+use match_nodes::nodes::NODE_WORDS;
+use match_nodes::nodes::START;
 
 // 0 is lake, every other byte plain.
 pub fn mode_of(m: u8) -> Mode
@@ -114,13 +117,13 @@ pub fn of_one(v: Verdict, x: usize) -> [u64; 4]
 pub fn of_span(input: &[u8], nodes: &[u32], k: usize) -> [u64; 4]
     ensures { λ r. ⌜ r ≡ spanWords (now (input .entry)) (now (nodes .entry)) k ⌝ }
 {
-    if nodes.len() / 4 <= k {
+    if nodes.len() / NODE_WORDS <= k {
         return [0, 0, 0, 0];
     }
     let n = input.len();
     if gurkenmond::node_sound(nodes, k, n) {
-        let a = base_words::word(nodes, 4 * k + 1);
-        let b = base_words::word(nodes, 4 * k + 2);
+        let a = base_words::word(nodes, NODE_WORDS * k + START);
+        let b = base_words::word(nodes, NODE_WORDS * k + END);
         return [0, a as u64, (b - a) as u64, 0];
     }
     [0, 0, 0, 0]

@@ -1,5 +1,4 @@
--- Which symbols an expression may call before it takes a byte (01, Lakes made plain: "X first-calls each symbol in its plain body before which nothing
--- need be consumed"), and an order of the symbols that goes by it: where there is no loop, first-called symbols can come first.
+-- An order of the symbols that goes by first calls (01, Lakes made plain): where there is no loop, first-called symbols can come first.
 -- Assumes nothing: these are definitions.
 use Prim.Native.Nat.{ℕ, _<_}
 use mathlib.Core.Path.{_≡_}
@@ -7,21 +6,10 @@ use mathlib.Core.Bool.{Bool, true}
 use mathlib.Core.List.{List, [], _∷_}
 use mathlib.Core.Logic.{_⊎_}
 use lib.ListN.{length}
-use Rattle.grammar.specs.Exp.{Exp, sym, ter, seq, alt, opt, star, plus, ahead, never}
+use Rattle.grammar.specs.Exp.{Exp}
 use Rattle.grammar.specs.Empty.{hasEmpty}
+use Rattle.lake_calls.specs.Loops.{Calls}
 use Rattle.match_cells.specs.Eval.{bodyOf}
-
--- "both sides of a choice, the right of a sequence whose left has ε, and under `&`, `!`, `?`, `*`, `+`"
-abbrev pub Calls : (ℕ → Bool) → Exp ℕ → ℕ → Type 0
-Calls m (sym r) x = x ≡ r
-Calls m (ter l) x = ⊥
-Calls m (seq a b) x = Calls m a x ⊎ ((hasEmpty m a ≡ true) × Calls m b x)
-Calls m (alt a b) x = Calls m a x ⊎ Calls m b x
-Calls m (opt a) x = Calls m a x
-Calls m (star a) x = Calls m a x
-Calls m (plus a) x = Calls m a x
-Calls m (ahead a) x = Calls m a x
-Calls m (never a) x = Calls m a x
 
 -- m marks every symbol whose body has ε
 abbrev pub Markings : (ℕ → Bool) → List (Exp ℕ) → Type 0

@@ -1,6 +1,7 @@
 -- What is written is read as what it was written for. Assumes nothing.
 pub mod Characters
 pub mod Bodies
+pub mod Runs
 pub mod Terminals
 pub mod Pairs
 pub mod Pieces

@@ -27,19 +27,18 @@ use Rattle.read_syntax.specs.laws.Bounds.{judged, one-answer}
 use Rattle.read_syntax.specs.laws.Grammars.{one-grammar}
 use Rattle.lake_sets.specs.Analysis.{isExpression}
 use Rattle.lake_step_two.specs.Plain.{sizes, tooLarge}
-use Rattle.lake_calls.specs.Calls.{callsOf, loop, loopFrom, looping}
-use Rattle.lake_calls.specs.laws.Reaches.{Smallest, Found}
-use Rattle.lake_calls.specs.laws.Reaches.{found as loop-found}
+use Rattle.lake_calls.specs.Calls.{loop, looping}
+use Rattle.lake_calls.specs.Loops.{SmallestLoop}
+use Rattle.lake_calls.specs.laws.Exact.{loop-exact}
 use Rattle.prepare.specs.Prepare.{prepared, preparedBy, refuses}
 use Rattle.prepare.specs.steps.Scanned.{scanned}
 use Rattle.prepare.specs.laws.Chain.{assoc, text-by-scan}
 use Rattle.prepare.specs.laws.Loads.{some-none, clean, grammar-of}
 use Rattle.gurkenmond.specs.Calls.{cellsNeeded, refusesInput, isLakeAt}
-use Rattle.demands.specs.Rows.{FirstToken, Doubled, Ruleless, TooMany, symbols, terminals, expressions, OnLoop, Grammarly, Row2, Row3, Row4, Row5, Row6, Row7, Row8}
+use Rattle.demands.specs.Rows.{FirstToken, Doubled, Ruleless, TooMany, symbols, terminals, expressions, Grammarly, Row2, Row3, Row4, Row5, Row6, Row7, Row8}
 use Rattle.demands.specs.Checks.{FirstRow, NoRow, textChecks, checks, inputChecks, lakeChecks, setsChecks, writeChecks}
 use Rattle.demands.specs.laws.Chain.{Tells, accepts, join, row-tells, as-row, over, found-at, missing, same-refusal}
 use Rattle.demands.specs.laws.Tokens.{finds-so, finds-it, finds-doubled, finds-ruleless}
-use Rattle.demands.specs.laws.Loops.{smallest-loop}
 
 -- ── 1 to 5: of any text ──
 module _ (m : Mode) (t : List ℕ) where
@@ -136,26 +135,6 @@ module _ (m : Mode) (rs : List Rule) where
   unfolding tooMany
   tells6 = row-tells (record { number = 6; holds = TooMany m rs }) (tooMany m rs) (λ r e. sound6 _ _ _ refl refl refl r e) full6
 
--- ── 8 ──
-module _ (calls : List ℕ) (k : ℕ) where
-  one-smallest : (p q : ℕ) → Smallest calls k 0 p → Smallest calls k 0 q → p ≡ q
-  one-smallest p q a b =
-      let f : p < q → ⊥ = λ l. b .before p (a .low) l (a .loops) in
-      let g : q < p → ⊥ = λ l. a .before q (b .low) l (b .loops) in
-      omega (arith, f, g)
-
-  loop-it : (o : Option ℕ) → Found calls k 0 o → (p : ℕ) → Smallest calls k 0 p → o ≡ some p
-  loop-it none f p s = absurd (f p (s .low) (s .high) (s .loops))
-  loop-it (some q) f p s = ap some (one-smallest q p f s)
-
-tells8 : (bodies : List (Exp ℕ)) → Tells (record { number = 8; holds = Smallest (callsOf bodies) (length (callsOf bodies)) 0 } ∷ []) (looping bodies)
-unfolding loop
-tells8 bodies =
-    let calls : List ℕ = callsOf bodies in
-    found-at 8 (Smallest calls (length calls) 0) (loopFrom calls (length calls) 0)
-    (λ p e. subst (Found calls (length calls) 0) e (loop-found calls (length calls) 0))
-    (λ p s. loop-it calls (length calls) (loopFrom calls (length calls) 0) (loop-found calls (length calls) 0) p s)
-
 -- ── 6 to 8: of the grammar that the text is ──
 module _ (m : Mode) (t : List ℕ) (ok : scanned m t ≡ none) where
   -- there is one, and no other
@@ -176,18 +155,13 @@ module _ (m : Mode) (t : List ℕ) (ok : scanned m t ≡ none) where
       as-row 7 (λ p h. (h .0, a-grammar (λ g. plainBound < sizes (preparedBy g .bodies)) (h .1))) (λ p h. (h .0, the-grammar (λ g. plainBound < sizes (preparedBy g .bodies)) (h .1)))
       (over 7 (suc plainBound) plainBound (sizes bodies))
 
-  here8 : refusesText m t ≡ none → Tells (Row8 m t ∷ []) (looping bodies)
-  unfolding prepared
-  here8 clear =
-      as-row 8 (λ p h. a-grammar (λ g. OnLoop (callsOf (preparedBy g .bodies)) p) (smallest-loop m t clear p .0 h))
-      (λ p h. smallest-loop m t clear p .1 (the-grammar (λ g. OnLoop (callsOf (preparedBy g .bodies)) p) h))
-      (tells8 bodies)
-
-  clear-by : tooMany m (rulesOf m t) ≡ none → refusesText m t ≡ none
-  clear-by e = text-by-scan m t ∙ ap₂ _▸_ ok e
+  here8 : Tells (Row8 m t ∷ []) (looping bodies)
+  here8 =
+      as-row 8 (λ p. a-grammar (λ g. SmallestLoop (preparedBy g .bodies) p)) (λ p. the-grammar (λ g. SmallestLoop (preparedBy g .bodies) p))
+      (found-at 8 (SmallestLoop bodies) (loop bodies) (λ p. loop-exact bodies p .0) (λ p. loop-exact bodies p .1))
 
   grammar-chain : Tells (Row6 m t ∷ Row7 m t ∷ Row8 m t ∷ []) (tooMany m (rulesOf m t) ▸ (tooLarge bodies ▸ looping bodies))
-  grammar-chain = join (tooMany m (rulesOf m t)) (tooLarge bodies ▸ looping bodies) here6 (λ e. join (tooLarge bodies) (looping bodies) here7 (λ f. here8 (clear-by e)))
+  grammar-chain = join (tooMany m (rulesOf m t)) (tooLarge bodies ▸ looping bodies) here6 (λ e. join (tooLarge bodies) (looping bodies) here7 (λ f. here8))
 
 -- ── the chain of every call ──
 module _ (m : Mode) (t : List ℕ) where

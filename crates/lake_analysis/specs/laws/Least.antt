@@ -1,4 +1,4 @@
--- The analysis of a grammar: ε marks, SUCCEED and ALT are the least that satisfy 01's rules, BEGINNING satisfies its own, and the round count is the
+-- The analysis of a grammar: BEGINNING with ε, SUCCEED and ALT are the least that satisfy 01's rules, and the round count is the
 -- first k whose next round is equal, "at most expressions times (symbols + terminals)". Assumes nothing.
 use Prim.Native.Nat.{ℕ, zero, suc, _+_, _*_, _≤_, _<_}
 use mathlib.Core.Path.{_≡_, refl, sym, ap, ap₂, _∙_, subst}
@@ -17,27 +17,30 @@ use Rattle.base_rounds.specs.laws.Cells.{Every, Below, cells}
 use Rattle.base_rounds.specs.laws.Pair.{Set2, pair, pair-joins}
 use Rattle.base_rounds.specs.laws.Flow.{Inside, flow-fine, flow-mono}
 use Rattle.base_rounds.specs.laws.Run.{sets-sound, sets-whole}
-use Rattle.grammar.specs.Exp.{Exp}
+use Rattle.read_tokens.specs.Token.{any}
+use Rattle.grammar.specs.Exp.{Exp, ter}
+use Rattle.grammar.specs.Empty.{hasEmpty}
 use Rattle.grammar.specs.Numbers.{Grammar}
 use Rattle.grammar.specs.Parts.{Part, terminal, occurs, sequence, choice, option, repeat, repeat1, affirms, denies, partsAll, rootsOf}
 use Rattle.grammar_table.specs.Table.{upTo}
 use Rattle.lake_step_one.specs.Intermediate.{intermediate}
-use Rattle.lake_sets.specs.Beginning.{Beginning, nothing, marked, marksOf, beginBy, beginnings}
+use Rattle.lake_sets.specs.Beginning.{Beginning, nothing, marked, marksOf, beginnings}
 use Rattle.lake_sets.specs.Flows.{edge, Gift, gift, when, over, given, roundBy, leastBy, succeedGifts, succeedEdges, altGifts, altEdges}
 use Rattle.lake_sets.specs.Analysis.{Analysis, analysed, analysis}
 use Rattle.grammar.specs.Numbers.{terminalIn}
 use Rattle.lake_sets.specs.steps.Steps.{Ok, Flowed, edgesBy, kept}
 use Rattle.lake_step_one.specs.Proper.{SoundAll, Proper}
-use Rattle.grammar_table.specs.laws.Places.{is-upTo, upTo-long}
-use Rattle.lake_sets.specs.laws.Begins.{begins-rule}
+use Rattle.grammar_table.specs.laws.Places.{is-upTo, upTo-long, upTo-at}
+use Rattle.lake_sets.specs.laws.Begins.{upBegins, begins-rule}
 use Rattle.lake_sets.specs.laws.Edges.{kept-inside, edges-from, inside-append, over-next, over-none}
 use Rattle.grammar_table.specs.laws.Parts.{total, all-long, roots-in}
-use Rattle.lake_sets.specs.laws.Wholes.{ok-at, all-ok}
+use Rattle.lake_sets.specs.laws.Wholes.{ok-at, all-ok, eps-body}
 use Rattle.lake_sets.specs.laws.Least.{Good, GoodGifts, given-good, none-good, begins-good, over-good, succeed-good, alt-good, least-is, few, state-at}
 use Rattle.lake_sets.specs.laws.Told.{edges-same}
-use Rattle.lake_analysis.specs.Rules.{SucceedRule, AltRule, Least, LeastMarks}
+use Rattle.lake_analysis.specs.Rules.{BeginRule, SucceedRule, AltRule, Solves, Least, LeastBegin, LeastMarks}
 use Rattle.lake_analysis.specs.laws.Rules.{In, in-over, least-solves, none-below, succeed-to, succeed-from, alt-to, alt-from}
 use Rattle.lake_analysis.specs.laws.Marks.{marks-least}
+use Rattle.lake_analysis.specs.laws.Beginning.{begins-within, least-by-marks}
 
 decide : (s t : List (List ℕ)) (b : Bool) → sameSets s t ≡ b → Dec (s ≡ t)
 decide s t true e = yes (sets-sound s t (to-T (sameSets s t) e))
@@ -93,13 +96,17 @@ alt-in bs root succ r x n i (denies a) l k = tt
 
 -- what an analysis a of expressions `part`, n of them, over r symbols and x terminals promises
 pub record Lawful (a : Analysis) (r x n : ℕ) (part : ℕ → Part) : Type 0 where
-  pub begins : (i : ℕ) → i < n → getD (a .begins) i nothing ≡ beginBy (marked (a .marks)) (λ j. getD (a .begins) j nothing) (part i)
+  pub begins : LeastBegin r x n part (λ s. getD (a .roots) s 0) (a .begins)
+  pub marks : (s : ℕ) → s < r → marked (a .marks) s ≡ getD (a .begins) (getD (a .roots) s 0) nothing .eps
   pub succeeds : Least r x n part (SucceedRule (λ j. getD (a .begins) j nothing) (λ s. getD (a .roots) s 0)) (a .succeeds)
   pub alts : Least r x n part (AltRule (λ j. getD (a .begins) j nothing) (λ s. getD (a .roots) s 0) (λ j. getD (a .succeeds) j empty)) (a .alts)
   pub rounds : First (roundBy n (over (altGifts (λ j. getD (a .begins) j nothing) (λ s. getD (a .roots) s 0) (λ j. getD (a .succeeds) j empty)) 0 (upTo part n)) (over (altEdges (λ j. getD (a .begins) j nothing) (λ s. getD (a .roots) s 0)) 0 (upTo part n))) (replicate n empty) (a .rounds)
   pub bounded : a .rounds ≤ n * (r + x)
 
-module _ (r x n : ℕ) (part : ℕ → Part) (ok : (i : ℕ) → i < n → Ok r x i (part i)) (ms : List Bool) (roots : List ℕ) (rin : (s : ℕ) → s < r → getD roots s 0 < n) where
+module _ (r x n : ℕ) (part : ℕ → Part) (ok : (i : ℕ) → i < n → Ok r x i (part i)) (ms : List Bool) (roots : List ℕ) (rin : (s : ℕ) → s < r → getD roots s 0 < n)
+    (exact : (s : ℕ) → s < r → marked ms s ≡ getD (upBegins (marked ms) part n) (getD roots s 0) nothing .eps)
+    (fewest : (y : List Beginning) → Solves (λ b. Set2 r x (b .set)) nothing n part (BeginRule (λ s. getD roots s 0)) y
+    → (s : ℕ) → s < r → marked ms s ≡ true → getD y (getD roots s 0) nothing .eps ≡ true) where
   abbrev P : List Part
   P = upTo part n
 
@@ -154,7 +161,8 @@ module _ (r x n : ℕ) (part : ℕ → Part) (ok : (i : ℕ) → i < n → Ok r 
 
   it-lawful : Lawful it r x n part
   it-lawful = record {
-    begins = λ i l. begins-rule (marked ms) part r x n i l (ok i l);
+    begins = least-by-marks r x n part ok root (marked ms) (λ s l e. exact s l ∙ e) fewest;
+    marks = exact;
     succeeds = least-solves r x n part (SucceedRule bs root) (succeedGifts bs root) (succeedEdges bs root) (λ y i l. succeed-to r x bs root y i (part i)) (λ y i l. succeed-from r x bs root y i (part i))
         SE-in SG-good (in-over r x n (succeedGifts bs root) part n (λ i l. succeed-in bs root r x n i (part i) l (ok i l))) (S .count) (S .state) S-flowed;
     alts = least-solves r x n part (AltRule bs root succ) (altGifts bs root succ) (altEdges bs root) (λ y i l. alt-to r x bs root succ y i (part i)) (λ y i l. alt-from r x bs root succ y i (part i))
@@ -183,13 +191,48 @@ module _ (g : Grammar) (proper : Proper g) (long : length (intermediate g) ≡ l
       subst (λ (k : ℕ). Ok (length (g .names)) (length (g .terminals)) k (partOf i)) (let q : 0 + i ≡ i = omega arith in q)
       (ok-at (terminalIn g) (length (g .names)) (length (g .terminals)) 0 parts (terminal 0) (all-ok (terminalIn g) (length (g .names)) (length (g .terminals)) bodies 0 proper) i l)
 
+  abbrev root-of : ℕ → ℕ
+  root-of s = getD (rootsOf 0 bodies) s 0
+
+  parts-again : upTo partOf (length parts) ≡ parts
+  parts-again = sym (is-upTo (terminal 0) partOf parts (length parts) refl (λ i l. refl))
+
+  -- by parts or by trees: a body's ε
+  pub body-eps : (m : ℕ → Bool) (s : ℕ) → s < length (g .names) → getD (upBegins m partOf (length parts)) (root-of s) nothing .eps ≡ hasEmpty m (getD bodies s (ter any))
+  body-eps m s l =
+      eps-body (terminalIn g) partOf (terminal 0) m (λ j. getD (upBegins m partOf (length parts)) j nothing) (length parts) (length (g .names)) (length (g .terminals))
+      (λ i k. begins-rule m partOf (length (g .names)) (length (g .terminals)) (length parts) i k (part-ok i k)) bodies 0 proper
+      (λ k q. ap partOf (let z : 0 + k ≡ k = omega arith in z)) (omega (arith, all-long (terminalIn g) bodies 0)) (ter any) s (omega (arith, l, long))
+
+  -- in a solution the bodies that have ε are marks that have it whenever the body has
+  fewest-of : (y : List Beginning) → Solves (λ b. Set2 (length (g .names)) (length (g .terminals)) (b .set)) nothing (length parts) partOf (BeginRule root-of) y
+      → (s : ℕ) → s < length (g .names) → marked (marksOf bodies) s ≡ true → getD y (root-of s) nothing .eps ≡ true
+  fewest-of y sol s l e =
+      sym (at s l) ∙ marks-least bodies .within ks (upTo-long by-root (length bodies)) (λ k q h. at k (omega (arith, q, long)) ∙
+      begins-within (length (g .names)) (length (g .terminals)) (length parts) partOf part-ok root-of (marked ks) y sol (λ j p u. sym (at j p) ∙ u) (root-of k)
+      (rw (all-long (terminalIn g) bodies 0) (omega (arith, roots-in bodies 0 k q))) .1 (body-eps (marked ks) k (omega (arith, q, long)) ∙ h)) s (omega (arith, l, long)) e
+    where
+      by-root : ℕ → Bool
+      by-root k = getD y (root-of k) nothing .eps
+
+      ks : List Bool
+      ks = upTo by-root (length bodies)
+
+      at : (k : ℕ) → k < length (g .names) → marked ks k ≡ getD y (root-of k) nothing .eps
+      at k q = upTo-at by-root (length bodies) k false (omega (arith, q, long))
+
   pub lawful : Lawful (analysis g) (length (g .names)) (length (g .terminals)) (length parts) partOf
   unfolding analysis
   lawful =
       subst (λ (ps : List Part). Lawful (analysed (marksOf bodies) (rootsOf 0 bodies) ps (length ps * (length (g .names) + length (g .terminals)))) (length (g .names)) (length (g .terminals)) (length parts) partOf)
-      (sym (is-upTo (terminal 0) partOf parts (length parts) refl (λ i l. refl)))
+      parts-again
       (analysed-lawful (length (g .names)) (length (g .terminals)) (length parts) partOf part-ok (marksOf bodies) (rootsOf 0 bodies)
-      (λ s l. rw (all-long (terminalIn g) bodies 0) (omega (arith, roots-in bodies 0 s (omega arith)))))
+      (λ s l. rw (all-long (terminalIn g) bodies 0) (omega (arith, roots-in bodies 0 s (omega arith))))
+      (λ s l. marks-least bodies .exact s (omega (arith, l, long)) ∙ sym (body-eps (marked (marksOf bodies)) s l)) fewest-of)
+
+  -- BEGINNING solves 01's rules and lies within every solution, ε included
+  pub begin-least : LeastBegin (length (g .names)) (length (g .terminals)) (length parts) partOf (λ s. getD (analysis g .roots) s 0) (analysis g .begins)
+  begin-least = lawful .begins
 
   pub marks-lawful : LeastMarks bodies (analysis g .marks)
   unfolding analysis analysed

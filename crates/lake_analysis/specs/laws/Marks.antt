@@ -42,15 +42,15 @@ one-le false = omega arith
 abbrev marks : Lattice Bool
 marks = record { Le = Imp; Good = λ x. Unit {0}; le-rfl = λ x e. e; size = one; top = 1; bounded = λ x g. one-le x; strict = λ x y g h. one-strict x y }
 
-or-l : (a b : Bool) → Imp a (a || b)
+pub or-l : (a b : Bool) → Imp a (a || b)
 or-l true b e = refl
 or-l false b e = absurd (false≢true e)
 
-or-r : (a b : Bool) → Imp b (a || b)
+pub or-r : (a b : Bool) → Imp b (a || b)
 or-r true b e = refl
 or-r false b e = e
 
-or-least : (a b c : Bool) → Imp a c → Imp b c → Imp (a || b) c
+pub or-least : (a b c : Bool) → Imp a c → Imp b c → Imp (a || b) c
 or-least true b c p q e = p refl
 or-least false b c p q e = q e
 

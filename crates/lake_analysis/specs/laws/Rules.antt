@@ -23,7 +23,7 @@ use Rattle.lake_sets.specs.steps.Steps.{Flowed}
 use Rattle.grammar_table.specs.laws.Places.{getD-any}
 use Rattle.lake_sets.specs.laws.Edges.{over-next, over-none, given-long}
 use Rattle.lake_sets.specs.laws.Least.{GoodGifts, given-good, none-good, empty-good, union-good}
-use Rattle.lake_analysis.specs.Rules.{SucceedRule, AltRule, Solves, Within, Least}
+use Rattle.lake_analysis.specs.Rules.{SucceedRule, AltRule, Least}
 
 module _ (r x : ℕ) where
   abbrev pub L : Rattle.base_rounds.specs.laws.Fix.Lattice (List ℕ)

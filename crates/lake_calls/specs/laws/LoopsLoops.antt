@@ -22,6 +22,7 @@ use Rattle.grammar_table.specs.Trees.{treeOf}
 use Rattle.lake_calls.specs.steps.Firsts.{AllFirsts}
 use Rattle.lake_calls.specs.steps.Place.{placed}
 use Rattle.lake_calls.specs.steps.Marks.{emptyRound, SoundIn, AllMarks, Looped, LoopedAll}
+use Rattle.lake_calls.specs.laws.Exact.{calls-long}
 use Rattle.lake_calls.specs.laws.Trees.{bodies-are, trees-are}
 
 sound-at : (number : Leaf → ℕ) (r x : ℕ) (es : List (Exp ℕ)) (d : Exp ℕ) → SoundAll number r x es → (i : ℕ) → i < length es → Sound number r x (getD es i d)
@@ -61,15 +62,11 @@ module _ (t : List ℕ) (g : Grammar) (bodies : List (Exp ℕ)) (h : Holds t (wi
       c .are (terminalIn g) (length (g .names)) (length (g .terminals)) names-few bodies-sound
       ∙ by-body (firstCalls (marked ms)) ∙ ap (λ (l : List Bool). map (firstCalls (marked l)) bodies) (marks-are ms a)
 
-  calls-long : length (callsOf bodies) ≡ length bodies
-  unfolding callsOf
-  calls-long = length-map bodies (firstCalls (marked (marksOf bodies)))
-
   loop-of : (calls : List ℕ) → calls ≡ callsOf bodies → placed (length calls) (loopFrom calls (length calls) 0) ≡ placed (length bodies) (loop bodies)
   unfolding loop
   loop-of calls c =
       ap (λ (l : List ℕ). placed (length l) (loopFrom l (length l) 0)) c
-      ∙ ap (λ (k : ℕ). placed k (loopFrom (callsOf bodies) (length (callsOf bodies)) 0)) calls-long
+      ∙ ap (λ (k : ℕ). placed k (loopFrom (callsOf bodies) (length (callsOf bodies)) 0)) (calls-long bodies)
 
 pub looped : (t : List ℕ) (n m at : ℕ) (ms : List Bool) (calls : List ℕ) → m ≡ n → AllMarks t m ms → AllFirsts t (marked ms) n calls → at ≡ placed (length calls) (loopFrom calls (length calls) 0) → Looped t n at
 looped t n m at ms calls q a c z =

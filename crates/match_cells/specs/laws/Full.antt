@@ -7,7 +7,7 @@ use mathlib.Core.Logic.{_⊎_, ⊎-elim}
 use mathlib.Core.Option.{none}
 use native.Mathlib.Omega.{arith}
 use native.Mathlib.Nat.{eq-or-lt-of-le}
-use lib.ListN.{length, getD, length-append, length-map}
+use lib.ListN.{length, getD, length-append}
 use lib.Bits.{or-lt}
 use lib.Dec.{eqb, ltb}
 use lib.Pow.{pow-pos}
@@ -21,7 +21,9 @@ use Rattle.base_words.specs.Set.{ones}
 use Rattle.lake_sets.specs.Beginning.{marked, marksOf}
 use Rattle.lake_step_one.specs.Proper.{Sound, SoundAll}
 use Rattle.lake_calls.specs.Calls.{firstCalls, callsOf, reach, loop, ranksOf, ofRank, orderFrom, order}
-use Rattle.match_cells.specs.laws.Order.{pow-below, rank-small}
+use Rattle.lake_calls.specs.laws.Reaches.{pow-below}
+use Rattle.lake_calls.specs.laws.Exact.{calls-long}
+use Rattle.match_cells.specs.laws.Order.{rank-small}
 
 -- ── how many of a list are below a number ──
 abbrev one : Bool → ℕ
@@ -122,25 +124,21 @@ map-small number r x m (e ∷ es) h zero = first-small number r x m e (h .0)
 map-small number r x m (e ∷ es) h (suc i) = map-small number r x m es (h .1) i
 
 module _ (number : Leaf → ℕ) (x : ℕ) (bodies : List (Exp ℕ)) (sound : SoundAll number (length bodies) x bodies) where
-  calls-long : length (callsOf bodies) ≡ length bodies
-  unfolding callsOf
-  calls-long = length-map bodies (firstCalls (marked (marksOf bodies)))
-
   pub calls-small : (r : ℕ) → getD (callsOf bodies) r 0 < 2 ^ length (callsOf bodies)
   unfolding callsOf
-  calls-small r = subst (λ (n : ℕ). getD (callsOf bodies) r 0 < 2 ^ n) (sym calls-long) (map-small number (length bodies) x (marked (marksOf bodies)) bodies sound r)
+  calls-small r = subst (λ (n : ℕ). getD (callsOf bodies) r 0 < 2 ^ n) (sym (calls-long bodies)) (map-small number (length bodies) x (marked (marksOf bodies)) bodies sound r)
 
   ranks-long : length (ranksOf (callsOf bodies)) ≡ length bodies
   unfolding ranksOf
-  ranks-long = up-length (λ (r : ℕ). ones (length (callsOf bodies)) (reach (callsOf bodies) r)) (length (callsOf bodies)) ∙ calls-long
+  ranks-long = up-length (λ (r : ℕ). ones (length (callsOf bodies)) (reach (callsOf bodies) r)) (length (callsOf bodies)) ∙ calls-long bodies
 
   ranks-small : loop bodies ≡ none → (i : ℕ) → i < length (ranksOf (callsOf bodies)) → getD (ranksOf (callsOf bodies)) i 0 < length (ranksOf (callsOf bodies))
   unfolding ranksOf loop
   ranks-small clear i l =
-      let p : i < length (callsOf bodies) = omega (arith, l, ranks-long, calls-long) in
+      let p : i < length (callsOf bodies) = omega (arith, l, ranks-long, calls-long bodies) in
       subst (λ (v : ℕ). v < length (ranksOf (callsOf bodies)))
       (sym (up-at (λ (r : ℕ). ones (length (callsOf bodies)) (reach (callsOf bodies) r)) 0 (length (callsOf bodies)) i p))
-      (omega (arith, rank-small (callsOf bodies) calls-small clear i p, ranks-long, calls-long))
+      (omega (arith, rank-small (callsOf bodies) calls-small clear i p, ranks-long, calls-long bodies))
 
   -- each symbol is there once
   pub order-full : loop bodies ≡ none → length (order bodies) ≡ length bodies

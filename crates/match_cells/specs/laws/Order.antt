@@ -1,65 +1,32 @@
 -- Where there is no loop, filling by rank puts first-called symbols first: the order of `plain` is one that `filling` can rely on. Assumes nothing.
-use Prim.Native.Nat.{ℕ, zero, suc, _+_, _*_, _^_, _≤_, _<_}
+use Prim.Native.Nat.{ℕ, zero, suc, _+_, _^_, _≤_, _<_}
 use mathlib.Core.Path.{_≡_, refl, ap, _∙_, subst}
 use mathlib.Core.Path.{sym as flip}
-use mathlib.Core.Bool.{Bool, true, false, cond}
+use mathlib.Core.Bool.{Bool, true, false}
 use mathlib.Core.Logic.{_⊎_, inl, inr, ⊎-elim}
-use mathlib.Core.List.{List, [], _∷_, _++_, map}
+use mathlib.Core.List.{List, [], _∷_, _++_}
 use mathlib.Core.Option.{Option, none, some}
 use native.Mathlib.Omega.{arith}
-use native.Mathlib.Nat.{eq-or-lt-of-le, pow-suc}
+use native.Mathlib.Nat.{eq-or-lt-of-le}
 use lib.ListN.{length, getD, length-map}
 use lib.Bits.{bitOr, or-lt}
 use lib.Dec.{eqb}
-use lib.Pow.{pow-pos, pow-mono}
 use borrow.Author.Tests.{eqb-true, eqb-false, eq-eqb}
 use Rattle.base_facts.specs.laws.Numbers.{lt-or-ge}
-use Rattle.grammar.specs.Exp.{Exp, sym, ter, seq, alt, opt, star, plus, ahead, never}
-use Rattle.grammar.specs.Empty.{hasEmpty}
+use Rattle.grammar.specs.Exp.{Exp}
 use Rattle.grammar_table.specs.Table.{upTo}
 use Rattle.grammar_table.specs.laws.Lists.{up-length, up-at}
 use Rattle.base_words.specs.Set.{bit, ones}
-use Rattle.base_words.specs.laws.Members.{bit-lt, bit-pow-same}
-use Rattle.base_words.specs.laws.Order.{ones-le, ones-strict, sub-or-l, sub-or-r}
+use Rattle.base_words.specs.laws.Members.{bit-pow-same}
+use Rattle.base_words.specs.laws.Order.{ones-le, ones-strict, sub-or-l}
 use Rattle.lake_sets.specs.Beginning.{marked, marksOf}
 use Rattle.lake_calls.specs.Calls.{firstCalls, callsOf, holds, reach, loopFrom, loop, ranksOf, ofRank, orderFrom, order}
-use Rattle.lake_calls.specs.laws.Ranks.{member, falls, reach-small}
-use Rattle.lake_calls.specs.laws.Reaches.{Found, found}
-use Rattle.match_cells.specs.Eval.{bodyOf}
-use Rattle.match_cells.specs.First.{Calls, In, Ordered}
-
--- ── first calls as a relation and as a word ──
-up-l : (u v x : ℕ) → holds u x ≡ true → holds (bitOr u v) x ≡ true
-up-l u v x h = let e : bit u x ≡ 1 = member u x h in eq-eqb (bit (bitOr u v) x) 1 (omega (arith, sub-or-l u v x, e, bit-lt (bitOr u v) x))
-
-up-r : (u v x : ℕ) → holds v x ≡ true → holds (bitOr u v) x ≡ true
-up-r u v x h = let e : bit v x ≡ 1 = member v x h in eq-eqb (bit (bitOr u v) x) 1 (omega (arith, sub-or-r u v x, e, bit-lt (bitOr u v) x))
-
-called : (m : ℕ → Bool) (e : Exp ℕ) (x : ℕ) → Calls m e x → holds (firstCalls m e) x ≡ true
-unfolding firstCalls
-called m (sym r) x c = eq-eqb (bit (2 ^ r) x) 1 (ap (λ (y : ℕ). bit (2 ^ r) y) c ∙ bit-pow-same r)
-called m (ter l) x c = absurd c
-called m (seq a b) x (inl c) = up-l (firstCalls m a) (cond (hasEmpty m a) (firstCalls m b) 0) x (called m a x c)
-called m (seq a b) x (inr c) =
-    up-r (firstCalls m a) (cond (hasEmpty m a) (firstCalls m b) 0) x
-    (subst (λ (t : Bool). holds (cond t (firstCalls m b) 0) x ≡ true) (flip (c .0)) (called m b x (c .1)))
-called m (alt a b) x (inl c) = up-l (firstCalls m a) (firstCalls m b) x (called m a x c)
-called m (alt a b) x (inr c) = up-r (firstCalls m a) (firstCalls m b) x (called m b x c)
-called m (opt a) x c = called m a x c
-called m (star a) x c = called m a x c
-called m (plus a) x c = called m a x c
-called m (ahead a) x c = called m a x c
-called m (never a) x c = called m a x c
-
--- what a list's map has inside the list
-called-at : (bodies : List (Exp ℕ)) (f : Exp ℕ → ℕ) (r : ℕ) → r < length bodies → getD (map f bodies) r 0 ≡ f (bodyOf bodies r)
-called-at [] f r l = absurd (omega arith)
-called-at (e ∷ es) f zero l = refl
-called-at (e ∷ es) f (suc r) l = called-at es f r (omega arith)
-
--- ── ranks ──
-pub pow-below : (x n : ℕ) → x < n → 2 ^ x < 2 ^ n
-pow-below x n h = let e : 2 ^ suc x ≡ 2 ^ x * 2 = pow-suc 2 x in let l : 2 ^ suc x ≤ 2 ^ n = pow-mono h in omega (arith, pow-pos x)
+use Rattle.lake_calls.specs.laws.Ranks.{falls, reach-small}
+use Rattle.lake_calls.specs.Loops.{Calls}
+use Rattle.lake_calls.specs.laws.Reaches.{pow-below, Found, found}
+use Rattle.lake_calls.specs.laws.Exact.{up-r, called, called-at}
+use Rattle.match_cells.specs.Eval.{nowhere, bodyOf}
+use Rattle.match_cells.specs.First.{In, Ordered}
 
 module _ (calls : List ℕ) (small : (r : ℕ) → getD calls r 0 < 2 ^ length calls) (clear : loopFrom calls (length calls) 0 ≡ none) where
   abbrev rank : ℕ → ℕ
@@ -137,5 +104,5 @@ ordered bodies small clear =
     subst (λ (n : ℕ). Ordered (marked (marksOf bodies)) bodies [] (orderFrom (ranksOf (callsOf bodies)) n 0))
     (flip (up-length (λ (r : ℕ). ones (length (callsOf bodies)) (reach (callsOf bodies) r)) (length (callsOf bodies))))
     (all-ranks (callsOf bodies) small clear (marked (marksOf bodies)) bodies (flip (length-map bodies (firstCalls (marked (marksOf bodies)))))
-    (λ r l. called-at bodies (firstCalls (marked (marksOf bodies))) r (omega (arith, l, length-map bodies (firstCalls (marked (marksOf bodies))))))
+    (λ r l. called-at bodies (firstCalls (marked (marksOf bodies))) nowhere r (omega (arith, l, length-map bodies (firstCalls (marked (marksOf bodies))))))
     (length (callsOf bodies)) 0 [] (omega arith) (λ x l. ⊎-elim (λ p. absurd (omega (arith, p))) (λ p. absurd (omega (arith, p .1)))))

@@ -17,7 +17,8 @@ use Rattle.match_meaning.specs.Meaning.{nd}
 use Rattle.match_cells.specs.Eval.{stands, leafAt, cellAt, joinOf, seqOf, altOf, stepOf, rep, plusOf, optOf, aheadOf, neverOf, ev}
 use Rattle.match_cells.specs.Cells.{bodyAt, rowOf, fillOf, cells}
 use Rattle.grammar.specs.Empty.{emptyLeaf, hasEmpty}
-use Rattle.match_cells.specs.First.{Calls, Markings, In, Ordered}
+use Rattle.lake_calls.specs.Loops.{Calls}
+use Rattle.match_cells.specs.First.{Markings, In, Ordered}
 use Rattle.match_nodes.specs.Nodes.{seqN, altN, optN, stepN, repN, walkOf, nodeIf, nodesOf, levels, listOf, listingOf, inWords, putNode, written, wordsOf, nodeAt, soundAt, nodeText}
 use Rattle.match_cells.specs.laws.Agrees.{Right}
 use Rattle.match_cells.specs.laws.Filled.{filled-right}

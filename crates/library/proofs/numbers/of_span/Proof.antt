@@ -2,6 +2,7 @@
 use native.Mathlib.Omega.{arith}
 use mathlib.Core.Path.{sym, _∙_}
 use lib.ListN.{length}
+use Rattle.read_tokens.specs.Bounds.{nodeWords}
 use Rattle.match_nodes.specs.laws.Reading.{sound-short, span-is}
 use Rattle.library.specs.laws.Parts.{span-none, span-some}
 use borrow.Author.Needs.{needs}
@@ -13,6 +14,7 @@ use Rattle.gurkenmond.proofs.node_sound.Reads as node-sound-reads
 use Rattle.base_words.proofs.word.Reads as word-reads
 
 returns : tie.Need-returns
+unfolding nodeWords
 returns c =
     span-none (c .before .before .before .args .input .now) (c .before .before .before .args .nodes .now) (c .before .before .before .args .k)
     (sound-short (c .before .before .before .args .nodes .now) (c .before .before .before .args .k) (length
@@ -40,6 +42,7 @@ word-requires-2 : tie.Need-word-requires-2
 word-requires-2 c κs = search needs
 
 sub-t11 : tie.Need-sub-t11
+unfolding nodeWords
 sub-t11 c =
     span-is (c .before .before .before .before .before .before .before .args .nodes .now)
     (c .before .before .before .before .before .before .before .args .k) (length
@@ -50,6 +53,7 @@ sub-t11 c =
     c .before .before .before .node-sound .ensures) .forward
 
 returns-2 : tie.Need-returns-2
+unfolding nodeWords
 returns-2 c =
     span-some (c .before .before .before .before .before .before .before .args .input .now)
     (c .before .before .before .before .before .before .before .args .nodes .now) (c .before .before .before .before .before .before .before .args .k)
