@@ -51,6 +51,9 @@ uint64_t gm_node_text(const uint8_t *input, size_t input_len, const uint32_t *no
 /* out: 0, bytes written; or 13, bytes needed (room_len 0 asks for them). The grammar's own text, and its plain text. Refusals 1 to 8, 13 */
 uint64_t gm_write_own(uint8_t mode, const uint8_t *text, size_t text_len, uint8_t *room, size_t room_len, uint64_t out[4]);
 uint64_t gm_write_plain(uint8_t mode, const uint8_t *text, size_t text_len, uint8_t *room, size_t room_len, uint64_t out[4]);
+
+/* out: 0, bytes written; or 13, bytes needed. The name of a symbol as it stands in the grammar, a lake's with its brackets. Refusals 1 to 8, 14, 13 */
+uint64_t gm_symbol_name(uint8_t mode, const uint8_t *text, size_t text_len, size_t symbol, uint8_t *room, size_t room_len, uint64_t out[4]);
 #ifdef __cplusplus
 }
 #endif

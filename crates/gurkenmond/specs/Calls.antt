@@ -21,7 +21,7 @@ use Rattle.lake_calls.specs.Calls.{order}
 use Rattle.match_lake.specs.Asking.{wayIn}
 use Rattle.match_cells.specs.Cells.{cells}
 use Rattle.match_nodes.specs.Nodes.{Listing, all, deep, full, listOf, listingOf, wordsOf, roomOf}
-use Rattle.write_rules.specs.Writing.{text}
+use Rattle.write_rules.specs.Writing.{symbolText, text}
 use Rattle.gurkenmond.specs.declared.SetsOf.{SetsOf}
 use Rattle.gurkenmond.specs.declared.Lakes.{Lakes}
 use Rattle.gurkenmond.specs.declared.Match.{Match}
@@ -164,5 +164,15 @@ writeOwnOf m t out = writeBy (refuses m t) (text (prepared m t .rules)) out
 unfoldable pub writePlainOf : Mode → List ℕ → List ℕ → Writing
 writePlainOf m t out = let p : Prepared = prepared m t in writeBy (refuses m t) (text (plainRules (p .grammar) (p .analysis))) out
 
+-- ── a symbol's name as it stands in the grammar, a lake's with its brackets: 1 to 8, then 14 for a symbol that the grammar has not, then 13 ──
+abbrev pub isSymbol : Prepared → ℕ → Bool
+isSymbol p r = ltb r (length (p .grammar .names))
+
+unfoldable pub symbolNameOf : Mode → List ℕ → ℕ → List ℕ → Writing
+symbolNameOf m t r out =
+    let p : Prepared = prepared m t in
+    writeBy (refuses m t ▸ refuseIf (not (isSymbol p r)) 14 0) (symbolText (getD (p .grammar .names) r (name []))) out
+
+-- of each of the three
 abbrev pub SaysText : Written → List ℕ → Writing → Type 0
 SaysText r out w = (r .bytes ≡ w .bytes) × (verdictSays (r .verdict) ≡ w .verdict) × (out ≡ w .out)

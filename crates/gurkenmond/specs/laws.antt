@@ -5,3 +5,4 @@ pub mod Sets
 pub mod Writes
 pub mod Matches
 pub mod Asks
+pub mod Names

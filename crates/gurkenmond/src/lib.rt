@@ -3,13 +3,17 @@
 // What each case says in document 01's numbers is in specs/Answers.antt, what each call answers in specs/Calls.antt.
 // A caller names this crate alone: every type that the calls take or give is handed on here.
 ghost use mathlib.Core.Path.{_≡_};
-ghost use Prim.Native.Nat.{_≤_};
+ghost use mathlib.Core.Bool.{false};
+ghost use Prim.Native.Nat.{_≤_, _<_};
 ghost use Rattle.gurkenmond.specs.Answers.{waySays};
-ghost use Rattle.gurkenmond.specs.Calls.{SaysRead, noSets, SaysSets, SaysLakes, matchOf, SaysMatch, lakeOf, SaysWay, writeOwnOf, writePlainOf, SaysText};
+ghost use Rattle.gurkenmond.specs.Calls.{SaysRead, noSets, SaysSets, SaysLakes, matchOf, SaysMatch, lakeOf, SaysWay, writeOwnOf, writePlainOf};
+ghost use Rattle.gurkenmond.specs.Calls.{symbolNameOf, SaysText};
 ghost use Rattle.match_nodes.specs.Nodes.{soundAt, Handed};
 ghost use Rattle.gurkenmond.specs.Runs.{Loopless, Ran, listedMatch, notMatched};
 ghost use Rattle.gurkenmond.specs.steps.Asks.{notAsked, Standing, Asked};
 ghost use Rattle.gurkenmond.specs.steps.Puts.{notWritten, Put};
+ghost use Rattle.write_rules.specs.Writing.{symbolText};
+ghost use Rattle.write_text.specs.steps.Printed.{called};
 ghost use Rattle.write_text.specs.steps.Texts.{textOf};
 use grammar_table::Table;
 pub use lake_sets::Sets;
@@ -227,6 +231,46 @@ pub fn write_plain(mode: Mode, text: &[u8], out: &mut [u8]) -> Written
         return not_written(v);
     }
     put_text(&plain, out, true)
+}
+
+// A symbol's name at the front of the room, counted before a byte is written.
+fn put_name(t: &Table, out: &mut [u8], r: usize) -> Written
+    requires { ⌜ r < 64 ⌝ }
+    ensures { λ w. ⌜ Put (symbolText (called false (now (t .entry)) r)) (now (out .entry)) (now (out .exit)) w ⌝ }
+{
+    let n = write_text::leaves::symbol(t, out, false, false, 0, r);
+    if out.len() < n {
+        return not_written(Verdict::Refused {
+            number: 13,
+            place: n,
+        });
+    }
+    let m = write_text::leaves::symbol(t, out, true, false, 0, r);
+    Written {
+        bytes: m,
+        verdict: Verdict::Accepted,
+    }
+}
+
+// The name of a symbol as it stands in the grammar, a lake's with its brackets.
+pub fn symbol_name(mode: Mode, text: &[u8], symbol: usize, out: &mut [u8]) -> Written
+    ensures { λ r. ⌜ SaysText r (now (out .exit)) (symbolNameOf mode (now (text .entry)) symbol (now (out .entry))) ⌝ }
+{
+    let mut t: Table = [0; grammar_table::WORDS];
+    let mut plain: Table = [0; grammar_table::WORDS];
+    let c = prepare::plainly(mode, text, &mut t, &mut plain);
+    let v = c.verdict;
+    if prepare::is_refused(v) {
+        return not_written(v);
+    }
+    let n = prepare::symbols(&t);
+    if n <= symbol {
+        return not_written(Verdict::Refused {
+            number: 14,
+            place: 0,
+        });
+    }
+    put_name(&t, out, symbol)
 }
 
 // A refusal, handed on.

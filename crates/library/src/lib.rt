@@ -4,7 +4,7 @@
 ghost use mathlib.Core.Path.{_≡_};
 ghost use Rattle.match_nodes.specs.Nodes.{soundAt};
 ghost use Rattle.prepare.specs.Reads.{readOf};
-ghost use Rattle.gurkenmond.specs.Calls.{setsOf, cannotSkipOf, matchOf, lakeOf, writeOwnOf, writePlainOf};
+ghost use Rattle.gurkenmond.specs.Calls.{setsOf, cannotSkipOf, matchOf, lakeOf, writeOwnOf, writePlainOf, symbolNameOf};
 ghost use Rattle.library.specs.Words.{modeOf, Answers, readWords, setsWords, lakesWords, soundWords, spanWords, SaysMatch, SaysLake, SaysText};
 
 mod numbers;
@@ -136,6 +136,25 @@ pub extern "C" fn gm_write_plain(mode: u8, text: &[u8], room: &mut [u8], out: &m
 {
     let m = numbers::mode_of(mode);
     let a = gurkenmond::write_plain(m, text, room);
+    let v = a.verdict;
+    let w = numbers::of_one(v, a.bytes);
+    *out = w;
+    w[0]
+}
+
+// The same for the name of a symbol, as it stands in the grammar.
+#[no_mangle]
+pub extern "C" fn gm_symbol_name(
+    mode: u8,
+    text: &[u8],
+    symbol: usize,
+    room: &mut [u8],
+    out: &mut [u64; 4],
+) -> u64
+    ensures { λ r. ⌜ SaysText r (now (out .exit)) (now (room .exit)) (symbolNameOf (modeOf mode) (now (text .entry)) symbol (now (room .entry))) ⌝ }
+{
+    let m = numbers::mode_of(mode);
+    let a = gurkenmond::symbol_name(m, text, symbol, room);
     let v = a.verdict;
     let w = numbers::of_one(v, a.bytes);
     *out = w;

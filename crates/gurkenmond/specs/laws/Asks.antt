@@ -59,7 +59,7 @@ lake-refused m s i cs l q c e h =
     ∙ sym (ap (λ (o : Option Refusal). lakeAfter (o ▸ (refusesInput (prepared m s) i cs ▸ refuseIf (not (isLakeAt (prepared m s) l && leb q (length i))) 14 0)) (prepared m s) i cs l q) (w .1)))
 
 -- as many symbols as the grammar has
-symbols-of : (t : List ℕ) (g : Grammar) → Holds t g → symbolCount t ≡ length (g .names)
+pub symbols-of : (t : List ℕ) (g : Grammar) → Holds t g → symbolCount t ≡ length (g .names)
 symbols-of t g h = sym (up-length (nameIn t) (symbolCount t)) ∙ ap length (h .names)
 
 -- ── of a text that is accepted ──

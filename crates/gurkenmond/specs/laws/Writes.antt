@@ -30,10 +30,10 @@ use Rattle.gurkenmond.specs.steps.Puts.{notWritten, answerBy, Put}
 use Rattle.gurkenmond.specs.laws.Verdicts.{handed}
 
 -- an answer and the room, in 01's terms
-abbrev told : Written → List ℕ → Writing
+abbrev pub told : Written → List ℕ → Writing
 told r o = writing (r .bytes) (verdictSays (r .verdict)) o
 
-says-by : (r : Written) (o : List ℕ) (w : Writing) → told r o ≡ w → SaysText r o w
+pub says-by : (r : Written) (o : List ℕ) (w : Writing) → told r o ≡ w → SaysText r o w
 says-by r o w e = (ap (λ (x : Writing). x .bytes) e, ap (λ (x : Writing). x .verdict) e, ap (λ (x : Writing). x .out) e)
 
 -- the same answer says the same
@@ -48,12 +48,12 @@ by-fit {w} {old} false a =
     ap₂ (λ (k : ℕ) (o : List ℕ). writing 0 (some (refusal 13 k)) o) (a .count) (a .lacking refl .1)
     ∙ sym (ap (λ (b : Bool). writeAfter (refuseIf b 13 (length w)) w old) (a .lacking refl .0))
 
-puts : {v w old new : List ℕ} {r : Written} → Put v old new r → ((k : ℕ) (f : Bool) → Paged v old new k f → Answered w old new k f) → told r new ≡ writeBy none w old
+pub puts : {v w old new : List ℕ} {r : Written} → Put v old new r → ((k : ℕ) (f : Bool) → Paged v old new k f → Answered w old new k f) → told r new ≡ writeBy none w old
 puts {new = new} p a = ap (λ (x : Written). told x new) (p .answer) ∙ by-fit (p .fits) (a (p .bytes) (p .fits) (p .paged))
 
 -- ── refused 1 to 8: the room stays as it was ──
 module _ (m : Mode) (s old new : List ℕ) (c : Counted) (q : c ≡ readOf m s) (h : isRefused (c .verdict) ≡ true) (same : new ≡ old) where
-  refused-by : (call : List ℕ → Writing) → ((r : Refusal) → refuses m s ≡ some r → writing 0 (some r) old ≡ call old) → SaysText (notWritten (c .verdict)) new (call old)
+  pub refused-by : (call : List ℕ → Writing) → ((r : Refusal) → refuses m s ≡ some r → writing 0 (some r) old ≡ call old) → SaysText (notWritten (c .verdict)) new (call old)
   unfolding verdictOf
   refused-by call f =
       let w = handed m s c q h in
