@@ -11,6 +11,8 @@ ghost use Rattle.grammar_table.specs.Trees.{below};
 use base_words::put;
 use base_words::word;
 
+pub mod records;
+
 // The layout, as specs/Table.antt has it: where the records of symbols, terminals and expressions begin, and how many words one has.
 pub const SYMBOLS_AT: usize = 8;
 
@@ -28,7 +30,10 @@ pub const WORDS: usize = 22280;
 
 pub type Table = [u32; WORDS];
 
-// Words of a symbol's record, from its first: its kind, its body (0 none, else 1 + its expression), then the length of its name and the name.
+// The kind is the first word of every record.
+pub const KIND: usize = 0;
+
+// Words of a symbol's record behind it: its body (0 none, else 1 + its expression), then the length of its name and the name.
 pub const BODY: usize = 1;
 
 pub const NAME_LENGTH: usize = 3;
@@ -44,6 +49,11 @@ pub const TERMINAL_KEY: usize = 1;
 pub const LENGTH: usize = 1;
 
 pub const CONTENT: usize = 2;
+
+// The two others of an expression.
+pub const LEFT: usize = 1;
+
+pub const RIGHT: usize = 2;
 
 // Kinds of terminals.
 pub const ANY: usize = 0;
