@@ -22,6 +22,7 @@ extern "C" {
 #define GM_NO_MATCH 100
 #define GM_INPUT_MOST 65535 /* bytes of input */
 #define GM_NODE_WORDS 4     /* words of a node: symbol, start, end, depth */
+#define GM_NAME_MOST 38     /* bytes of a symbol's name, brackets with it */
 
 /* out: 0, symbols, terminals, expressions. Refusals 1 to 8 */
 uint64_t gm_read(uint8_t mode, const uint8_t *text, size_t text_len, uint64_t out[4]);

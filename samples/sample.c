@@ -2,7 +2,6 @@
    ./build x86_64 && gcc -Itarget/library -o sample samples/sample.c target/library/x86_64/libgurkenmond.a   (on Arm: aarch64) */
 #include <stdio.h>
 #include <stdlib.h>
-#include <string.h>
 #include "gurkenmond.h"
 
 enum { FILE_MOST = 1 << 21, NODES_MOST = 1 << 16 };
@@ -16,19 +15,12 @@ static uint8_t *load(const char *name, size_t *length) {
     return bytes;
 }
 
-/* The names of the symbols, one a line, each ended by 0: the left sides of the plain text, where the lake <x> is lake__x. */
-static char *names_of(const uint8_t *grammar, size_t length, char **names) {
+/* The name of a symbol, a lake's with its brackets: asked once, then kept. */
+static const char *name_of(const uint8_t *grammar, size_t length, size_t symbol) {
+    static char names[64][GM_NAME_MOST + 1];
     uint64_t out[4];
-    uint8_t none;
-    gm_write_plain(GM_LAKE, grammar, length, &none, 0, out); /* 13, bytes needed */
-    size_t count = 0, need = out[1];
-    char *plain = calloc(need + 1, 1);
-    gm_write_plain(GM_LAKE, grammar, length, (uint8_t *)plain, need, out);
-    for (char *line = strtok(plain, "\n"); line; line = strtok(NULL, "\n")) {
-        *strchr(line, ' ') = 0;
-        names[count++] = line;
-    }
-    return plain;
+    if (!*names[symbol]) gm_symbol_name(GM_LAKE, grammar, length, symbol, (uint8_t *)names[symbol], GM_NAME_MOST, out);
+    return names[symbol];
 }
 
 int main(int count, char **words) {
@@ -36,7 +28,6 @@ int main(int count, char **words) {
     size_t grammar_length, text_length;
     uint8_t *grammar = load(words[1], &grammar_length), *text = load(words[2], &text_length);
     uint64_t out[4], code = gm_read(GM_LAKE, grammar, grammar_length, out);
-    char *names[64];
     if (code == 0) {
         size_t cells = text_length > GM_INPUT_MOST ? 0 : out[1] * (text_length + 1);
         uint32_t *work = malloc(4 * cells + 4), *nodes = malloc(4 * GM_NODE_WORDS * NODES_MOST);
@@ -44,11 +35,8 @@ int main(int count, char **words) {
         if (code == 0) {
             uint64_t listed = out[2];
             printf("match %llu\n", (unsigned long long)out[1]);
-            names_of(grammar, grammar_length, names);
-            for (uint32_t *node = nodes; node < nodes + GM_NODE_WORDS * listed; node += GM_NODE_WORDS) {
-                const char *name = names[node[0]], *lake = strncmp(name, "lake__", 6) ? NULL : name + 6;
-                printf(lake ? "%u %u %u <%s>\n" : "%u %u %u %s\n", node[1], node[2], node[3], lake ? lake : name);
-            }
+            for (uint32_t *node = nodes; node < nodes + GM_NODE_WORDS * listed; node += GM_NODE_WORDS)
+                printf("%u %u %u %s\n", node[1], node[2], node[3], name_of(grammar, grammar_length, node[0]));
         }
     }
     if (code == GM_NO_MATCH) puts("none");

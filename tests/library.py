@@ -21,15 +21,17 @@ import time
 import urllib.parse
 from concurrent.futures import ThreadPoolExecutor
 
+import questions as known
 import random_grammars
 import stack
+from matcher import Matcher, plain_text
 from programs import TOP, Programs
 
 MADE = os.path.join(TOP, "target", "library")
 HERE = os.path.join(TOP, "tests", "library")
 ARM = platform.machine() == "aarch64"
 RANDOM_COUNT, RANDOM_SEED = 10000, 12
-NODE_QUESTIONS = 1000
+NODE_QUESTIONS, NAME_QUESTIONS = 1000, 1000
 WRAPPER_COUNT = 300
 # the commands that the tests call, and Debian's packages that have them
 PACKAGES = {"gcc": ["gcc", "libc6-dev"], "node": ["nodejs"], "chromium": ["chromium"]}
@@ -173,15 +175,12 @@ def compare(target, questions, answers, threads=()):
     return good
 
 
-def stored():
-    with open(os.path.join(TOP, "crates", "replay", "stdin"), "rb") as file:
-        questions = file.read()
-    with open(os.path.join(TOP, "crates", "replay", "stdout"), "r", encoding="ascii") as file:
-        return questions, file.read().split("\n")[:-1]
+def lines(questions):
+    return "".join(line + "\n" for line in questions).encode()
 
 
 def check_stored(target):
-    questions, answers = stored()
+    questions, answers = lines(known.stored("stdin")), known.stored("stdout")
     asked = sum(answer != "unreadable" for answer in answers)
     good = compare(target, questions, answers, target.threads)
     print(f"library: {target.name}: {good} of {asked} stored questions answered as stored")
@@ -189,16 +188,25 @@ def check_stored(target):
         wrong(f"{target.name}: only {good} of {asked}")
 
 
+def check_names(target):
+    """Every symbol's name of every stored grammar, and of some more, by the independent reader; every other mode byte is plain."""
+    asked = known.all_name_questions(2**64 - 1)
+    asked += [(question.replace(" plain ", f" {mode} ", 1), answer) for question, answer in asked if " plain " in question for mode in (2, 255)]
+    good = compare(target, lines(question for question, _ in asked), [answer for _, answer in asked], target.threads)
+    print(f"library: {target.name}: {good} of {len(asked)} questions on names answered as the independent reader does")
+
+
 def check_worst(target, others):
     """The worst grammars, every call, within the header's stack: the threads of the harness have no more; two at once in C. `others` are earlier answers."""
     questions, firsts = [], []
-    for _, grammar, text, lines in stack.cases():
-        known, given = grammar.encode().hex() or "-", text.encode().hex() or "-"
+    for _, grammar, text, expected in stack.cases():
+        rules, given = known.field(grammar.encode()), known.field(text.encode())
         cells = min(64 * (len(text) + 1), 16384)
-        questions += [f"match lake {known} {given} {cells} 4096", f"lake lake {known} {given} {cells} 1 0", f"sets lake {known} 1", f"skip lake {known}",
-                      f"read lake {known}", f"own lake {known} 100000", f"plain lake {known} 200000", f"plain plain {known} 200000"]
-        firsts.append(lines[0])
-    got = target.ask("".join(line + "\n" for line in questions).encode(), () if "Node" in target.name else ["2"])
+        questions += [f"match lake {rules} {given} {cells} 4096", f"lake lake {rules} {given} {cells} 1 0", f"sets lake {rules} 1", f"skip lake {rules}",
+                      f"read lake {rules}", f"own lake {rules} 100000", f"plain lake {rules} 200000", f"plain plain {rules} 200000",
+                      f"name lake {rules} 1 34", f"name plain {rules} 0 38"]
+        firsts.append(expected[0])
+    got = target.ask(lines(questions), () if "Node" in target.name else ["2"])
     others.append(got)
     bad = sum(answer.split(" ;")[0] != first for answer, first in zip(got[::len(questions) // len(firsts)], firsts))
     bad += sum(mine != theirs or mine in ("broken", "unreadable") for mine, theirs in zip(got, others[0])) + abs(len(got) - len(questions))
@@ -240,15 +248,14 @@ def random_grammar(r):
 
 
 def random_question(r):
-    field = lambda given: given.hex() or "-"
     number = lambda: r.choice(NUMBERS) if r.random() < 0.3 else r.randrange(12)
-    kind = r.choice(["read", "sets", "skip", "match", "match", "match", "lake", "lake", "own", "plain"])
-    question = f"{kind} {r.choice([0, 0, 1, r.randrange(256)])} {field(random_grammar(r))}"
+    kind = r.choice(["read", "sets", "skip", "match", "match", "match", "lake", "lake", "own", "plain", "name"])
+    question = f"{kind} {r.choice([0, 0, 1, r.randrange(256)])} {known.field(random_grammar(r))}"
     if kind in ("match", "lake"):
         text = bytes(r.choices(random_grammars.TEXT, k=r.randrange(24))) if r.random() < 0.8 else random_bytes(r, 48)
-        question += f" {field(text)} {r.choice([r.randrange(400), 64 * (len(text) + 1)])}"
+        question += f" {known.field(text)} {r.choice([r.randrange(400), 64 * (len(text) + 1)])}"
     more = {"sets": [number()], "match": [r.choice([r.randrange(40), 400])], "lake": [number(), number()],
-            "own": [r.randrange(700)], "plain": [r.randrange(700)]}
+            "own": [r.randrange(700)], "plain": [r.randrange(700)], "name": [number(), r.randrange(10)]}
     return " ".join([question, *map(str, more.get(kind, []))])
 
 
@@ -256,43 +263,69 @@ def node_question(r):
     """A question on node words that hold anything, and its answer by the words of document 01."""
     n = r.randrange(6)
     words = [r.choice([0, 1, 2, n, n + 1, 7, 2**31, 2**32 - 1]) for _ in range(r.randrange(18))]
-    k = r.choice([*range(6), *NUMBERS])
-    start, end = (words + [0] * 8)[4 * k + 1:4 * k + 3] if 4 * (k + 1) <= len(words) else (1, 0)
-    listed = ",".join(map(str, words)) or "-"
-    if r.random() < 0.5:
-        return f"sound {listed} {k} {n}", f"sound {int(start <= end <= n)}"
-    return f"span {'ab' * n or '-'} {listed} {k}", f"span {start} {end - start}" if start <= end <= n else "span 0 0"
+    return r.choice(known.node_questions(bytes(r.randrange(256) for _ in range(n)), words, r.choice([*range(6), *NUMBERS])))
+
+
+def random_name_question(r):
+    """A question on a name of a random grammar or of its plain text, in any mode byte, and its answer by the independent reader."""
+    source, mode = loopless_grammar(r), 0
+    grammar = random_grammars.Grammar(source)
+    loop, names = grammar.loop(), grammar.symbols
+    if loop is None and r.random() < 0.5:
+        source, mode = plain_text(grammar), r.randrange(1, 256)
+        names = known.names_of(source, True)
+    symbol = r.choice([*range(len(names))] * 4 + [len(names), *NUMBERS])
+    room = r.choice([0, known.NAME_ROOM, *(len(name) + k for name in names for k in (-1, 0, 1))])
+    return known.name_question(mode, source, symbol, room), known.name_answer(names, symbol, room) if loop is None else f"refused 8 {loop}"
 
 
 def check_random(found):
     r = random.Random(RANDOM_SEED)
     asked = [random_question(r) for _ in range(RANDOM_COUNT)]
-    nodes = [node_question(r) for _ in range(NODE_QUESTIONS)]
-    questions = "".join(line + "\n" for line in [*asked, *(question for question, _ in nodes)]).encode()
+    answered = [node_question(r) for _ in range(NODE_QUESTIONS)] + [random_name_question(r) for _ in range(NAME_QUESTIONS)]
+    questions = lines([*asked, *(question for question, _ in answered)])
     with ThreadPoolExecutor(2) as pool:
         answers = list(pool.map(lambda target: target.ask(questions, target.threads), found))
     for target, got in zip(found, answers):
-        if got[RANDOM_COUNT:] != [answer for _, answer in nodes]:
-            wrong(f"{target.name}: node words read otherwise")
+        if got[RANDOM_COUNT:] != [answer for _, answer in answered]:
+            wrong(f"{target.name}: node words or names read otherwise")
         bad = [k for k, (mine, theirs) in enumerate(zip(got, answers[0])) if mine != theirs or mine in ("broken", "unreadable")]
-        if bad or len(got) != RANDOM_COUNT + NODE_QUESTIONS:
+        if bad or len(got) != RANDOM_COUNT + len(answered):
             wrong(f"{target.name}: {len(got)} answers, {len(bad)} broken, unread or other than those of {found[0].name}; "
                   f"the first: {questions.decode().split(chr(10))[bad[0]][:300] if bad else ''}")
     accepted = sum(not answer.startswith("refused") for answer in answers[0][:RANDOM_COUNT])
-    print(f"library: {RANDOM_COUNT:,} random questions ({accepted:,} not refused) and {NODE_QUESTIONS:,} on node words on {len(found)} targets, guards whole")
+    print(f"library: {RANDOM_COUNT:,} random questions ({accepted:,} not refused), {NODE_QUESTIONS:,} on node words and {NAME_QUESTIONS:,} on names "
+          f"on {len(found)} targets, guards whole")
 
 
-# ── samples, wrappers and the page, against `spans` ──
+# ── samples, wrappers and the page, against `spans` and the independent matcher ──
+BROKEN = "a <- 'x'\nb <- ("
+
+
 def sample_cases():
     yield "block <- '{' stmt* '}'\nstmt <- expr_stmt / block\nexpr_stmt <- <elake>* ';'\n", "{a;{b c;}}"
     yield "a <- 'x' <y>", "xz"
     yield "a <- 'x'", "y"
-    yield "a <- 'x'\nb <- (", "y"
+    yield BROKEN, "y"
     yield "A <- <x>* 'y' / B\nB <- <x>* 'z'", "y"
+    yield "x <- (y / <x>)* z <z>\nz <- 'z'\ny <- 'y' <x>?\n<z> <- 'q'\nwater <- '#'", "ayb#yzq"
+
+
+def spanned(source, text):
+    """What `spans` prints, by the independent matcher; it reads no broken grammar."""
+    if source == BROKEN:
+        return f"refused 2 {len(BROKEN)}\n".encode()
+    grammar = random_grammars.Grammar(source.encode())
+    if grammar.loop() is not None:
+        return f"refused 8 {grammar.loop()}\n".encode()
+    nodes = Matcher(grammar, text.encode()).nodes()
+    if not nodes:
+        return b"none\n"
+    return lines([f"match {nodes[0][2]}", *(f"{start} {end} {depth} {grammar.symbols[symbol]}" for symbol, start, end, depth in nodes)])
 
 
 def check_samples(folder):
-    """The samples in C, JavaScript and Python print what `spans` prints."""
+    """The samples in C, JavaScript and Python, and `spans`, print what the independent matcher says."""
     sample = os.path.join(folder, "sample")
     ended = run(["gcc", "-O2", "-Wall", "-Wextra", "-Werror", "-I" + MADE, "-o", sample, os.path.join(TOP, "samples", "sample.c"),
                  os.path.join(MADE, platform.machine(), "libgurkenmond.a")])
@@ -307,12 +340,15 @@ def check_samples(folder):
             for name, content in zip(names, (grammar, text)):
                 with open(name, "w", encoding="utf-8") as file:
                     file.write(content)
-            expected = programs.spans(grammar.encode(), text.encode())
+            expected = spanned(grammar, text)
+            printed = {"spans": (programs.spans(grammar.encode(), text.encode()), b"")}
             for name, words in commands.items():
                 ended = run([*words, *names])
-                if ended.stdout != expected:
-                    wrong(f"{name}: {ended.stdout[:300]!r}{ended.stderr[-500:]!r}, not {expected!r}")
-    print(f"library: {len(commands)} samples print what spans prints, {len(list(sample_cases()))} times")
+                printed[name] = (ended.stdout, ended.stderr)
+            for name, (said, problem) in printed.items():
+                if said != expected:
+                    wrong(f"{name}: {said[:300]!r}{problem[-500:]!r}, not {expected!r}")
+    print(f"library: {len(commands)} samples print what spans and the independent matcher say, {len(list(sample_cases()))} times")
 
 
 def widths(text):
@@ -348,6 +384,7 @@ def check_wrappers():
     odd = ["ä", "€", "😀", "\n", "\r\n", "x", "'ä'", "[ä-ö]", "\ud800", "\0"]
     easy = ["s <- .*", "s <- (w / <l>)*\nw <- 'ä' / '€' / '😀x' / 'ab'", "# ä\ns <- t*\nt <- . u?\nu <- [b-x]", "s <- 'ä'* <l>* '😀'"]
     cases = [("a <- 'ä'* <w>* '😀'", "ää€😀"), ("a <- .* ", "a😀b"), ("# ä\na <- ä", ""), ("", ""), ("a <- 'x'", "x" * 70000), ("(" * 2000000, "")]
+    cases += sample_cases()
     while len(cases) < WRAPPER_COUNT:
         # characters of several bytes in a comment and, sometimes, in the midst
         grammar = r.choice(["# ä€😀\n", ""]) + r.choice([random_grammar(r).decode("utf-8", "replace"), r.choice(easy)])
@@ -359,7 +396,7 @@ def check_wrappers():
     if ended.returncode:
         wrong(f"gurkenmond.js: {ended.stderr.decode()[-2000:]}")
         return
-    matched = 0
+    matched = named = 0
     for (grammar, text), (said, values) in zip(cases, json.loads(ended.stdout)):
         # a lone surrogate has three bytes in either language, of which JavaScript makes those of U+FFFD
         grammar, text = (given.replace("\ud800", "\ufffd") for given in (grammar, text))
@@ -375,14 +412,21 @@ def check_wrappers():
             if {key: value for key, value in answer.items() if key != "what"} != expected:
                 wrong(f"{('gurkenmond.py', 'gurkenmond.js')[mapping]} on {grammar[:200]!r} and {text[:100]!r}: {str(answer)[:300]}, not {str(expected)[:300]}")
                 return
-        if values != other_values(library, grammar, text):
-            wrong(f"the wrappers differ on {grammar[:200]!r} and {text[:100]!r}: {str(values)[:300]}, {str(other_values(library, grammar, text))[:300]}")
+        others = other_values(wrapper, library, grammar, text)
+        if values != others:
+            wrong(f"the wrappers differ on {grammar[:200]!r} and {text[:100]!r}: {str(values)[:300]}, {str(others)[:300]}")
             return
+        for plain, names in enumerate(values[-2:]):
+            if isinstance(names, dict):
+                named += 1
+                if names["names"] != known.names_of(grammar.encode(), bool(plain)):
+                    wrong(f"names of {grammar[:200]!r}: {names['names']}, not {known.names_of(grammar.encode(), bool(plain))}")
         matched += isinstance(by_bytes, wrapper.Match)
-    print(f"library: {len(cases)} grammars and texts through gurkenmond.js and gurkenmond.py, {matched} matched, places as the languages count them")
+    print(f"library: {len(cases)} grammars and texts through gurkenmond.js and gurkenmond.py, {matched} matched, places as the languages count them, "
+          f"{named} times all names as the independent reader has them")
 
 
-def other_values(library, grammar, text):
+def other_values(wrapper, library, grammar, text):
     """What wrapper.mjs says of the calls beside `match`."""
     decoded = lambda written: {"text": written.decode("utf-8", "replace")}
     asked = [(library.read(grammar), lambda read: read._asdict()),
@@ -390,7 +434,8 @@ def other_values(library, grammar, text):
              (library.cannot_skip(grammar), lambda lakes: {"lakes": lakes}),
              (library.lake_at(grammar, text, 1, 0), lambda way: {"way": way}),
              (library.write_own(grammar), decoded), (library.write_plain(grammar), decoded),
-             (library.names(grammar), lambda names: {"names": names})]
+             (library.symbol_name(grammar, 1), lambda name: {"text": name}), (library.symbol_name(grammar, 64), lambda name: {"text": name}),
+             (library.names(grammar), lambda names: {"names": names}), (library.names(grammar, wrapper.PLAIN), lambda names: {"names": names})]
     return [answer.number if hasattr(answer, "number") else value(answer) for answer, value in asked]
 
 
@@ -408,22 +453,22 @@ class Quiet(http.server.SimpleHTTPRequestHandler):
 
 
 def check_page():
-    """The page in a headless browser prints what `spans` prints."""
+    """The page in a headless browser prints what the independent matcher says."""
     server = http.server.ThreadingHTTPServer(("127.0.0.1", 0), functools.partial(Quiet, directory=TOP))
     threading.Thread(target=server.serve_forever, daemon=True).start()
     shown = 0
-    with Programs() as programs, tempfile.TemporaryDirectory() as profile:
+    with tempfile.TemporaryDirectory() as profile:
         for grammar, text in sample_cases():
             query = urllib.parse.urlencode({"grammar": grammar, "text": text})
             ended = run(["chromium", "--headless", "--no-sandbox", "--disable-gpu", f"--user-data-dir={profile}", "--virtual-time-budget=20000", "--dump-dom",
                          f"http://127.0.0.1:{server.server_port}/samples/index.html?{query}"])
             found = re.search(r'<pre id="spans">(.*?)</pre>', ended.stdout.decode(), re.S)
-            said, expected = html.unescape(found[1]) if found else None, programs.spans(grammar.encode(), text.encode()).decode()
+            said, expected = html.unescape(found[1]) if found else None, spanned(grammar, text).decode()
             if said != expected:
                 wrong(f"the page says {said!r}, not {expected!r}: {ended.stderr.decode()[-300:]}")
             shown += 1
     server.shutdown()
-    print(f"library: the page in Chromium prints what spans prints, {shown} times")
+    print(f"library: the page in Chromium prints what the independent matcher says, {shown} times")
 
 
 def main():
@@ -436,6 +481,7 @@ def main():
                 others = []
                 for target in found:
                     check_stored(target)
+                    check_names(target)
                     check_worst(target, others)
                 check_random(found)
                 check_samples(folder)

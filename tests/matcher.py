@@ -143,15 +143,21 @@ def same_terminal(exp):
     return (exp.op, exp.value)
 
 
+def symbols_of(rules):
+    """Names by number: the left sides in order, then the lakes without a rule by first use."""
+    symbols = list(rules)
+    for body in rules.values():
+        symbols += [name for name in dict.fromkeys(exp.value for exp in leaves(body) if exp.op == "symbol") if name not in symbols]
+    return symbols
+
+
 class Grammar:
     def __init__(self, text, plain=False):
         self.rules = Reader(text, plain).rules()
-        self.symbols = list(self.rules)
+        self.symbols = symbols_of(self.rules)
         self.terminals = [("any", None)]
         for body in self.rules.values():
             for exp in leaves(body):
-                if exp.op == "symbol" and exp.value not in self.symbols:
-                    self.symbols.append(exp.value)
                 if exp.op != "symbol" and same_terminal(exp) not in self.terminals:
                     self.terminals.append(same_terminal(exp))
         water = self.rules.get("water")

@@ -24,6 +24,9 @@ export class Gurkenmond {
   cannotSkip(grammar: Text, mode?: Mode): Lakes | Refused;
   writeOwn(grammar: Text, mode?: Mode): Written | Refused;
   writePlain(grammar: Text, mode?: Mode): Written | Refused;
+  /** The name of a symbol, by its number, as it stands in the grammar: a lake's with its brackets. */
+  symbolName(grammar: Text, symbol: number, mode?: Mode): Written | Refused;
+  /** Every symbol's name, by its number. */
   names(grammar: Text, mode?: Mode): Names | Refused;
   match(grammar: Text, input: Text, mode?: Mode): Match | None | Refused;
   lakeAt(grammar: Text, input: Text, lake: number, place: number, mode?: Mode): Way | Refused;

@@ -6,9 +6,9 @@
 
 const WHAT = ['', 'grammar text too long', 'syntax', 'name, literal or parentheses over their bound', 'name given twice, or reserved', 'name without a rule',
   'too many symbols, terminals or expressions', 'translation too large', 'loop', 'input too long', 'too few work cells', 'too deep', 'too many nodes',
-  'room too small', 'no such expression, lake or position'];
+  'room too small', 'no such expression, symbol, lake or position'];
 const LAST_IN_TEXT = 5; // refusals 1 to 5 have their place in the grammar's text
-const WAYS = ['not', 'rule', 'water', 'skip'], NO_MATCH = 100n, NODE_WORDS = 4, NODES_FIRST = 1 << 12, NODES_MOST = 1 << 18;
+const WAYS = ['not', 'rule', 'water', 'skip'], NO_MATCH = 100n, NODE_WORDS = 4, NODES_FIRST = 1 << 12, NODES_MOST = 1 << 18, ROOM_FIRST = 1 << 12;
 const GRAMMAR_MOST = 1048577, INPUT_MOST = 65536; // one byte more than any call takes: what is cut is refused as the whole is, 1 and 9
 
 // A text with its bytes, and the place of each byte in the string.
@@ -81,13 +81,16 @@ export class Gurkenmond {
       cells = Number(out[1]);
     }
   }
-  #write(grammar, mode, call) {
-    this.#start();
-    const text = new Text(grammar, GRAMMAR_MOST), lent = this.#lend(text), out = this.#ask(call, number(mode), ...lent, this.#room(0), 0n);
-    if (out[0] !== 13n) return this.#refused(text, out);
-    const length = Number(out[1]), room = this.#room(length);
-    this.#ask(call, number(mode), ...lent, room, BigInt(length));
-    return { kind: 'text', text: new TextDecoder().decode(new Uint8Array(this.#calls.memory.buffer, room, length)) };
+  // a call that writes: where the room is too small it says how many bytes it needs
+  #write(grammar, mode, call, ...more) {
+    const text = new Text(grammar, GRAMMAR_MOST);
+    for (let length = ROOM_FIRST; ;) {
+      this.#start();
+      const lent = this.#lend(text), room = this.#room(length), out = this.#ask(call, number(mode), ...lent, ...more, room, BigInt(length));
+      if (out[0] === 0n) return { kind: 'text', text: new TextDecoder().decode(new Uint8Array(this.#calls.memory.buffer, room, Number(out[1]))) };
+      if (out[0] !== 13n) return this.#refused(text, out);
+      length = Number(out[1]);
+    }
   }
 
   read(grammar, mode = 'lake') {
@@ -101,16 +104,12 @@ export class Gurkenmond {
   cannotSkip(grammar, mode = 'lake') { return this.#on(grammar, mode, 'gm_cannot_skip', [], out => ({ kind: 'lakes', lakes: bits(out[1]) })); }
   writeOwn(grammar, mode = 'lake') { return this.#write(grammar, mode, 'gm_write_own'); }
   writePlain(grammar, mode = 'lake') { return this.#write(grammar, mode, 'gm_write_plain'); }
-  // every symbol's name by its number: the left sides of the plain text, where the lake `<x>` is `lake__x`
+  symbolName(grammar, symbol, mode = 'lake') { return this.#write(grammar, mode, 'gm_symbol_name', count(symbol)); }
   names(grammar, mode = 'lake') {
-    const plain = this.writePlain(grammar, mode);
-    if (plain.kind !== 'text') return plain;
-    const names = plain.text.trimEnd().split('\n').map(line => line.slice(0, line.indexOf(' ')));
-    return { kind: 'names', names: mode === 'plain' ? names : names.map(name => name.replace(/^lake__(.*)/, '<$1>')) };
+    const read = this.read(grammar, mode);
+    return read.kind === 'refused' ? read : { kind: 'names', names: Array.from({ length: read.symbols }, (_, i) => this.symbolName(grammar, i, mode).text) };
   }
   match(grammar, input, mode = 'lake') {
-    const known = this.names(grammar, mode);
-    if (known.kind !== 'names') return known;
     const text = new Text(grammar, GRAMMAR_MOST), given = new Text(input, INPUT_MOST);
     let most = NODES_FIRST, nodes, out;
     do {
@@ -118,10 +117,11 @@ export class Gurkenmond {
     } while (out[0] === 12n && (most *= 8) <= NODES_MOST);
     if (out[0] === NO_MATCH) return { kind: 'none' };
     if (out[0] !== 0n) return this.#refused(text, out);
-    const words = new Uint32Array(this.#calls.memory.buffer, nodes, NODE_WORDS * Number(out[2])), list = [];
+    const words = new Uint32Array(this.#calls.memory.buffer, nodes, NODE_WORDS * Number(out[2])).slice(), list = [], names = [];
     for (let i = 0; i < words.length; i += NODE_WORDS) {
       const [symbol, start, end, depth] = words.subarray(i, i + NODE_WORDS);
-      list.push({ symbol, name: known.names[symbol], start: given.place(start), end: given.place(end), depth });
+      names[symbol] ??= this.symbolName(grammar, symbol, mode).text;
+      list.push({ symbol, name: names[symbol], start: given.place(start), end: given.place(end), depth });
     }
     return { kind: 'match', taken: given.place(Number(out[1])), nodes: list };
   }

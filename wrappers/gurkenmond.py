@@ -17,10 +17,10 @@ LAKE, PLAIN = 0, 1
 NO_MATCH, NO_CELLS, NO_ROOM_FOR_NODE, NO_ROOM = 100, 10, 12, 13
 # refusals 1 to 5 have their place in the grammar's text
 LAST_IN_TEXT = 5
-NODE_WORDS, NODES_FIRST, NODES_MOST = 4, 1 << 12, 1 << 18
+NODE_WORDS, NODES_FIRST, NODES_MOST, ROOM_FIRST = 4, 1 << 12, 1 << 18, 1 << 12
 WHAT = ("", "grammar text too long", "syntax", "name, literal or parentheses over their bound", "name given twice, or reserved", "name without a rule",
         "too many symbols, terminals or expressions", "translation too large", "loop", "input too long", "too few work cells", "too deep", "too many nodes",
-        "room too small", "no such expression, lake or position")
+        "room too small", "no such expression, symbol, lake or position")
 WAYS = ("not", "rule", "water", "skip")
 
 # document 01's number and place; line and column, from 1, where the place is one of the grammar's text
@@ -93,14 +93,15 @@ class Gurkenmond:
     def cannot_skip(self, grammar: Text, mode: int = LAKE) -> Union[list[int], Refused]:
         return self._on("gm_cannot_skip", lambda out: _bits(out[1]), grammar, mode)
 
-    def _write(self, call: str, grammar: Text, mode: int) -> Union[bytes, Refused]:
-        text = _Given(grammar)
-        out = self._ask(call, mode, *text.lent(), ctypes.create_string_buffer(1), ctypes.c_size_t(0))
-        if out[0] != NO_ROOM:
-            return self._refused(text, out)
-        room = ctypes.create_string_buffer(out[1])
-        self._ask(call, mode, *text.lent(), room, ctypes.c_size_t(out[1]))
-        return room.raw
+    def _write(self, call: str, grammar: Text, mode: int, *more) -> Union[bytes, Refused]:
+        """A call that writes: where the room is too small it says how many bytes it needs."""
+        text, length = _Given(grammar), ROOM_FIRST
+        while True:
+            room = ctypes.create_string_buffer(length)
+            out = self._ask(call, mode, *text.lent(), *more, room, ctypes.c_size_t(length))
+            if out[0] != NO_ROOM:
+                return self._refused(text, out) if out[0] else room.raw[:out[1]]
+            length = out[1]
 
     def write_own(self, grammar: Text, mode: int = LAKE) -> Union[bytes, Refused]:
         return self._write("gm_write_own", grammar, mode)
@@ -108,13 +109,14 @@ class Gurkenmond:
     def write_plain(self, grammar: Text, mode: int = LAKE) -> Union[bytes, Refused]:
         return self._write("gm_write_plain", grammar, mode)
 
+    def symbol_name(self, grammar: Text, symbol: int, mode: int = LAKE) -> Union[str, Refused]:
+        """The name of a symbol, by its number, as it stands in the grammar: a lake's with its brackets."""
+        name = self._write("gm_symbol_name", grammar, mode, ctypes.c_size_t(symbol))
+        return name.decode() if isinstance(name, bytes) else name
+
     def names(self, grammar: Text, mode: int = LAKE) -> Union[list[str], Refused]:
-        """Every symbol's name by its number: the left sides of the plain text, where the lake `<x>` is `lake__x`."""
-        plain = self.write_plain(grammar, mode)
-        if isinstance(plain, Refused):
-            return plain
-        names = [line.split(b" ")[0].decode() for line in plain.split(b"\n")[:-1]]
-        return [f"<{name[6:]}>" if mode == LAKE and name.startswith("lake__") else name for name in names]
+        read = self.read(grammar, mode)
+        return read if isinstance(read, Refused) else [self.symbol_name(grammar, symbol, mode) for symbol in range(read.symbols)]
 
     def _on_input(self, call: str, text: _Given, given: _Given, mode: int, *more) -> list[int]:
         """A call on a grammar and an input: lent no work cells it says how many it needs."""
@@ -126,9 +128,7 @@ class Gurkenmond:
             cells = out[1]
 
     def match(self, grammar: Text, text: Text, mode: int = LAKE) -> Union[Match, None, Refused]:
-        names, rules, given, most = self.names(grammar, mode), _Given(grammar), _Given(text), NODES_FIRST
-        if isinstance(names, Refused):
-            return names
+        rules, given, most = _Given(grammar), _Given(text), NODES_FIRST
         while True:
             words = (ctypes.c_uint32 * (NODE_WORDS * most))()
             out = self._on_input("gm_match", rules, given, mode, words, ctypes.c_size_t(len(words)))
@@ -137,7 +137,8 @@ class Gurkenmond:
             most *= 8
         if out[0]:
             return None if out[0] == NO_MATCH else self._refused(rules, out)
-        nodes = (words[i:i + NODE_WORDS] for i in range(0, NODE_WORDS * out[2], NODE_WORDS))
+        nodes = [words[i:i + NODE_WORDS] for i in range(0, NODE_WORDS * out[2], NODE_WORDS)]
+        names = {symbol: self.symbol_name(grammar, symbol, mode) for symbol in {node[0] for node in nodes}}
         return Match(given.place(out[1]), [Node(symbol, names[symbol], given.place(start), given.place(end), depth) for symbol, start, end, depth in nodes])
 
     def lake_at(self, grammar: Text, text: Text, lake: int, place: int, mode: int = LAKE) -> Union[str, Refused]:

@@ -1,7 +1,8 @@
 /* harness [THREADS] < QUESTIONS: answers replay's lines (crates/replay/src/main.rt) through the library, one line each; `unreadable` for what is no question.
-   MODE may be a byte's number too, and there are two questions more, WORDS being numbers with `,` between or `-`:
-     sound WORDS K N       sound 0 or 1
-     span INPUT WORDS K    span START LENGTH
+   MODE may be a byte's number too, and there are three questions more, WORDS being numbers with `,` between or `-`:
+     name MODE GRAMMAR SYMBOL ROOM    text BYTES
+     sound WORDS K N                  sound 0 or 1
+     span INPUT WORDS K               span START LENGTH
    Guard bytes stand on both sides of everything lent and read; a call that changes one, or more of a room than it may, is answered by `broken`.
    With THREADS so many threads answer all the questions at once, each on STACK bytes; their answers must be the same. */
 #include <pthread.h>
@@ -150,6 +151,9 @@ static bool ask(Text *t, Question *q, bool *same) {
         if (!written(t, q, code)) *same = false;
     } else if (!strcmp(kind, "plain") && fields(q, "mbr")) {
         code = gm_write_plain(q->mode, BYTES(0), BYTES(1), out);
+        if (!written(t, q, code)) *same = false;
+    } else if (!strcmp(kind, "name") && fields(q, "mbnr")) {
+        code = gm_symbol_name(q->mode, BYTES(0), q->number[0], BYTES(1), out);
         if (!written(t, q, code)) *same = false;
     } else if (!strcmp(kind, "sound") && fields(q, "wnn")) {
         code = gm_node_sound(WORDS(0), q->number[0], q->number[1], out);

@@ -57,9 +57,9 @@ const readers = {
 const refused = out => `refused ${out[0]} ${out[1]}`;
 const listed = (label, lent) => ` ; ${label}${Array.from(numbers(lent), n => ` ${n}`).join('')}`;
 function written(out, values) {
-  const n = out[0] === 0n ? Number(out[1]) : 0;
-  if (!all(view(values[2]).subarray(n), ROOM_BYTE)) return 'broken';
-  return out[0] === 0n ? `text ${Buffer.from(view(values[2]).subarray(0, n)).toString('hex')}` : refused(out);
+  const n = out[0] === 0n ? Number(out[1]) : 0, room = view(values.at(-1));
+  if (!all(room.subarray(n), ROOM_BYTE)) return 'broken';
+  return out[0] === 0n ? `text ${Buffer.from(room.subarray(0, n)).toString('hex')}` : refused(out);
 }
 const kinds = {
   read: ['mb', 'gm_read', out => out[0] ? refused(out) : `read ${out.slice(1, 4).join(' ')}`],
@@ -71,6 +71,7 @@ const kinds = {
   lake: ['mbbcnn', 'gm_lake_at', (out, v) => (out[0] ? refused(out) : `value ${out[1]}`) + listed('cells', v[3])],
   own: ['mbr', 'gm_write_own', written],
   plain: ['mbr', 'gm_write_plain', written],
+  name: ['mbnr', 'gm_symbol_name', written],
   sound: ['wnn', 'gm_node_sound', out => `sound ${out[1]}`],
   span: ['bwn', 'gm_node_text', out => `span ${out[1]} ${out[2]}`],
 };

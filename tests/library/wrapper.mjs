@@ -6,14 +6,20 @@ import { pathToFileURL } from 'node:url';
 const { load } = await import(pathToFileURL(process.argv[2]));
 const gurkenmond = await load();
 const numbers = [0, 1, 3, -1, 0.5, NaN, undefined, 2 ** 53, '1'];
+function ask(grammar, text, number, mode) {
+  gurkenmond.sets(grammar, number, mode);
+  gurkenmond.lakeAt(grammar, text, number, number, mode);
+  gurkenmond.symbolName(grammar, number, mode);
+}
 const answers = JSON.parse(readFileSync(0, 'utf8')).map(([grammar, text]) => {
   for (const mode of ['lake', 'plain', undefined, 'neither']) {
     for (const call of ['read', 'cannotSkip', 'writeOwn', 'writePlain', 'names']) gurkenmond[call](grammar, mode);
-    for (const number of mode === 'lake' ? numbers : [1]) { gurkenmond.sets(grammar, number, mode); gurkenmond.lakeAt(grammar, text, number, number, mode); }
+    for (const number of mode === 'lake' ? numbers : [1]) { ask(grammar, text, number, mode); }
   }
   const answer = gurkenmond.match(grammar, text);
   const others = [gurkenmond.read(grammar), gurkenmond.sets(grammar, 1), gurkenmond.cannotSkip(grammar), gurkenmond.lakeAt(grammar, text, 1, 0),
-    gurkenmond.writeOwn(grammar), gurkenmond.writePlain(grammar), gurkenmond.names(grammar)];
+    gurkenmond.writeOwn(grammar), gurkenmond.writePlain(grammar), gurkenmond.symbolName(grammar, 1), gurkenmond.symbolName(grammar, 64),
+    gurkenmond.names(grammar), gurkenmond.names(grammar, 'plain')];
   return [answer.kind === 'match' ? { ...answer, nodes: answer.nodes.map(n => [n.symbol, n.name, n.start, n.end, n.depth]) } : answer,
     others.map(({ kind, ...values }) => kind === 'refused' ? values.number : values)];
 });

@@ -1,0 +1,100 @@
+"""Questions on a symbol's name and on node words, as lines of `replay`, each with the answer that document 01 and the independent reader give.
+
+Nothing here comes from the code under test: names are those of the grammar as `matcher.py` reads it, and refusals 1 to 8 those of the stored questions.
+"""
+import os
+import re
+
+from matcher import Reader, symbols_of
+from programs import TOP
+
+# more than any name needs: 32 bytes and the brackets of a lake, in plain mode 38 bytes
+NAME_ROOM = 40
+
+
+def field(given):
+    return given.hex() or "-"
+
+
+def stored(name):
+    """The lines of one of replay's two files, `stdin` or `stdout`."""
+    with open(os.path.join(TOP, "crates", "replay", name), "rb") as file:
+        return file.read().decode("ascii").split("\n")[:-1]
+
+
+# ── names ──
+def names_of(grammar, plain):
+    return symbols_of(Reader(grammar, plain).rules())
+
+
+def name_question(mode, grammar, symbol, room):
+    return f"name {mode} {field(grammar)} {symbol} {room}"
+
+
+def name_answer(names, symbol, room):
+    """14 for a symbol that the grammar has not comes before 13."""
+    if symbol >= len(names):
+        return "refused 14 0"
+    name = names[symbol].encode()
+    return f"text {name.hex()}" if len(name) <= room else f"refused 13 {len(name)}"
+
+
+def stored_grammars():
+    """Each mode and grammar of the stored questions once, with its refusal by 1 to 8, None where it is accepted."""
+    known = {}
+    for question, answer in zip(stored("stdin"), stored("stdout")):
+        mode = re.match(r"\w+ (lake|plain) ([0-9a-f]+|-)( |$)", question)
+        if mode and answer != "unreadable":
+            refusal = re.match(r"refused [1-8] \d+", answer)
+            known[mode[1], bytes.fromhex(mode[2].strip("-"))] = refusal and refusal[0]
+    return known
+
+
+def name_questions(mode, grammar, refusal, far):
+    """On one grammar: each symbol in just its room, one a byte short, one past the last and one `far` beyond; any of a grammar that is refused."""
+    if refusal:
+        return [(name_question(mode, grammar, symbol, room), refusal) for symbol, room in ((0, NAME_ROOM), (far, 0))]
+    names = names_of(grammar, mode == "plain")
+    asked = [(symbol, len(name)) for symbol, name in enumerate(names)]
+    short = len(grammar) % len(names)
+    asked += [(short, len(names[short]) - 1), (short, NAME_ROOM), (len(names), NAME_ROOM), (len(names), 0), (far, 0)]
+    return [(name_question(mode, grammar, symbol, room), name_answer(names, symbol, room)) for symbol, room in asked]
+
+
+# What the stored grammars have not: names as long as may be, `lake__` in plain mode, a lake beside a symbol of its name, one used under a guard first, no
+# grammar, one that breaks off, names that the other mode refuses, texts that are too long.
+NAME_CASES = [
+    ("lake", f"{'A' * 32} <- <{'b' * 32}> {'A' * 31}9\n{'A' * 31}9 <- 'x'".encode(), None),
+    ("plain", f"{'_' * 38} <- {'a' * 37}Z\n{'a' * 37}Z <- '<x>'".encode(), None),
+    ("plain", b"lake__ <- lake__x water\nlake__x <- 'x'\nwater <- 'y'", None),
+    ("lake", b"x <- !<x> <y> 'x' / (<x> <z>)* # <q>\n<y> <- <w>\nw <- 'w' <v>", None),
+    ("lake", b"", "refused 2 0"),
+    ("plain", b"", "refused 2 0"),
+    ("lake", b"a <- 'x' <b", "refused 2 9"),
+    ("plain", b"a <- 'x' <b>", "refused 2 9"),
+    ("lake", b"a <- 'x'\nlake__a <- 'x'", "refused 4 9"),
+    ("lake", b"a <- 'x'" + b" " * 16377, "refused 1 16384"),
+    ("plain", b"a <- 'x'" + b" " * 1048569, "refused 1 1048576"),
+]
+
+
+def all_name_questions(far):
+    cases = [(mode, grammar, refusal) for (mode, grammar), refusal in stored_grammars().items()] + NAME_CASES
+    return [asked for case in cases for asked in name_questions(*case, far)]
+
+
+# ── nodes ──
+def span(words, k, n):
+    """Start and end of node k, where it lies whole in the words with start ≤ end ≤ n."""
+    if 4 * (k + 1) > len(words):
+        return None
+    start, end = words[4 * k + 1:4 * k + 3]
+    return (start, end) if start <= end <= n else None
+
+
+def node_questions(text, words, k):
+    """Whether a node is sound, its text, and where in the input it is."""
+    listed, found = ",".join(map(str, words)) or "-", span(words, k, len(text))
+    start, end = found or (0, 0)
+    return [(f"sound {listed} {k} {len(text)}", f"sound {int(found is not None)}"),
+            (f"span {field(text)} {listed} {k}", f"span {start} {end - start}")]
