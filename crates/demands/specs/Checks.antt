@@ -1,14 +1,15 @@
 -- The order of checks: of each call the list of the rows that it looks at (01, Refusal numbers, in order of check). Assumes nothing: these are definitions.
-use Prim.Native.Nat.{ℕ, _≤_}
+use Prim.Native.Nat.{ℕ, _≤_, _<_}
 use mathlib.Core.Path.{_≡_}
 use mathlib.Core.Bool.{true}
 use mathlib.Core.List.{List, [], _∷_, _++_}
 use mathlib.Core.Logic.{_⊎_}
-use lib.ListN.{length}
+use lib.ListN.{length, getD}
 use Rattle.read_tokens.specs.declared.Mode.{Mode}
+use Rattle.read_tokens.specs.Token.{Symbol, name}
 use Rattle.lake_sets.specs.Analysis.{isExpression}
 use Rattle.lake_step_two.specs.Plain.{plainRules}
-use Rattle.write_rules.specs.Writing.{text}
+use Rattle.write_rules.specs.Writing.{symbolText, text}
 use Rattle.prepare.specs.Prepare.{prepared}
 use Rattle.gurkenmond.specs.Calls.{isLakeAt}
 use Rattle.demands.specs.Rows.{Row, Row1, Row2, Row3, Row4, Row5, Row6, Row7, Row8, Row9, Row10, Row11, Row12, Row13, Row14}
@@ -60,3 +61,13 @@ module _ (m : Mode) (t : List ℕ) where
 
   abbrev pub plainText : List ℕ
   plainText = text (plainRules (prepared m t .grammar) (prepared m t .analysis))
+
+  -- a symbol's name: 14 for a number that no symbol has, then 13, of the name with a lake's brackets
+  abbrev pub symbolNames : List Symbol
+  symbolNames = prepared m t .grammar .names
+
+  abbrev pub nameText : ℕ → List ℕ
+  nameText r = symbolText (getD symbolNames r (name []))
+
+  abbrev pub nameChecks : ℕ → List ℕ → List Row
+  nameChecks r out = checks ++ (Row14 (r < length symbolNames) ∷ Row13 (nameText r) out ∷ [])

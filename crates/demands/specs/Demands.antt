@@ -16,9 +16,10 @@ use Rattle.read_syntax.specs.Grammar.{GrammarOf}
 use Rattle.prepare.specs.Prepare.{prepared}
 use Rattle.prepare.specs.Reads.{readOf}
 use Rattle.gurkenmond.specs.Answers.{Says, refused, nomatch, value, verdictSays}
-use Rattle.gurkenmond.specs.Calls.{setsOf, cannotSkipOf, Matching, matchOf, LakeAnswer, lakeOf, Writing, writeOwnOf, writePlainOf}
+use Rattle.gurkenmond.specs.Calls.{setsOf, cannotSkipOf, Matching, matchOf, LakeAnswer, lakeOf, Writing, writeOwnOf, writePlainOf, symbolNameOf}
 use Rattle.demands.specs.Rows.{Row}
-use Rattle.demands.specs.Checks.{FirstRow, NoRow, textChecks, checks, inputChecks, matchChecks, lakeChecks, setsChecks, writeChecks, ownText, plainText}
+use Rattle.demands.specs.Checks.{FirstRow, NoRow, textChecks, checks, inputChecks, matchChecks, lakeChecks, setsChecks}
+use Rattle.demands.specs.Checks.{writeChecks, ownText, plainText, nameChecks}
 use Rattle.demands.specs.Meets.{Tabled, Meets, MeetsLake}
 
 -- in the words of the table: m the mode, t the grammar text, s the input, cs the work cells, ws the node words, out the output room
@@ -52,6 +53,8 @@ pub record Demand1 : Type 0 where
   pub own : (m : Mode) (t out : List ℕ) → Refuses (writeOwnOf m t out .verdict) (writeChecks m t (ownText m t) out) (writeOwnOf m t out .out ≡ out)
   pub plain : (m : Mode) (t out : List ℕ)
       → Refuses (writePlainOf m t out .verdict) (writeChecks m t (plainText m t) out) (writePlainOf m t out .out ≡ out)
+  pub name : (m : Mode) (t : List ℕ) (r : ℕ) (out : List ℕ)
+      → Refuses (symbolNameOf m t r out .verdict) (nameChecks m t r out) (symbolNameOf m t r out .out ≡ out)
 
 -- ── demand 2: a match, and the lake question, is what the meaning and the table say, and nothing else is: answer, cells and node words ──
 pub record Demand2 : Type 0 where
@@ -90,6 +93,7 @@ pub record SameCalls (m : Mode) (t w : List ℕ) : Type 0 where
   pub lake : (s cs : List ℕ) (l q : ℕ) → lakeOf m w s cs l q ≡ lakeOf m t s cs l q
   pub own : (out : List ℕ) → writeOwnOf m w out ≡ writeOwnOf m t out
   pub plain : (out : List ℕ) → writePlainOf m w out ≡ writePlainOf m t out
+  pub name : (r : ℕ) (out : List ℕ) → symbolNameOf m w r out ≡ symbolNameOf m t r out
 
 -- "A lake grammar's own text may pass 16,384 bytes; reading it then refuses 1"
 abbrev pub OwnTextBack : Type 0

@@ -5,10 +5,11 @@ use mathlib.Core.Bool.{not, _&&_}
 use mathlib.Core.List.{List, [], _∷_, _++_}
 use mathlib.Core.Logic.{_↔_, inl}
 use mathlib.Core.Option.{Option, none}
-use lib.ListN.{length, take, drop}
+use lib.ListN.{length, getD, take, drop}
 use lib.Dec.{ltb, leb}
 use Rattle.read_tokens.specs.declared.Mode.{Mode}
 use Rattle.read_tokens.specs.declared.Mode.the-variants.{Plain}
+use Rattle.read_tokens.specs.Token.{name}
 use Rattle.read_tokens.specs.Bounds.{textBound}
 use Rattle.read_tokens.specs.laws.Bytes.{bytes-of}
 use Rattle.read_tokens.specs.laws.Bytes.{Bytes as IsBytes}
@@ -19,11 +20,12 @@ use Rattle.read_syntax.specs.Grammar.{GrammarOf}
 use Rattle.read_syntax.specs.laws.Grammars.{one-grammar}
 use Rattle.lake_sets.specs.Analysis.{isExpression}
 use Rattle.lake_step_two.specs.Plain.{plainRules}
-use Rattle.write_rules.specs.Writing.{text}
+use Rattle.write_rules.specs.Writing.{symbolText, text}
 use Rattle.prepare.specs.Prepare.{Prepared, prepared, refuses}
 use Rattle.prepare.specs.Reads.{readBy, readOf}
 use Rattle.prepare.specs.laws.Reads.{split}
-use Rattle.gurkenmond.specs.Calls.{setsBy, setsOf, lakesBy, cannotSkipOf, Matching, refusesInput, matchAfter, matchOf, LakeAnswer, isLakeAt, lakeAfter, lakeOf, Writing, writing, writeAfter, writeBy, writeOwnOf, writePlainOf}
+use Rattle.gurkenmond.specs.Calls.{setsBy, setsOf, lakesBy, cannotSkipOf, Matching, refusesInput, matchAfter, matchOf, LakeAnswer, isLakeAt, lakeAfter, lakeOf}
+use Rattle.gurkenmond.specs.Calls.{Writing, writing, writeAfter, writeBy, writeOwnOf, writePlainOf, isSymbol, symbolNameOf}
 use Rattle.demands.specs.Rows.{Row6, Row7, Row8}
 use Rattle.demands.specs.Checks.{NoRow, textChecks, checks, inputChecks, writeChecks, ownText, plainText}
 use Rattle.demands.specs.Meets.{Tabled, Meets, MeetsLake}
@@ -35,7 +37,7 @@ use Rattle.demands.specs.laws.Refused.{match-refused, match-passes}
 use Rattle.demands.specs.laws.Cells.{cells-filled}
 use Rattle.demands.specs.laws.Meets.{table, match-meets, match-meets-only}
 use Rattle.demands.specs.laws.MeetsLake.{lake-meets, lake-meets-only}
-use Rattle.demands.specs.laws.Exactly.{read-exactly, cannot-skip-exactly, sets-exactly, match-exactly, lake-exactly, own-exactly, plain-exactly}
+use Rattle.demands.specs.laws.Exactly.{read-exactly, cannot-skip-exactly, sets-exactly, match-exactly, lake-exactly, own-exactly, plain-exactly, name-exactly}
 use Rattle.demands.specs.laws.SameGrammar.{same-grammar}
 use Rattle.demands.specs.laws.Back.{match-back, plain-back, own-back, prepared-back, own-accepted-back}
 
@@ -57,6 +59,7 @@ demand-1 = record {
   lake = lake-exactly;
   own = own-exactly;
   plain = plain-exactly;
+  name = name-exactly;
 }
 
 -- ── 2 ──
@@ -138,7 +141,7 @@ module _ (m : Mode) (t : List ℕ) (b : IsBytes t) (ok : refuses m t ≡ none) w
         (prepared m own .rules, grammar-of-text m own (text-clear own clear-own), same-grammar g (prepared m own .rules) .1 f)
 
     same-calls : SameCalls m t own
-    unfolding readOf setsOf cannotSkipOf matchOf lakeOf writeOwnOf writePlainOf
+    unfolding readOf setsOf cannotSkipOf matchOf lakeOf writeOwnOf writePlainOf symbolNameOf
     same-calls = record {
       grammar = same;
       read = ap₂ readBy checked back;
@@ -150,6 +153,9 @@ module _ (m : Mode) (t : List ℕ) (b : IsBytes t) (ok : refuses m t ≡ none) w
           ap₂ (λ (o : Option Refusal) (x : Prepared). lakeAfter (o ▸ (refusesInput x s cs ▸ refuseIf (not (isLakeAt x l && leb q (length s))) 14 0)) x s cs l q) checked back;
       own = λ out. ap₂ (λ (o : Option Refusal) (x : Prepared). writeBy o (text (x .rules)) out) checked back;
       plain = λ out. ap₂ (λ (o : Option Refusal) (x : Prepared). writeBy o (text (plainRules (x .grammar) (x .analysis))) out) checked back;
+      name =
+          λ r out.
+          ap₂ (λ (o : Option Refusal) (x : Prepared). writeBy (o ▸ refuseIf (not (isSymbol x r)) 14 0) (symbolText (getD (x .grammar .names) r (name []))) out) checked back;
     }
 
 pub demand-3 : Demand3

@@ -13,16 +13,16 @@ use Rattle.prepare.specs.Prepare.{prepared, refuses}
 use Rattle.prepare.specs.Reads.{verdictOf, readBy, readOf}
 use Rattle.prepare.specs.laws.Loads.{some-none}
 use Rattle.gurkenmond.specs.Answers.{verdictSays}
-use Rattle.gurkenmond.specs.Calls.{setsBy, setsOf, lakesBy, cannotSkipOf, Matching, refusesInput, matchOf, isLakeAt, lakeAfter, lakeOf, writeAfter, writeOwnOf, writePlainOf}
+use Rattle.gurkenmond.specs.Calls.{setsBy, setsOf, lakesBy, cannotSkipOf, Matching, refusesInput, matchOf, isLakeAt, lakeAfter, lakeOf, writeAfter, writeOwnOf, writePlainOf, isSymbol, symbolNameOf}
 use Rattle.demands.specs.Rows.{Row}
-use Rattle.demands.specs.Checks.{checks, matchChecks, lakeChecks, setsChecks, writeChecks, ownText, plainText}
+use Rattle.demands.specs.Checks.{checks, matchChecks, lakeChecks, setsChecks, writeChecks, ownText, plainText, nameText, nameChecks}
 use Rattle.demands.specs.Meets.{Meets, fails, takes, too-deep, no-room}
 use Rattle.demands.specs.Meets.{refused as refused-early}
 use Rattle.demands.specs.Demands.{refusedIn, Refuses}
 use Rattle.demands.specs.laws.Chain.{Tells}
 use Rattle.demands.specs.laws.Late.{match-chain}
 use Rattle.demands.specs.laws.Meets.{match-meets}
-use Rattle.demands.specs.laws.Refusals.{one-to-eight, lake-chain, sets-chain, write-chain}
+use Rattle.demands.specs.laws.Refusals.{one-to-eight, lake-chain, sets-chain, write-chain, name-chain}
 
 -- an answer whose verdict is a check: where the check refuses, nothing lent is touched
 pub by-check : {l : List Row} {o : Option Refusal} (t : Tells l o) (v : Option Refusal) (U : Type 0) → v ≡ o → ((r : Refusal) → o ≡ some r → U)
@@ -95,17 +95,20 @@ module _ (m : Mode) (t : List ℕ) where
         go (some r) = refl
 
   module _ (w out : List ℕ) where
-    abbrev room-check : Option Refusal
-    room-check = refuses m t ▸ refuseIf (ltb (length out) (length w)) 13 (length w)
-
-    write-exactly : Refuses (writeAfter room-check w out .verdict) (writeChecks m t w out) (writeAfter room-check w out .out ≡ out)
-    write-exactly =
-        by-check (write-chain m t w out) (writeAfter room-check w out .verdict) (writeAfter room-check w out .out ≡ out) (go room-check)
-        (λ r e. ap (λ (o : Option Refusal). writeAfter o w out .out) e)
+    -- whatever is checked before: a refusal leaves the room
+    room-exactly : {l : List Row} (o : Option Refusal) → Tells l o → Refuses (writeAfter o w out .verdict) l (writeAfter o w out .out ≡ out)
+    room-exactly o tells =
+        by-check tells (writeAfter o w out .verdict) (writeAfter o w out .out ≡ out) (go o) (λ r e. ap (λ (c : Option Refusal). writeAfter c w out .out) e)
       where
-        go : (o : Option Refusal) → writeAfter o w out .verdict ≡ o
+        go : (c : Option Refusal) → writeAfter c w out .verdict ≡ c
         go none = refl
         go (some r) = refl
+
+    abbrev room-check : Option Refusal → Option Refusal
+    room-check o = o ▸ refuseIf (ltb (length out) (length w)) 13 (length w)
+
+    write-exactly : let o : Option Refusal = room-check (refuses m t) in Refuses (writeAfter o w out .verdict) (writeChecks m t w out) (writeAfter o w out .out ≡ out)
+    write-exactly = room-exactly (room-check (refuses m t)) (write-chain m t w out)
 
   pub own-exactly : (out : List ℕ) → Refuses (writeOwnOf m t out .verdict) (writeChecks m t (ownText m t) out) (writeOwnOf m t out .out ≡ out)
   unfolding writeOwnOf
@@ -114,3 +117,8 @@ module _ (m : Mode) (t : List ℕ) where
   pub plain-exactly : (out : List ℕ) → Refuses (writePlainOf m t out .verdict) (writeChecks m t (plainText m t) out) (writePlainOf m t out .out ≡ out)
   unfolding writePlainOf
   plain-exactly out = write-exactly (plainText m t) out
+
+  pub name-exactly : (r : ℕ) (out : List ℕ) → Refuses (symbolNameOf m t r out .verdict) (nameChecks m t r out) (symbolNameOf m t r out .out ≡ out)
+  unfolding symbolNameOf
+  name-exactly r out =
+      room-exactly (nameText m t r) out (room-check (nameText m t r) out (refuses m t ▸ refuseIf (not (isSymbol (prepared m t) r)) 14 0)) (name-chain m t r out)

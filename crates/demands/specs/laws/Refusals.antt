@@ -34,9 +34,9 @@ use Rattle.prepare.specs.Prepare.{prepared, preparedBy, refuses}
 use Rattle.prepare.specs.steps.Scanned.{scanned}
 use Rattle.prepare.specs.laws.Chain.{assoc, text-by-scan}
 use Rattle.prepare.specs.laws.Loads.{some-none, clean, grammar-of}
-use Rattle.gurkenmond.specs.Calls.{cellsNeeded, refusesInput, isLakeAt}
+use Rattle.gurkenmond.specs.Calls.{cellsNeeded, refusesInput, isLakeAt, isSymbol}
 use Rattle.demands.specs.Rows.{FirstToken, Doubled, Ruleless, TooMany, symbols, terminals, expressions, Grammarly, Row2, Row3, Row4, Row5, Row6, Row7, Row8}
-use Rattle.demands.specs.Checks.{FirstRow, NoRow, textChecks, checks, inputChecks, lakeChecks, setsChecks, writeChecks}
+use Rattle.demands.specs.Checks.{FirstRow, NoRow, textChecks, checks, inputChecks, lakeChecks, setsChecks, writeChecks, symbolNames, nameText, nameChecks}
 use Rattle.demands.specs.laws.Chain.{Tells, accepts, join, row-tells, as-row, over, found-at, missing, same-refusal}
 use Rattle.demands.specs.laws.Tokens.{finds-so, finds-it, finds-doubled, finds-ruleless}
 
@@ -212,3 +212,16 @@ module _ (m : Mode) (t : List ℕ) where
   -- writing, then 13
   pub write-chain : (w out : List ℕ) → Tells (writeChecks m t w out) (refuses m t ▸ refuseIf (ltb (length out) (length w)) 13 (length w))
   write-chain w out = join (refuses m t) (refuseIf (ltb (length out) (length w)) 13 (length w)) one-to-eight (λ e. over 13 (length w) (length out) (length w))
+
+  -- a symbol's name: 14, then 13
+  pub name-chain : (r : ℕ) (out : List ℕ)
+      → Tells (nameChecks m t r out)
+      ((refuses m t ▸ refuseIf (not (isSymbol (prepared m t) r)) 14 0) ▸ refuseIf (ltb (length out) (length (nameText m t r))) 13 (length (nameText m t r)))
+  name-chain r out =
+      let a : Option Refusal = refuseIf (not (isSymbol (prepared m t) r)) 14 0 in
+      let need : ℕ = length (nameText m t r) in
+      let b : Option Refusal = refuseIf (ltb (length out) need) 13 need in
+      subst (Tells (nameChecks m t r out)) (sym (assoc (refuses m t) a b))
+      (join (refuses m t) (a ▸ b) one-to-eight
+      (λ e. join a b (missing (isSymbol (prepared m t) r) (r < length (symbolNames m t)) (ltb-true r (length (symbolNames m t))) (lt-ltb r (length (symbolNames m t))))
+      (λ f. over 13 need (length out) need)))

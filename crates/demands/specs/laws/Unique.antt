@@ -15,7 +15,7 @@ use Rattle.gurkenmond.specs.declared.Outcome.{Outcome}
 use Rattle.gurkenmond.specs.declared.Way.{Way}
 use Rattle.gurkenmond.specs.declared.LakeWay.{LakeWay}
 use Rattle.gurkenmond.specs.declared.Written.{Written}
-use Rattle.gurkenmond.specs.Calls.{SaysRead, SaysSets, SaysLakes, matchOf, SaysMatch, lakeOf, SaysWay, Writing, writeOwnOf, writePlainOf, SaysText}
+use Rattle.gurkenmond.specs.Calls.{SaysRead, SaysSets, SaysLakes, matchOf, SaysMatch, lakeOf, SaysWay, Writing, writeOwnOf, writePlainOf, symbolNameOf, SaysText}
 use Rattle.gurkenmond.specs.laws.Answers.{verdict-one, way-one, outcome-one}
 
 same : {A : Type 0} {a b c : A} → a ≡ c → b ≡ c → a ≡ b
@@ -51,6 +51,9 @@ module _ (m : Mode) (t : List ℕ) where
 
   pub write-plain-one : (out : List ℕ) (r r′ : Written) (o o′ : List ℕ) → SaysText r o (writePlainOf m t out) → SaysText r′ o′ (writePlainOf m t out) → (r ≡ r′) × (o ≡ o′)
   write-plain-one out r r′ o o′ = text-one r r′ o o′ (writePlainOf m t out)
+
+  pub symbol-name-one : (x : ℕ) (out : List ℕ) (r r′ : Written) (o o′ : List ℕ) → SaysText r o (symbolNameOf m t x out) → SaysText r′ o′ (symbolNameOf m t x out) → (r ≡ r′) × (o ≡ o′)
+  symbol-name-one x out r r′ o o′ = text-one r r′ o o′ (symbolNameOf m t x out)
 
 pub node-sound-one : (ws : List ℕ) (k n : ℕ) (r r′ : Bool) → r ≡ soundAt ws k n → r′ ≡ soundAt ws k n → r ≡ r′
 node-sound-one ws k n r r′ e f = same e f
