@@ -1,4 +1,5 @@
 -- What is written is read as what it was written for. Assumes nothing.
+pub mod Examples
 pub mod Characters
 pub mod Bodies
 pub mod Runs
