@@ -1,5 +1,5 @@
 /* The public calls of Gurkenmond for C: crate `library`, each of whose functions is proved to answer, in numbers, what the definition of its public call says,
-   for all bytes, lengths and modes, every lent word included (crates/library/specs/Words.antt).
+   for all bytes, lengths and modes, every lent word included (crates/library_numbers/specs/Words.antt).
 
    Rules of the caller, which no proof checks:
    - a slice is a pointer and a length; the pointer is never NULL, also for length 0, and aligned to its element (1, 4 or 8 bytes);

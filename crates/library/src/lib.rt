@@ -1,23 +1,21 @@
-// The public calls for C and other languages: numbers and slices only, all memory lent, nothing kept. Each leaves its numbers in `out`, which specs/Words.antt
-// defines from the answer of the public call, and returns the first of them: 0, a refusal's number, or 100 for no match. `mode` is 0 for lake, every other byte
-// is plain. `include/gurkenmond.h` declares them for C; `tests/library.py` compares the two.
+// The public calls for C and other languages: numbers and slices only, all memory lent, nothing kept. Each leaves its numbers in `out`, which
+// library_numbers/specs/Words.antt defines from the answer of the public call, and returns the first of them: 0, a refusal's number, or 100 for no match.
+// `mode` is 0 for lake, every other byte is plain. `include/gurkenmond.h` declares them for C; `tests/library.py` compares the two.
 ghost use mathlib.Core.Path.{_≡_};
 ghost use Rattle.match_nodes.specs.Nodes.{soundAt};
 ghost use Rattle.prepare.specs.Reads.{readOf};
 ghost use Rattle.gurkenmond.specs.Calls.{setsOf, cannotSkipOf, matchOf, lakeOf, writeOwnOf, writePlainOf, symbolNameOf};
-ghost use Rattle.library.specs.Words.{modeOf, Answers, readWords, setsWords, lakesWords, soundWords, spanWords, SaysMatch, SaysLake, SaysText};
-
-mod numbers;
+ghost use Rattle.library_numbers.specs.Words.{modeOf, Answers, readWords, setsWords, lakesWords, soundWords, spanWords, SaysMatch, SaysLake, SaysText};
 
 // 0, symbols, terminals, expressions.
 #[no_mangle]
 pub extern "C" fn gm_read(mode: u8, text: &[u8], out: &mut [u64; 4]) -> u64
     ensures { λ r. ⌜ Answers r (now (out .exit)) (readWords (readOf (modeOf mode) (now (text .entry)))) ⌝ }
 {
-    let m = numbers::mode_of(mode);
+    let m = library_numbers::mode_of(mode);
     let c = gurkenmond::read(m, text);
     let v = c.verdict;
-    let w = numbers::of_read(v, c.symbols, c.terminals, c.expressions);
+    let w = library_numbers::of_read(v, c.symbols, c.terminals, c.expressions);
     *out = w;
     w[0]
 }
@@ -27,11 +25,11 @@ pub extern "C" fn gm_read(mode: u8, text: &[u8], out: &mut [u64; 4]) -> u64
 pub extern "C" fn gm_sets(mode: u8, text: &[u8], expression: usize, out: &mut [u64; 9]) -> u64
     ensures { λ r. ⌜ Answers r (now (out .exit)) (setsWords (setsOf (modeOf mode) (now (text .entry)) expression)) ⌝ }
 {
-    let m = numbers::mode_of(mode);
+    let m = library_numbers::mode_of(mode);
     let c = gurkenmond::sets(m, text, expression);
     let v = c.verdict;
     let s = c.sets;
-    let w = numbers::of_sets(v, c.rounds, s);
+    let w = library_numbers::of_sets(v, c.rounds, s);
     *out = w;
     w[0]
 }
@@ -41,10 +39,10 @@ pub extern "C" fn gm_sets(mode: u8, text: &[u8], expression: usize, out: &mut [u
 pub extern "C" fn gm_cannot_skip(mode: u8, text: &[u8], out: &mut [u64; 4]) -> u64
     ensures { λ r. ⌜ Answers r (now (out .exit)) (lakesWords (cannotSkipOf (modeOf mode) (now (text .entry)))) ⌝ }
 {
-    let m = numbers::mode_of(mode);
+    let m = library_numbers::mode_of(mode);
     let c = gurkenmond::cannot_skip(m, text);
     let v = c.verdict;
-    let w = numbers::of_lakes(v, c.word);
+    let w = library_numbers::of_lakes(v, c.word);
     *out = w;
     w[0]
 }
@@ -62,10 +60,10 @@ pub extern "C" fn gm_match(
     ensures { λ r. ⌜ SaysMatch r (now (out .exit)) (now (cells .exit)) (now (nodes .exit))
         (matchOf (modeOf mode) (now (text .entry)) (now (input .entry)) (now (cells .entry)) (now (nodes .entry))) ⌝ }
 {
-    let m = numbers::mode_of(mode);
+    let m = library_numbers::mode_of(mode);
     let a = gurkenmond::match_input(m, text, input, cells, nodes);
     let o = a.outcome;
-    let w = numbers::of_match(o, a.nodes);
+    let w = library_numbers::of_match(o, a.nodes);
     *out = w;
     w[0]
 }
@@ -84,12 +82,12 @@ pub extern "C" fn gm_lake_at(
     ensures { λ r. ⌜ SaysLake r (now (out .exit)) (now (cells .exit))
         (lakeOf (modeOf mode) (now (text .entry)) (now (input .entry)) (now (cells .entry)) lake place) ⌝ }
 {
-    let m = numbers::mode_of(mode);
+    let m = library_numbers::mode_of(mode);
     let a = gurkenmond::lake_at(m, text, input, cells, lake, place);
     let y = a.way;
     let v = a.verdict;
-    let x = numbers::of_way(y);
-    let w = numbers::of_one(v, x);
+    let x = library_numbers::of_way(y);
+    let w = library_numbers::of_one(v, x);
     *out = w;
     w[0]
 }
@@ -100,7 +98,7 @@ pub extern "C" fn gm_node_sound(nodes: &[u32], k: usize, n: usize, out: &mut [u6
     ensures { λ r. ⌜ Answers r (now (out .exit)) (soundWords (soundAt (now (nodes .entry)) k n)) ⌝ }
 {
     let b = gurkenmond::node_sound(nodes, k, n);
-    let s = numbers::bit(b);
+    let s = library_numbers::bit(b);
     let w = [0, s, 0, 0];
     *out = w;
     w[0]
@@ -111,7 +109,7 @@ pub extern "C" fn gm_node_sound(nodes: &[u32], k: usize, n: usize, out: &mut [u6
 pub extern "C" fn gm_node_text(input: &[u8], nodes: &[u32], k: usize, out: &mut [u64; 4]) -> u64
     ensures { λ r. ⌜ Answers r (now (out .exit)) (spanWords (now (input .entry)) (now (nodes .entry)) k) ⌝ }
 {
-    let w = numbers::of_span(input, nodes, k);
+    let w = library_numbers::of_span(input, nodes, k);
     *out = w;
     w[0]
 }
@@ -121,10 +119,10 @@ pub extern "C" fn gm_node_text(input: &[u8], nodes: &[u32], k: usize, out: &mut 
 pub extern "C" fn gm_write_own(mode: u8, text: &[u8], room: &mut [u8], out: &mut [u64; 4]) -> u64
     ensures { λ r. ⌜ SaysText r (now (out .exit)) (now (room .exit)) (writeOwnOf (modeOf mode) (now (text .entry)) (now (room .entry))) ⌝ }
 {
-    let m = numbers::mode_of(mode);
+    let m = library_numbers::mode_of(mode);
     let a = gurkenmond::write_own(m, text, room);
     let v = a.verdict;
-    let w = numbers::of_one(v, a.bytes);
+    let w = library_numbers::of_one(v, a.bytes);
     *out = w;
     w[0]
 }
@@ -134,10 +132,10 @@ pub extern "C" fn gm_write_own(mode: u8, text: &[u8], room: &mut [u8], out: &mut
 pub extern "C" fn gm_write_plain(mode: u8, text: &[u8], room: &mut [u8], out: &mut [u64; 4]) -> u64
     ensures { λ r. ⌜ SaysText r (now (out .exit)) (now (room .exit)) (writePlainOf (modeOf mode) (now (text .entry)) (now (room .entry))) ⌝ }
 {
-    let m = numbers::mode_of(mode);
+    let m = library_numbers::mode_of(mode);
     let a = gurkenmond::write_plain(m, text, room);
     let v = a.verdict;
-    let w = numbers::of_one(v, a.bytes);
+    let w = library_numbers::of_one(v, a.bytes);
     *out = w;
     w[0]
 }
@@ -153,10 +151,10 @@ pub extern "C" fn gm_symbol_name(
 ) -> u64
     ensures { λ r. ⌜ SaysText r (now (out .exit)) (now (room .exit)) (symbolNameOf (modeOf mode) (now (text .entry)) symbol (now (room .entry))) ⌝ }
 {
-    let m = numbers::mode_of(mode);
+    let m = library_numbers::mode_of(mode);
     let a = gurkenmond::symbol_name(m, text, symbol, room);
     let v = a.verdict;
-    let w = numbers::of_one(v, a.bytes);
+    let w = library_numbers::of_one(v, a.bytes);
     *out = w;
     w[0]
 }

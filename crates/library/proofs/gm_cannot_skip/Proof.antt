@@ -1,14 +1,14 @@
 -- `library::gm_cannot_skip` meets its contract. Assumes nothing.
 use mathlib.Core.Path.{ap, _∙_, refl}
-use Rattle.library.specs.Words.{lakesWords}
+use Rattle.library_numbers.specs.Words.{lakesWords}
 use borrow.Author.Needs.{needs}
 use Rattle.library.proofs.gm_cannot_skip.Statement.{statement}
 use Rattle.library.proofs.gm_cannot_skip.Tie as tie
 use Rattle.library.proofs.gm_cannot_skip.Reads as reads
 use Rattle.library.proofs.gm_cannot_skip.Lts as lts
 use Rattle.gurkenmond.proofs.cannot_skip.Reads as cannot-skip-reads
-use Rattle.library.proofs.numbers.mode_of.Reads as mode-of-reads
-use Rattle.library.proofs.numbers.of_lakes.Reads as of-lakes-reads
+use Rattle.library_numbers.proofs.mode_of.Reads as mode-of-reads
+use Rattle.library_numbers.proofs.of_lakes.Reads as of-lakes-reads
 
 mode-of-requires : tie.Need-mode-of-requires
 mode-of-requires c κs = search needs

@@ -1,15 +1,15 @@
 -- `library::gm_lake_at` meets its contract. Assumes nothing.
 use mathlib.Core.Path.{ap₂, _∙_, refl}
-use Rattle.library.specs.Words.{oneBy}
+use Rattle.library_numbers.specs.Words.{oneBy}
 use borrow.Author.Needs.{needs}
 use Rattle.library.proofs.gm_lake_at.Statement.{statement}
 use Rattle.library.proofs.gm_lake_at.Tie as tie
 use Rattle.library.proofs.gm_lake_at.Reads as reads
 use Rattle.library.proofs.gm_lake_at.Lts as lts
 use Rattle.gurkenmond.proofs.lake_at.Reads as lake-at-reads
-use Rattle.library.proofs.numbers.mode_of.Reads as mode-of-reads
-use Rattle.library.proofs.numbers.of_one.Reads as of-one-reads
-use Rattle.library.proofs.numbers.of_way.Reads as of-way-reads
+use Rattle.library_numbers.proofs.mode_of.Reads as mode-of-reads
+use Rattle.library_numbers.proofs.of_one.Reads as of-one-reads
+use Rattle.library_numbers.proofs.of_way.Reads as of-way-reads
 
 mode-of-requires : tie.Need-mode-of-requires
 mode-of-requires c κs = search needs

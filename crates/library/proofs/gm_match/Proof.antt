@@ -1,14 +1,14 @@
 -- `library::gm_match` meets its contract. Assumes nothing.
 use mathlib.Core.Path.{ap₂, _∙_, refl}
-use Rattle.library.specs.Words.{matchBy}
+use Rattle.library_numbers.specs.Words.{matchBy}
 use borrow.Author.Needs.{needs}
 use Rattle.library.proofs.gm_match.Statement.{statement}
 use Rattle.library.proofs.gm_match.Tie as tie
 use Rattle.library.proofs.gm_match.Reads as reads
 use Rattle.library.proofs.gm_match.Lts as lts
 use Rattle.gurkenmond.proofs.match_input.Reads as match-input-reads
-use Rattle.library.proofs.numbers.mode_of.Reads as mode-of-reads
-use Rattle.library.proofs.numbers.of_match.Reads as of-match-reads
+use Rattle.library_numbers.proofs.mode_of.Reads as mode-of-reads
+use Rattle.library_numbers.proofs.of_match.Reads as of-match-reads
 
 mode-of-requires : tie.Need-mode-of-requires
 mode-of-requires c κs = search needs

@@ -6,7 +6,7 @@ use Rattle.library.proofs.gm_node_sound.Tie as tie
 use Rattle.library.proofs.gm_node_sound.Reads as reads
 use Rattle.library.proofs.gm_node_sound.Lts as lts
 use Rattle.gurkenmond.proofs.node_sound.Reads as node-sound-reads
-use Rattle.library.proofs.numbers.bit.Reads as bit-reads
+use Rattle.library_numbers.proofs.bit.Reads as bit-reads
 
 node-sound-requires : tie.Need-node-sound-requires
 node-sound-requires c κs = search needs

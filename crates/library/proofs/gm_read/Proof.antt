@@ -1,14 +1,14 @@
 -- `library::gm_read` meets its contract. Assumes nothing.
 use mathlib.Core.Path.{ap, _∙_, refl}
-use Rattle.library.specs.Words.{readWords}
+use Rattle.library_numbers.specs.Words.{readWords}
 use borrow.Author.Needs.{needs}
 use Rattle.library.proofs.gm_read.Statement.{statement}
 use Rattle.library.proofs.gm_read.Tie as tie
 use Rattle.library.proofs.gm_read.Reads as reads
 use Rattle.library.proofs.gm_read.Lts as lts
 use Rattle.gurkenmond.proofs.read.Reads as read-reads
-use Rattle.library.proofs.numbers.mode_of.Reads as mode-of-reads
-use Rattle.library.proofs.numbers.of_read.Reads as of-read-reads
+use Rattle.library_numbers.proofs.mode_of.Reads as mode-of-reads
+use Rattle.library_numbers.proofs.of_read.Reads as of-read-reads
 
 mode-of-requires : tie.Need-mode-of-requires
 mode-of-requires c κs = search needs

@@ -1,14 +1,14 @@
 -- `library::gm_sets` meets its contract. Assumes nothing.
 use mathlib.Core.Path.{ap, _∙_, refl}
-use Rattle.library.specs.Words.{setsWords}
+use Rattle.library_numbers.specs.Words.{setsWords}
 use borrow.Author.Needs.{needs}
 use Rattle.library.proofs.gm_sets.Statement.{statement}
 use Rattle.library.proofs.gm_sets.Tie as tie
 use Rattle.library.proofs.gm_sets.Reads as reads
 use Rattle.library.proofs.gm_sets.Lts as lts
 use Rattle.gurkenmond.proofs.sets.Reads as sets-reads
-use Rattle.library.proofs.numbers.mode_of.Reads as mode-of-reads
-use Rattle.library.proofs.numbers.of_sets.Reads as of-sets-reads
+use Rattle.library_numbers.proofs.mode_of.Reads as mode-of-reads
+use Rattle.library_numbers.proofs.of_sets.Reads as of-sets-reads
 
 mode-of-requires : tie.Need-mode-of-requires
 mode-of-requires c κs = search needs
