@@ -1,3 +1,3 @@
 pub mod Ask
 pub mod Table
-pub mod Right
+pub mod laws

@@ -1,5 +1,4 @@
 pub mod Answers
 pub mod Calls
-pub mod Runs
 pub mod steps
 pub mod laws

@@ -9,7 +9,7 @@ ghost use Rattle.gurkenmond.specs.Answers.{waySays};
 ghost use Rattle.gurkenmond.specs.Calls.{SaysRead, noSets, SaysSets, SaysLakes, matchOf, SaysMatch, lakeOf, SaysWay, writeOwnOf, writePlainOf};
 ghost use Rattle.gurkenmond.specs.Calls.{symbolNameOf, SaysText};
 ghost use Rattle.match_nodes.specs.Nodes.{soundAt, Handed};
-ghost use Rattle.gurkenmond.specs.Runs.{Loopless, Ran, listedMatch, notMatched};
+ghost use Rattle.gurkenmond.specs.steps.Runs.{Loopless, Ran, listedMatch, notMatched};
 ghost use Rattle.gurkenmond.specs.steps.Asks.{notAsked, Standing, Asked};
 ghost use Rattle.gurkenmond.specs.steps.Puts.{notWritten, Put};
 ghost use Rattle.write_rules.specs.Writing.{symbolText};

@@ -1,2 +1,2 @@
--- Laws of the definitions beside this file.
+-- Laws of the contracts in steps.antt.
 pub mod Fields

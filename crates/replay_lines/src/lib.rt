@@ -5,7 +5,7 @@ ghost use Prim.Native.Nat.{_+_, _≤_, _<_};
 ghost use mathlib.Core.Path.{_≡_};
 ghost use lib.ListN.{length, drop};
 ghost use Rattle.io.specs.Counts.{Counts};
-ghost use Rattle.replay_lines.specs.Fields.{untilOf, afterOf, begins, shiftedBy, decimalOf, isDigit, bytesOf};
+ghost use Rattle.replay_lines.specs.steps.Fields.{untilOf, afterOf, begins, shiftedBy, decimalOf, isDigit, bytesOf};
 
 // The value of a hexadecimal digit; 16 for any other byte.
 fn digit(b: u8) -> u8

@@ -1,4 +1,5 @@
--- Laws of the definitions beside this file.
+-- A text that is written and read again.
+pub mod Readable
 pub mod Chain
 pub mod Reads
 pub mod Own

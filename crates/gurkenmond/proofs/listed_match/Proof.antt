@@ -1,6 +1,6 @@
 -- `gurkenmond::listed_match` meets its contract. Assumes nothing.
 use mathlib.Core.Path.{_≡_, sym, ap}
-use Rattle.gurkenmond.specs.Runs.{listedMatch}
+use Rattle.gurkenmond.specs.steps.Runs.{listedMatch}
 use borrow.Author.Needs.{needs}
 use Rattle.gurkenmond.proofs.listed_match.Statement.{statement}
 use Rattle.gurkenmond.proofs.listed_match.Tie as tie

@@ -1,6 +1,6 @@
 -- `gurkenmond::not_matched` meets its contract. Assumes nothing.
 use mathlib.Core.Path.{_≡_, sym, ap}
-use Rattle.gurkenmond.specs.Runs.{notMatched}
+use Rattle.gurkenmond.specs.steps.Runs.{notMatched}
 use borrow.Author.Needs.{needs}
 use Rattle.gurkenmond.proofs.not_matched.Statement.{statement}
 use Rattle.gurkenmond.proofs.not_matched.Tie as tie

@@ -39,7 +39,7 @@ use Rattle.gurkenmond.specs.declared.LakeWay.{LakeWay}
 use Rattle.gurkenmond.specs.Answers.{verdictSays, waySays}
 use Rattle.gurkenmond.specs.Calls.{LakeAnswer, lakeAnswer, SaysWay, refusesInput, filled, isLakeAt, lakeAfter, lakeOf}
 use Rattle.gurkenmond.specs.steps.Asks.{notAsked, Standing, Asked}
-use Rattle.gurkenmond.specs.Runs.{Loopless}
+use Rattle.gurkenmond.specs.steps.Runs.{Loopless}
 use Rattle.gurkenmond.specs.laws.Verdicts.{handed}
 use Rattle.gurkenmond.specs.laws.Matches.{plain-is, loopless, input-long, input-few, enough}
 

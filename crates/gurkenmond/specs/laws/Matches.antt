@@ -40,7 +40,7 @@ use Rattle.gurkenmond.specs.declared.Match.{Match}
 use Rattle.gurkenmond.specs.declared.Outcome.the-variants.{NoMatch}
 use Rattle.gurkenmond.specs.Answers.{nomatch, outcomeSays}
 use Rattle.gurkenmond.specs.Calls.{Matching, matching, SaysMatch, cellsNeeded, refusesInput, listingBy, matchBy, filled, matchAfter, matchOf}
-use Rattle.gurkenmond.specs.Runs.{Loopless, Ran, outcome, listedMatch, notMatched}
+use Rattle.gurkenmond.specs.steps.Runs.{Loopless, Ran, outcome, listedMatch, notMatched}
 use Rattle.gurkenmond.specs.laws.Verdicts.{handed}
 
 -- ── the numbers ──

@@ -5,7 +5,7 @@ use mathlib.Core.Bool.{Bool, true, false}
 use native.Mathlib.Omega.{arith}
 use lib.ListN.{length, getD, drop}
 use Rattle.base_facts.specs.laws.Bools.{not-false, not-true}
-use Rattle.replay_lines.specs.Fields.{field, allDigits}
+use Rattle.replay_lines.specs.steps.Fields.{field, allDigits}
 use Rattle.replay_lines.specs.laws.Fields.{digits-more, digits-fail, digits-done, bytes-past, bytes-none, bytes-dash, bytes-odd, bytes-many, bytes-are}
 use borrow.Author.Needs.{needs}
 use Rattle.replay_lines.proofs.is_bytes.Statement.{statement}

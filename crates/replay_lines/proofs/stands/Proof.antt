@@ -3,7 +3,7 @@ use Prim.Native.Nat.{ℕ, _+_, _-_, _≤_, _<_}
 use mathlib.Core.Path.{_≡_, refl, sym, ap, _∙_}
 use native.Mathlib.Omega.{arith}
 use lib.ListN.{length, getD, drop}
-use Rattle.replay_lines.specs.Fields.{begins}
+use Rattle.replay_lines.specs.steps.Fields.{begins}
 use Rattle.replay_lines.specs.laws.Fields.{word-more, word-differs, word-done, word-short, word-start}
 use borrow.Author.Needs.{needs}
 use Rattle.replay_lines.proofs.stands.Statement.{statement}

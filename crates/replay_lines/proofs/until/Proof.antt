@@ -4,7 +4,7 @@ use mathlib.Core.Path.{_≡_, refl, sym, ap, _∙_}
 use mathlib.Core.Bool.{Bool, true, false}
 use native.Mathlib.Omega.{arith}
 use lib.ListN.{length, getD, drop}
-use Rattle.replay_lines.specs.Fields.{toSpace}
+use Rattle.replay_lines.specs.steps.Fields.{toSpace}
 use Rattle.replay_lines.specs.laws.Fields.{at-space, no-space, no-more}
 use borrow.Author.Needs.{needs}
 use Rattle.replay_lines.proofs.until.Statement.{statement}

@@ -10,7 +10,7 @@ use lib.Seq.{drop-cons}
 use lib.Dec.{eqb, leb, ltb}
 use borrow.Author.Tests.{eq-eqb, ne-eqb, lt-ltb, le-ltb, le-leb, lt-leb}
 use Rattle.base_facts.specs.laws.Bools.{not-false, not-true}
-use Rattle.replay_lines.specs.Fields.{field, toSpace, untilOf, afterOf, begins, beyond, shiftedBy, numberFrom, decimalOf, isDigit, allDigits, bytesOf}
+use Rattle.replay_lines.specs.steps.Fields.{field, toSpace, untilOf, afterOf, begins, beyond, shiftedBy, numberFrom, decimalOf, isDigit, allDigits, bytesOf}
 
 -- ── the next space ──
 module _ (s : List ℕ) (i : ℕ) where

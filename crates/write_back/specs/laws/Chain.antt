@@ -16,7 +16,7 @@ use Rattle.read_syntax.specs.Reading.{reserved, second, secondBy, unruled, lack
 use Rattle.grammar_table.specs.laws.Rows.{All}
 use Rattle.read_grammar.specs.steps.Lay.{gatherBy, gathered}
 use Rattle.read_grammar.specs.laws.Symbols.{uses}
-use Rattle.write_back.specs.Readable.{Distinct, Unreserved, Ruled}
+use Rattle.write_back.specs.laws.Readable.{Distinct, Unreserved, Ruled}
 
 abbrev pick : Bool → ℕ → Option ℕ → Option ℕ
 pick b i o = elim b [ true ↦ some i | false ↦ o ]

@@ -18,7 +18,7 @@ use Rattle.read_syntax.specs.Reading.{begins, reserved}
 use Rattle.grammar_table.specs.laws.Rows.{All}
 use Rattle.read_grammar.specs.laws.Entries.{symbol-sound, symbol-refl}
 use Rattle.write_text.specs.laws.Fit.{FitName}
-use Rattle.write_back.specs.Readable.{Distinct, Unreserved}
+use Rattle.write_back.specs.laws.Readable.{Distinct, Unreserved}
 
 both-false : (a b : Bool) → a ≡ false → b ≡ false → (a || b) ≡ false
 both-false a b e f = ap₂ _||_ e f

@@ -30,7 +30,7 @@ use Rattle.write_rules.specs.laws.Kept.{no-deeper}
 use Rattle.write_rules.specs.laws.Depth.{peak}
 use Rattle.write_rules.specs.laws.Within.{within-iff}
 use Rattle.write_text.specs.laws.Fit.{is-grammar, fine-rules, none-over, narrow-rules}
-use Rattle.write_back.specs.Readable.{Distinct, Unreserved, Ruled, Readable}
+use Rattle.write_back.specs.laws.Readable.{Distinct, Unreserved, Ruled, Readable}
 use Rattle.write_back.specs.laws.Chain.{second-says, unruled-says, of-gathered}
 use Rattle.write_back.specs.laws.Reads.{again-rules, again-accepted}
 

@@ -36,7 +36,7 @@ use Rattle.write_text.specs.laws.Fit.{FitName, FitLeaf, names-all, fit-names, f
 use Rattle.write_text.specs.laws.Own.{lefts-long}
 use Rattle.write_text.specs.laws.Plain.{plainNames, plain-sound, bodies-long}
 use Rattle.write_text.specs.laws.Lengths.{name-brief, by-long, by-total, fit-leaves, plain-length}
-use Rattle.write_back.specs.Readable.{Distinct, Unreserved, Ruled, Readable}
+use Rattle.write_back.specs.laws.Readable.{Distinct, Unreserved, Ruled, Readable}
 use Rattle.write_back.specs.laws.Own.{some-rules, again, left-once, lefts-free, uses-free, no-deep}
 use Rattle.write_back.specs.laws.Names.{Named, names-distinct, plain-distinct, in-at}
 use Rattle.write_back.specs.laws.Deep.{peak-of, of-peak, Upto, Within, rights-upto, right-upto, bodies-upto, rules-upto}

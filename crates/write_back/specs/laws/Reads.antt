@@ -32,7 +32,7 @@ use Rattle.write_rules.specs.laws.Trip.{text-tokens}
 use Rattle.write_rules.specs.laws.Kept.{bones, yields, bones-r}
 use Rattle.write_rules.specs.laws.Depth.{peak}
 use Rattle.write_rules.specs.laws.Within.{Narrow, within-iff, bones-narrow}
-use Rattle.write_back.specs.Readable.{Distinct, Unreserved, Ruled, Readable}
+use Rattle.write_back.specs.laws.Readable.{Distinct, Unreserved, Ruled, Readable}
 use Rattle.write_back.specs.laws.Chain.{second-none, unruled-none, all-gathered}
 
 -- the rules of a text are those of its concrete syntax

@@ -26,7 +26,7 @@ use Rattle.grammar_table.specs.laws.Rows.{All}
 use Rattle.read_grammar.specs.steps.Promises.{Sound}
 use Rattle.read_grammar.specs.laws.Entries.{symbol-refl}
 use Rattle.write_text.specs.laws.Plain.{plainNames, plain-sound, bodies-long}
-use Rattle.write_back.specs.Readable.{Distinct}
+use Rattle.write_back.specs.laws.Readable.{Distinct}
 use Rattle.write_back.specs.laws.Names.{plain-distinct}
 use Rattle.write_back.specs.laws.Bodies.{Dry}
 use Rattle.write_back.specs.laws.Plain.{lefts-are, named, names-once, loose, dry}

@@ -1,0 +1,2 @@
+-- The theorem on the table beside this file.
+pub mod Right
