@@ -19,8 +19,9 @@ LEFT = {
     "table numbers in code": 0,
     "table numbers in definitions": 0,
     "table numbers in laws and proofs": 0,
+    "places of records in code": 15,
     "functions with too many parameters": 14,
-    "long lines in code": 2,
+    "long lines in code": 1,
     "long lines in definitions": 0,
     "long lines in documents": 0,
     "edges never named": 0,
@@ -32,6 +33,7 @@ LEFT = {
 
 TABLE_OWNER = "grammar_table"  # the one crate that may say where the table's records lie
 TABLE_NUMBERS = r"\b(?:19208|2696|22280)\b|\b8 \+ 42 \*|\b258 \*"
+RECORD_PLACE = r"\b(?:SYMBOLS|TERMINALS|EXPRESSIONS)_AT\s*\+\s*(?:\w+::)*(?:SYMBOL|TERMINAL|EXPRESSION)_WORDS \*"  # only records.rt says it
 MOST_PARAMETERS = 7
 LONGEST_LINE = 160
 LONGEST_LINE_OF_A_DOCUMENT = 120
@@ -65,7 +67,7 @@ def definitions():
 
 def bare(text):
     """Without the lines that are comments."""
-    return re.sub(r"(?m)^\s*(//|--).*$", "", text)
+    return re.sub(r"(?m)^[ \t]*(//|--).*$", "", text)
 
 
 def places(path, pattern, text=None):
@@ -80,6 +82,12 @@ def table_numbers(paths):
     for path in paths:
         if path.split("/")[1] != TABLE_OWNER:
             yield from places(path, TABLE_NUMBERS, bare(read(path)))
+
+
+def record_places():
+    for path in code():
+        if path.split("/")[1] != TABLE_OWNER:
+            yield from places(path, RECORD_PLACE, bare(read(path)))
 
 
 def parameters(text, at):
@@ -267,6 +275,7 @@ def counted():
     yield "table numbers in code", table_numbers(code())
     yield "table numbers in definitions", table_numbers(definitions())
     yield "table numbers in laws and proofs", table_numbers([*filter(is_law, files("crates/*/specs/**/*.antt")), *files("crates/*/proofs/**/*.antt")])
+    yield "places of records in code", record_places()
     yield "functions with too many parameters", too_many_parameters()
     yield "long lines in code", long_lines(code(), LONGEST_LINE)
     yield "long lines in definitions", long_lines(definitions(), LONGEST_LINE)

@@ -7,11 +7,13 @@ ghost use Rattle.lake_analysis.specs.steps.Lent.{Begins, Parted, Fronted
 ghost use mathlib.Core.Bool.{cond, _||_};
 ghost use Rattle.lake_sets.specs.steps.Steps.{rootIn};
 ghost use Rattle.base_words.specs.Set.{empty as none};
+use grammar_table::records;
 
 // ε marks by symbol, then BEGINNING of every expression (01, Lakes made plain).
 fn begins(t: &grammar_table::Table, marks: &mut [bool], sets: &mut [[u64; 2]], eps: &mut [bool])
     requires { ⌜ (length (now marks) ≤ 64) × (length (now sets) ≤ 1024) × (length (now eps) ≡ length (now sets)) ⌝ }
-    ensures { λ u. ⌜ Begins (now (t .entry)) (length (now (sets .entry))) (length (now (marks .entry))) (now (marks .exit)) (now (sets .exit)) (now (eps .exit)) ⌝ }
+    ensures { λ u.
+        ⌜ Begins (now (t .entry)) (length (now (sets .entry))) (length (now (marks .entry))) (now (marks .exit)) (now (sets .exit)) (now (eps .exit)) ⌝ }
 {
     lake_sets::mark_all(t, marks, sets, eps);
     lake_sets::begin_all(t, marks, sets, eps);
@@ -92,8 +94,8 @@ pub fn analyse_table(
 ) -> usize
     ensures { λ k. ⌜ Fronted (now (t .entry)) (now (marks .exit)) (now (sets .exit)) (now (eps .exit)) (now (succ .exit)) (now (alts .exit)) k ⌝ }
 {
-    let r = base_words::word(t, 0);
-    let n = base_words::word(t, 2);
+    let r = records::symbols(t);
+    let n = records::expressions(t);
     if r > 64 {
         return 0;
     }
@@ -132,10 +134,7 @@ pub fn is_lake(t: &grammar_table::Table, n: usize) -> bool
     requires { ⌜ n < 64 ⌝ }
     ensures { λ r. ⌜ r ≡ lakeIn (now (t .entry)) n ⌝ }
 {
-    let k = base_words::word(
-        t,
-        grammar_table::SYMBOLS_AT + grammar_table::SYMBOL_WORDS * n,
-    );
+    let k = records::kind(t, n);
     k != 0
 }
 
@@ -220,7 +219,7 @@ fn note(
 pub fn cannot_skip(t: &grammar_table::Table, marks: &[bool; 64], alts: &[[u64; 2]; 1024]) -> u64
     ensures { λ w. ⌜ CannotSkip (now (t .entry)) (now (marks .entry)) (now (alts .entry)) w ⌝ }
 {
-    let r = base_words::word(t, 0);
+    let r = records::symbols(t);
     if r > 64 {
         return 0;
     }

@@ -6,6 +6,7 @@ ghost use mathlib.Core.List.{List};
 ghost use lib.ListN.{length, getD, replicate};
 ghost use Rattle.lake_calls.specs.steps.Marks.{Round, AllMarks, Looped, LoopedAll};
 ghost use Rattle.grammar_table.specs.Table.{symbolCount};
+use grammar_table::records;
 
 fn unmark(marks: &mut [bool])
     ensures { λ u. ⌜ now (marks .exit) ≡ replicate (length (now (marks .entry))) false ⌝ }
@@ -35,10 +36,7 @@ fn mark_round(t: &[u32], marks: &[bool], next: &mut [bool])
 {
     let mut i = 0;
     while i < next.len() {
-        let x = base_words::word(
-            t,
-            grammar_table::SYMBOLS_AT + grammar_table::SYMBOL_WORDS * i + grammar_table::BODY,
-        );
+        let x = records::body(t, i);
         let a = crate::first(t, marks, x);
         next[i] = a.empty;
         i += 1;
@@ -91,6 +89,6 @@ pub fn table_loop(t: &[u32]) -> usize
     let mut marks = [false; 64];
     let mut next = [false; 64];
     let mut calls: [u64; 64] = [0; 64];
-    let n = base_words::word(t, 0);
+    let n = records::symbols(t);
     loop_front(t, n, &mut marks, &mut next, &mut calls)
 }

@@ -11,6 +11,7 @@ ghost use Rattle.lake_sets.specs.steps.Steps.{handed, succeedGiven, altG
 ghost use Rattle.lake_sets.specs.Flows.{edge as edgeTo, gift as giftTo, succeedGifts, altGifts, given, when};
 ghost use Rattle.base_rounds.specs.laws.Sys.{none, edges, Solved};
 ghost use Rattle.base_rounds.specs.laws.Pair.{Set2};
+use grammar_table::records;
 
 // The three sets of an expression, which travel together with its ε mark (01, Lakes made plain).
 pub struct Sets {
@@ -31,10 +32,9 @@ pub fn node(t: &grammar_table::Table, e: usize) -> Record
     requires { ⌜ e < 1024 ⌝ }
     ensures { λ r. ⌜ (partBy (r .op) (r .left) (r .right) ≡ partIn (now (t .entry)) e) × (r .left < 4294967296) ⌝ }
 {
-    let at = grammar_table::EXPRESSIONS_AT + grammar_table::EXPRESSION_WORDS * e;
-    let op = base_words::word(t, at);
-    let left = base_words::word(t, at + 1);
-    let right = base_words::word(t, at + 2);
+    let op = records::op(t, e);
+    let left = records::left(t, e);
+    let right = records::right(t, e);
     Record {
         op: op,
         left: left,
@@ -174,10 +174,7 @@ pub fn root(t: &grammar_table::Table, r: usize) -> usize
     requires { ⌜ r < 4294967296 ⌝ }
     ensures { λ u. ⌜ u ≡ rootIn (now (t .entry)) r ⌝ }
 {
-    let w = base_words::word(
-        t,
-        grammar_table::SYMBOLS_AT + grammar_table::SYMBOL_WORDS * r + 1,
-    );
+    let w = records::body(t, r);
     if w == 0 { 0 } else { w - 1 }
 }
 

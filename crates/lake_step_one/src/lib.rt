@@ -4,23 +4,13 @@ ghost use mathlib.Core.List.{List, [], _∷_};
 ghost use Prim.Native.Nat.{ℕ, _+_, _-_, _*_, _^_, _<_, _≤_};
 ghost use lib.ListN.{length, getD, set};
 ghost use lib.Dec.{eqb};
-ghost use Rattle.lake_step_one.specs.steps.Runs.{Near, stored, CopiedOne, CopiedRun, WaterTo, BodyTo};
+ghost use Rattle.lake_step_one.specs.steps.Runs.{Near, CopiedOne, CopiedRun, WaterTo, BodyTo};
 ghost use Rattle.lake_step_one.specs.steps.Runs.{moved as movedTo};
 ghost use Rattle.lake_step_one.specs.steps.Made.{nextBy, lakeAt, MadeNext, WaterAt, SteppedOne, BuiltAll};
 ghost use Rattle.grammar_table.specs.Table.{expressionsAt, symbolWord, nameIn};
 ghost use Rattle.grammar.specs.Same.{sameSymbol};
 ghost use Rattle.lake_step_one.specs.Intermediate.{waterName};
-
-// The record of expression m, stored; past the table's end nothing.
-pub fn put_part(mid: &mut [u32], m: usize, op: usize, l: usize, r: usize)
-    requires { ⌜ (m < 1125899906842624) × (op < 4294967296) × (l < 4294967296) × (r < 4294967296) ⌝ }
-    ensures { λ u. ⌜ now (mid .exit) ≡ stored (now (mid .entry)) m op l r ⌝ }
-{
-    let at = grammar_table::EXPRESSIONS_AT + grammar_table::EXPRESSION_WORDS * m;
-    base_words::put(mid, at, op);
-    base_words::put(mid, at + 1, l);
-    base_words::put(mid, at + 2, r);
-}
+use grammar_table::records;
 
 // A part's number moved with its run from o to m.
 fn moved(o: usize, m: usize, i: usize) -> usize
@@ -42,17 +32,16 @@ fn copy_one(t: &[u32], mid: &mut [u32], e: usize, at: usize, o: usize, m: usize)
     requires { ⌜ (e < 1125899906842624) × (at < 1125899906842624) × (m < 1125899906842624) ⌝ }
     ensures { λ u. ⌜ CopiedOne (now (t .entry)) e o (now (mid .entry)) at m (now (mid .exit)) ⌝ }
 {
-    let i = grammar_table::EXPRESSIONS_AT + grammar_table::EXPRESSION_WORDS * e;
-    let op = base_words::word(t, i);
-    let l = base_words::word(t, i + 1);
-    let r = base_words::word(t, i + 2);
+    let op = records::op(t, e);
+    let l = records::left(t, e);
+    let r = records::right(t, e);
     if op < 2 {
-        put_part(mid, at, op, l, r);
+        records::store_expression(mid, at, op, l, r);
         return;
     }
     let x = moved(o, m, l);
     let y = moved(o, m, r);
-    put_part(mid, at, op, x, y);
+    records::store_expression(mid, at, op, x, y);
 }
 
 // The k expressions of t from a on, copied to m.
@@ -93,9 +82,9 @@ fn water_copy(t: &[u32], mid: &mut [u32], wa: usize, wb: usize, m: usize) -> usi
     ensures { λ u. ⌜ (u ≤ m + 4294967296) × WaterTo (now (t .entry)) wa wb (now (mid .entry)) m (now (mid .exit)) u ⌝ }
 {
     if wb == 0 {
-        put_part(mid, m, 0, 0, 0);
+        records::store_expression(mid, m, grammar_table::TERMINAL, 0, 0);
         let x = cap(m);
-        put_part(mid, m + 1, 8, x, 0);
+        records::store_expression(mid, m + 1, grammar_table::NEVER, x, 0);
         return m + 2;
     }
     let k = span(wa, wb);
@@ -125,7 +114,7 @@ fn lake_body(
     let p = water_copy(t, mid, wa, wb, q);
     let x = cap(span(1, q));
     let y = cap(span(1, p));
-    put_part(mid, p, 3, x, y);
+    records::store_expression(mid, p, grammar_table::CHOICE, x, y);
     p + 1
 }
 
@@ -135,7 +124,7 @@ fn plain_body(t: &[u32], mid: &mut [u32], a: usize, b: usize, m: usize) -> usize
     ensures { λ u. ⌜ (u ≤ m + 12884901888) × ((wa wb : ℕ) → BodyTo (now (t .entry)) false a b wa wb (now (mid .entry)) m (now (mid .exit)) u) ⌝ }
 {
     if b == 0 {
-        put_part(mid, m, 0, 0, 0);
+        records::store_expression(mid, m, grammar_table::TERMINAL, 0, 0);
         return m + 1;
     }
     let k = span(a, b);
@@ -192,11 +181,10 @@ fn symbol(
     ensures { λ u. ⌜ (u .from < 4294967296) × (u .count ≤ m + 12884901888)
         × MadeNext (now (t .entry)) r wa wb from m (now (mid .entry)) (u .from) (u .count) (now (mid .exit)) ⌝ }
 {
-    let at = grammar_table::SYMBOLS_AT + grammar_table::SYMBOL_WORDS * r;
-    let kind = base_words::word(t, at);
-    let b = base_words::word(t, at + 1);
+    let kind = records::kind(t, r);
+    let b = records::body(t, r);
     let p = body(t, mid, kind != 0, from, b, wa, wb, m);
-    base_words::put(mid, at + 1, cap(p));
+    records::store_body(mid, r, cap(p));
     let f = next_from(from, b);
     Reached { from: f, count: p }
 }
@@ -240,10 +228,7 @@ fn pass(t: &[u32], s: usize, from: usize) -> usize
     requires { ⌜ (s < 64) × (from < 4294967296) ⌝ }
     ensures { λ u. ⌜ (u < 4294967296) × (u ≡ nextBy from (symbolWord (now (t .entry)) s 1)) ⌝ }
 {
-    let b = base_words::word(
-        t,
-        grammar_table::SYMBOLS_AT + grammar_table::SYMBOL_WORDS * s + 1,
-    );
+    let b = records::body(t, s);
     next_from(from, b)
 }
 
@@ -256,10 +241,7 @@ fn water(t: &[u32], r: usize) -> Reached
     let mut s: usize = 0;
     while s < r {
         if is_water(t, s) {
-            let b = base_words::word(
-                t,
-                grammar_table::SYMBOLS_AT + grammar_table::SYMBOL_WORDS * s + 1,
-            );
+            let b = records::body(t, s);
             return Reached {
                 from: from,
                 count: b,
@@ -310,7 +292,7 @@ fn build(t: &[u32], mid: &mut [u32], r: usize, wa: usize, wb: usize) -> usize
 pub fn step_one(t: &grammar_table::Table, mid: &mut grammar_table::Table) -> usize
     ensures { λ k. ⌜ SteppedOne (now (t .entry)) (now (mid .exit)) k ⌝ }
 {
-    let r = base_words::word(t, 0);
+    let r = records::symbols(t);
     if r > 64 {
         return 1025;
     }

@@ -6,19 +6,20 @@ ghost use lib.ListN.{length, getD, set};
 ghost use Rattle.lake_step_one.specs.steps.Made.{lakeAt};
 ghost use Rattle.lake_step_two.specs.steps.Skips.{Added, AddedSymbol, AddedTerminal, AddedSymbols, AddedTerminals, ChoiceTo, SkipTo, PlainTo};
 ghost use Rattle.lake_step_two.specs.steps.Stepped.{PlainNext, PlainAll, SteppedTwo};
+use grammar_table::records;
 
 // One alternative more, behind the first m; the choice that ends there began at o, and there is none where m is o (01, step 2: `s1 / .. / sn`).
 fn add(out: &mut [u32], op: usize, x: usize, o: usize, m: usize) -> usize
     requires { ⌜ (op < 4294967296) × (x < 4294967296) × (m < 140737488355328) ⌝ }
     ensures { λ u. ⌜ (u ≤ m + 2) × Added op x o (now (out .entry)) m (now (out .exit)) u ⌝ }
 {
-    lake_step_one::put_part(out, m, op, x, 0);
+    records::store_expression(out, m, op, x, 0);
     if m == o {
         return m + 1;
     }
     let l = lake_step_one::cap(lake_step_one::span(1, m));
     let r = lake_step_one::cap(m);
-    lake_step_one::put_part(out, m + 1, 3, l, r);
+    records::store_expression(out, m + 1, grammar_table::CHOICE, l, r);
     m + 2
 }
 
@@ -27,10 +28,7 @@ fn is_lake(t: &[u32], i: usize) -> bool
     requires { ⌜ i < 64 ⌝ }
     ensures { λ u. ⌜ u ≡ lakeAt (now (t .entry)) i ⌝ }
 {
-    let k = base_words::word(
-        t,
-        grammar_table::SYMBOLS_AT + grammar_table::SYMBOL_WORDS * i,
-    );
+    let k = records::kind(t, i);
     k != 0
 }
 
@@ -45,7 +43,7 @@ fn add_symbol(t: &[u32], out: &mut [u32], s: [u64; 2], i: usize, o: usize, m: us
     if is_lake(t, i) {
         return m;
     }
-    add(out, 1, i, o, m)
+    add(out, grammar_table::SYMBOL, i, o, m)
 }
 
 // Terminal i, if it is in the set.
@@ -56,7 +54,7 @@ fn add_terminal(out: &mut [u32], s: [u64; 2], i: usize, o: usize, m: usize) -> u
     if !base_words::member(s, 64 + i) {
         return m;
     }
-    add(out, 0, i, o, m)
+    add(out, grammar_table::TERMINAL, i, o, m)
 }
 
 // "the nonterminals of ALT(b) by number"
@@ -103,15 +101,15 @@ fn skip(t: &[u32], out: &mut [u32], s: [u64; 2], r: usize, x: usize, m: usize) -
 {
     let p = choice(t, out, s, r, x, m);
     if p == m {
-        lake_step_one::put_part(out, p, 0, 0, 0);
+        records::store_expression(out, p, grammar_table::TERMINAL, 0, 0);
         return p + 1;
     }
     let l = lake_step_one::cap(lake_step_one::span(1, p));
-    lake_step_one::put_part(out, p, 8, l, 0);
-    lake_step_one::put_part(out, p + 1, 0, 0, 0);
+    records::store_expression(out, p, grammar_table::NEVER, l, 0);
+    records::store_expression(out, p + 1, grammar_table::TERMINAL, 0, 0);
     let a = lake_step_one::cap(p);
     let b = lake_step_one::cap(p + 1);
-    lake_step_one::put_part(out, p + 2, 2, a, b);
+    records::store_expression(out, p + 2, grammar_table::SEQUENCE, a, b);
     p + 3
 }
 
@@ -135,7 +133,7 @@ fn lake_body(
     let p = skip(t, out, s, r, x, q);
     let l = lake_step_one::cap(lake_step_one::span(1, q));
     let y = lake_step_one::cap(lake_step_one::span(1, p));
-    lake_step_one::put_part(out, p, 3, l, y);
+    records::store_expression(out, p, grammar_table::CHOICE, l, y);
     p + 1
 }
 
@@ -177,13 +175,12 @@ fn symbol(
     ensures { λ u. ⌜ (u .from < 4294967296) × (u .count ≤ m + 4294967556)
         × PlainNext (now (t .entry)) (now (alts .entry)) r x s from m (now (out .entry)) (u .from) (u .count) (now (out .exit)) ⌝ }
 {
-    let at = grammar_table::SYMBOLS_AT + grammar_table::SYMBOL_WORDS * s;
-    let kind = base_words::word(t, at);
-    let b = base_words::word(t, at + 1);
+    let kind = records::kind(t, s);
+    let b = records::body(t, s);
     let e = lake_step_one::span(1, b);
     let alt = lake_sets::set_at(alts, e);
     let p = body(t, out, kind != 0, alt, r, x, from, b, m);
-    base_words::put(out, at + 1, lake_step_one::cap(p));
+    records::store_body(out, s, lake_step_one::cap(p));
     let f = lake_step_one::next_from(from, b);
     lake_step_one::Reached { from: f, count: p }
 }
@@ -214,8 +211,8 @@ pub fn step_two(
 ) -> usize
     ensures { λ k. ⌜ SteppedTwo (now (t .entry)) (now (alts .entry)) (now (out .exit)) k ⌝ }
 {
-    let r = base_words::word(t, 0);
-    let x = base_words::word(t, 1);
+    let r = records::symbols(t);
+    let x = records::terminals(t);
     if r > 64 {
         return 1025;
     }

@@ -12,6 +12,7 @@ ghost use Rattle.grammar_table.specs.Table.{upTo, symbolCount, terminalCount, n
 ghost use Rattle.lake_step_one.specs.Intermediate.{waterName, waterIn};
 ghost use Rattle.lake_step_two.specs.Plain.{nonterminalsIn, terminalsIn};
 ghost use Rattle.match_lake.specs.Asking.{noneMatches, ownTakes, symbolFails, terminalFails, wayIn};
+use grammar_table::records;
 
 // Whether the body with word b matches at p; there is none for 0.
 fn takes(t: &[u32], s: &[u8], cells: &[u32], n: usize, b: usize, p: usize) -> bool
@@ -50,10 +51,7 @@ fn water_body(t: &[u32], n: usize) -> usize
 {
     let w = water_at(t, n);
     if w < n {
-        return base_words::word(
-            t,
-            grammar_table::SYMBOLS_AT + grammar_table::SYMBOL_WORDS * w + grammar_table::BODY,
-        );
+        return records::body(t, w);
     }
     0
 }
@@ -89,10 +87,7 @@ fn symbol_fails(
     if !base_words::member(alt, i) {
         return true;
     }
-    let k = base_words::word(
-        t,
-        grammar_table::SYMBOLS_AT + grammar_table::SYMBOL_WORDS * i,
-    );
+    let k = records::kind(t, i);
     if k != 0 {
         return true;
     }
@@ -146,10 +141,7 @@ pub fn way(t: &[u32], s: &[u8], cells: &[u32], n: usize, alt: [u64; 2], l: usize
     requires { ⌜ (n ≡ symbolCount (now t)) × (n ≤ 64) × (terminalCount (now t) ≤ 64) × (l < n) × (length (now s) ≤ 65535) × (p ≤ length (now s)) ⌝ }
     ensures { λ r. ⌜ r ≡ wayIn (grammarIn (now (t .entry))) (now (s .entry)) (now (cells .entry)) n alt l p ⌝ }
 {
-    let b = base_words::word(
-        t,
-        grammar_table::SYMBOLS_AT + grammar_table::SYMBOL_WORDS * l + grammar_table::BODY,
-    );
+    let b = records::body(t, l);
     if takes(t, s, cells, n, b, p) {
         return 1;
     }
@@ -162,7 +154,7 @@ pub fn way(t: &[u32], s: &[u8], cells: &[u32], n: usize, alt: [u64; 2], l: usize
     if !symbols_fail(t, s, cells, n, alt, p) {
         return 0;
     }
-    let m = base_words::word(t, 1);
+    let m = records::terminals(t);
     if !terminals_fail(t, s, m, alt, p) {
         return 0;
     }

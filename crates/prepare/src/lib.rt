@@ -13,6 +13,7 @@ ghost use Rattle.prepare.specs.declared.Verdict.the-variants.{Refused as
 pub mod refusals;
 
 use grammar_table::Table;
+use grammar_table::records;
 use read_tokens::Mode;
 
 // A grammar is accepted, or refused with number and place.
@@ -152,14 +153,14 @@ pub fn is_refused(v: Verdict) -> bool
 pub fn symbols(t: &Table) -> usize
     ensures { λ r. ⌜ r ≡ symbolCount (now (t .entry)) ⌝ }
 {
-    base_words::word(t, 0)
+    records::symbols(t)
 }
 
 // How many expressions a table holds.
 pub fn expressions(t: &Table) -> usize
     ensures { λ r. ⌜ r ≡ expressionCount (now (t .entry)) ⌝ }
 {
-    base_words::word(t, 2)
+    records::expressions(t)
 }
 
 // The answer of `read`, and the round count of ALT.

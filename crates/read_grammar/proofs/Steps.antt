@@ -12,7 +12,7 @@ use borrow.Author.Tests.{eq-eqb, ne-eqb, lt-ltb, le-ltb}
 use Rattle.read_tokens.specs.declared.Mode.{Mode}
 use Rattle.read_tokens.specs.Chars.{Char, char}
 use Rattle.read_tokens.specs.steps.Code.{literalFrom, classAt}
-use Rattle.grammar_table.specs.Table.{expressionsAt, expressionWords, terminalWords, symbolWords, bodyAt, wordsFrom}
+use Rattle.grammar_table.specs.Table.{expressionsAt, expressionWords, expressionCount, terminalWords, symbolsAt, symbolWords, bodyAt, wordsFrom}
 use Rattle.grammar_table.specs.steps.Rows.{cap}
 use Rattle.grammar_table.specs.laws.Words.{words-length, words-at}
 use Rattle.read_grammar.specs.steps.Entries.{symbolRow, lakeOf, leafRow, bitOf, leafAt, pushBy, pushed, bodyBy, bodied, prefixOp, suffixOp}
@@ -130,19 +130,21 @@ pub lake-no : (kind : ℕ) → (kind ≡ 2 → ⊥) → 0 ≡ lakeOf kind
 lake-no kind e = ap (λ (b : Bool). cond b 1 0) (sym (ne-eqb kind 2 e))
 
 -- ── expressions ──
-pub pushed-in : (t t₁ t₂ t₃ t₄ : List ℕ) (c b k l r : ℕ) → c ≡ getD t 2 0 → c < 1024 → b ≡ expressionsAt + expressionWords * c → t₁ ≡ set t b k → t₂ ≡ set t₁ (b + 1) l → t₃ ≡ set t₂ (b + 2) r → t₄ ≡ set t₃ 2 (c + 1)
-    → t₄ ≡ pushed k l r t
+three-stores : (t : List ℕ) (b k l r : ℕ) → set (set (set t b k) (b + 1) l) (b + 2) r ≡ sets t b (k ∷ l ∷ r ∷ [])
+three-stores t b k l r = here (b + 1) (suc b) (b + 2) (suc (suc b)) (omega arith) (omega arith)
+  where
+    here : (x x′ y y′ : ℕ) → x ≡ x′ → y ≡ y′ → set (set (set t b k) x l) y r ≡ set (set (set t b k) x′ l) y′ r
+    here x x′ y y′ f g = rw (f, g)
+
+pub pushed-in : (t t₁ t₂ : List ℕ) (c k l r : ℕ) → c ≡ expressionCount t → c < 1024
+    → t₁ ≡ set (set (set t (expressionsAt + expressionWords * c) k) (expressionsAt + expressionWords * c + 1) l) (expressionsAt + expressionWords * c + 2) r
+    → t₂ ≡ set t₁ 2 (c + 1) → t₂ ≡ pushed k l r t
 unfolding pushed
-pushed-in t t₁ t₂ t₃ t₄ c b k l r e h g p q u v =
+pushed-in t t₁ t₂ c k l r e h p v =
     v
-    ∙ ap (λ (x : List ℕ). set x 2 (c + 1)) (u ∙ ap (λ (x : List ℕ). set x (b + 2) r) (q ∙ ap (λ (x : List ℕ). set x (b + 1) l) p))
-    ∙ here (b + 1) (suc b) (b + 2) (suc (suc b)) (omega arith) (omega arith)
-    ∙ ap (λ (x : ℕ). set (sets t x (k ∷ l ∷ r ∷ [])) 2 (c + 1)) g
+    ∙ ap (λ (x : List ℕ). set x 2 (c + 1)) (p ∙ three-stores t (expressionsAt + expressionWords * c) k l r)
     ∙ ap (λ (x : ℕ). set (sets t (expressionsAt + expressionWords * x) (k ∷ l ∷ r ∷ [])) 2 (x + 1)) e
     ∙ ap (λ (x : Bool). pushBy x (getD t 2 0) k l r t) (sym (lt-ltb (getD t 2 0) 1024 (omega (arith, e))))
-  where
-    here : (x x′ y y′ : ℕ) → x ≡ x′ → y ≡ y′ → set (set (set (set t b k) x l) y r) 2 (c + 1) ≡ set (set (set (set t b k) x′ l) y′ r) 2 (c + 1)
-    here x x′ y y′ f g = rw (f, g)
 
 pub pushed-over : (t t₁ : List ℕ) (c k l r : ℕ) → c ≡ getD t 2 0 → 1024 ≤ c → t₁ ≡ set t 2 1025 → t₁ ≡ pushed k l r t
 unfolding pushed
@@ -151,9 +153,11 @@ pushed-over t t₁ c k l r e h p = p ∙ ap (λ (x : Bool). pushBy x (getD t 2 0
 pub pushed-args : (t t₁ : List ℕ) (k l l′ r r′ : ℕ) → t₁ ≡ pushed k l r t → l ≡ l′ → r ≡ r′ → t₁ ≡ pushed k l′ r′ t
 pushed-args t t₁ k l l′ r r′ e f g = e ∙ ap (λ (x : ℕ). pushed k x r t) f ∙ ap (λ (x : ℕ). pushed k l′ x t) g
 
-pub bodied-in : (t t₁ : List ℕ) (c k : ℕ) → k < 64 → c ≡ getD t 2 0 → t₁ ≡ set t (bodyAt k) c → t₁ ≡ bodied k t
+pub bodied-in : (t t₁ : List ℕ) (c k : ℕ) → k < 64 → c ≡ expressionCount t → t₁ ≡ set t (symbolsAt + symbolWords * k + 1) c → t₁ ≡ bodied k t
 unfolding bodied
-bodied-in t t₁ c k h e p = p ∙ ap (λ (x : ℕ). set t (bodyAt k) x) e ∙ ap (λ (x : Bool). bodyBy x k t) (sym (lt-ltb k 64 h))
+bodied-in t t₁ c k h e p =
+    let at : symbolsAt + symbolWords * k + 1 ≡ bodyAt k = omega arith in
+    p ∙ ap (λ (i : ℕ). set t i c) at ∙ ap (λ (x : ℕ). set t (bodyAt k) x) e ∙ ap (λ (x : Bool). bodyBy x k t) (sym (lt-ltb k 64 h))
 
 pub bodied-out : (t : List ℕ) (k : ℕ) → 64 ≤ k → t ≡ bodied k t
 unfolding bodied

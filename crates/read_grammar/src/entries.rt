@@ -8,7 +8,6 @@ ghost use Rattle.grammar_table.specs.steps.Rows.{cap, seek, kept, Noted};
 ghost use Rattle.read_grammar.specs.steps.Entries.{symbolAt, symbolRow, lakeOf, leafRow, bitOf, leafAt};
 ghost use Rattle.grammar_table.specs.Table.{symbolKey, symbolWords, symbolsAt, terminalKey, terminalWords, terminalsAt, wordsFrom};
 use base_words::put;
-use base_words::word;
 use grammar_table::SYMBOL_WORDS;
 use grammar_table::SYMBOLS_AT;
 use grammar_table::TERMINAL_WORDS;
@@ -16,6 +15,7 @@ use grammar_table::TERMINALS_AT;
 use grammar_table::find;
 use grammar_table::least;
 use grammar_table::note;
+use grammar_table::records::symbols;
 use read_tokens::Mode;
 use read_tokens::chars::char_at;
 use read_tokens::classes::class_at;
@@ -82,7 +82,7 @@ pub fn symbol_number(text: &[u8], kind: u8, start: usize, size: usize, t: &[u32]
         × (r ≤ 64) ⌝ }
 {
     let row = symbol_row(text, kind, start, size);
-    let c = word(t, 0);
+    let c = symbols(t);
     let n = least(c, 64);
     find(t, &row, 3, SYMBOL_WORDS, SYMBOLS_AT, n)
 }

@@ -12,12 +12,14 @@ pub mod entries;
 pub mod parts;
 
 use base_words::put;
-use base_words::word;
 use entries::note_any;
 use entries::note_leaf;
 use entries::note_symbol;
 use entries::symbol_number;
 use grammar_table::Table;
+use grammar_table::records::expressions;
+use grammar_table::records::symbols;
+use grammar_table::records::terminals;
 use parts::add_over;
 use parts::add_pair;
 use parts::add_part;
@@ -207,7 +209,7 @@ fn sequence(mode: Mode, text: &[u8], at: usize, t: &mut [u32]) -> usize
         if !begins_at(mode, text, i) {
             return i;
         }
-        let a = word(t, 2);
+        let a = expressions(t);
         let j = prefix(mode, text, i, t);
         add_pair(t, 2, a);
         i = j;
@@ -227,7 +229,7 @@ fn choice(mode: Mode, text: &[u8], at: usize, t: &mut [u32]) -> usize
         if kind != read_tokens::SLASH {
             return i;
         }
-        let a = word(t, 2);
+        let a = expressions(t);
         let j = sequence(mode, text, next, t);
         add_pair(t, 3, a);
         i = j;
@@ -277,7 +279,7 @@ fn fill(mode: Mode, text: &[u8], t: &mut [u32]) -> Counts
     put(t, 2, 0);
     mark_all(mode, text, false, t);
     mark_all(mode, text, true, t);
-    let n = word(t, 0);
+    let n = symbols(t);
     if 64 < n {
         return Counts {
             symbols: n,
@@ -287,8 +289,8 @@ fn fill(mode: Mode, text: &[u8], t: &mut [u32]) -> Counts
     }
     let any = note_any(t);
     rules(mode, text, t);
-    let x = word(t, 1);
-    let e = word(t, 2);
+    let x = terminals(t);
+    let e = expressions(t);
     Counts {
         symbols: n,
         terminals: x,

@@ -4,13 +4,9 @@ ghost use mathlib.Core.Path.{_≡_};
 ghost use lib.ListN.{getD};
 ghost use Rattle.read_grammar.specs.steps.Entries.{pushed, bodied, prefixOp, suffixOp};
 use base_words::put;
-use base_words::word;
-use grammar_table::EXPRESSION_WORDS;
-use grammar_table::EXPRESSIONS_AT;
-use grammar_table::SYMBOL_WORDS;
-
-// Where the body of symbol 0 stands: behind its kind.
-const BODIES: usize = grammar_table::SYMBOLS_AT + 1;
+use grammar_table::records::expressions;
+use grammar_table::records::store_body;
+use grammar_table::records::store_expression;
 
 pub fn before(x: usize) -> usize
     ensures { λ r. ⌜ r ≡ x - 1 ⌝ }
@@ -26,12 +22,9 @@ pub fn add_part(t: &mut [u32], kind: usize, left: usize, right: usize)
     requires { ⌜ (kind < 4294967296) × (left < 4294967296) × (right < 4294967296) ⌝ }
     ensures { λ r. ⌜ now (t .exit) ≡ pushed kind left right (now (t .entry)) ⌝ }
 {
-    let c = word(t, 2);
+    let c = expressions(t);
     if c < 1024 {
-        let b = EXPRESSIONS_AT + EXPRESSION_WORDS * c;
-        put(t, b, kind);
-        put(t, b + 1, left);
-        put(t, b + 2, right);
+        store_expression(t, c, kind, left, right);
         put(t, 2, c + 1);
         return;
     }
@@ -43,7 +36,7 @@ pub fn add_over(t: &mut [u32], kind: usize)
     requires { ⌜ kind < 4294967296 ⌝ }
     ensures { λ r. ⌜ now (t .exit) ≡ pushed kind (getD (now (t .entry)) 2 0 - 1) 0 (now (t .entry)) ⌝ }
 {
-    let c = word(t, 2);
+    let c = expressions(t);
     let e = before(c);
     add_part(t, kind, e, 0);
 }
@@ -53,7 +46,7 @@ pub fn add_pair(t: &mut [u32], kind: usize, a: usize)
     requires { ⌜ (kind < 4294967296) × (a < 4294967296) ⌝ }
     ensures { λ r. ⌜ now (t .exit) ≡ pushed kind (a - 1) (getD (now (t .entry)) 2 0 - 1) (now (t .entry)) ⌝ }
 {
-    let c = word(t, 2);
+    let c = expressions(t);
     let l = before(a);
     let r = before(c);
     add_part(t, kind, l, r);
@@ -64,8 +57,8 @@ pub fn set_body(t: &mut [u32], k: usize)
     ensures { λ r. ⌜ now (t .exit) ≡ bodied k (now (t .entry)) ⌝ }
 {
     if k < 64 {
-        let c = word(t, 2);
-        put(t, BODIES + SYMBOL_WORDS * k, c);
+        let c = expressions(t);
+        store_body(t, k, c);
     }
 }
 

@@ -12,6 +12,7 @@ ghost use Rattle.write_text.specs.steps.Pen.{most, Penned};
 ghost use Rattle.write_text.specs.steps.Printed.{low, lowLeaf, called};
 ghost use Rattle.write_text.specs.steps.Turned.{Turned};
 use crate::bytes;
+use grammar_table::records;
 
 // A name's bytes.
 pub fn name_bytes(t: &[u32], out: &mut [u8], write: bool, at: usize, i: usize, n: usize) -> usize
@@ -106,19 +107,21 @@ pub fn leaf(t: &[u32], out: &mut [u8], write: bool, at: usize, x: usize) -> usiz
     requires { ⌜ (at ≤ most) × (x < 4294967296) ⌝ }
     ensures { λ r. ⌜ Penned write (leafText (lowLeaf (leafIn (now (t .entry)) x))) (now (out .entry)) at (now (out .exit)) r ⌝ }
 {
-    let i = grammar_table::TERMINALS_AT + grammar_table::TERMINAL_WORDS * x;
-    let k = base_words::word(t, i);
-    if k == 0 {
+    let i = grammar_table::TERMINALS_AT
+        + grammar_table::TERMINAL_WORDS * x
+        + grammar_table::CONTENT;
+    let k = records::leaf_kind(t, x);
+    if k == grammar_table::ANY {
         return bytes::emit(out, write, at, 46);
     }
-    if k == 1 {
-        let n = base_words::word(t, i + 1);
+    if k == grammar_table::LITERAL {
+        let n = records::leaf_length(t, x);
         let a = bytes::emit(out, write, at, 39);
-        let b = lit_chars(t, out, write, a, i + 2, n);
+        let b = lit_chars(t, out, write, a, i, n);
         return bytes::emit(out, write, b, 39);
     }
     let a = bytes::emit(out, write, at, 91);
-    let b = class_runs(t, out, write, a, i + 2);
+    let b = class_runs(t, out, write, a, i);
     bytes::emit(out, write, b, 93)
 }
 
@@ -128,17 +131,17 @@ pub fn symbol(t: &[u32], out: &mut [u8], write: bool, plain: bool, at: usize, r:
     ensures { λ u. ⌜ Penned write (symbolText (called plain (now (t .entry)) r)) (now (out .entry)) at (now (out .exit)) u ⌝ }
 {
     let i = grammar_table::SYMBOLS_AT + grammar_table::SYMBOL_WORDS * r;
-    let k = base_words::word(t, i);
-    let n = base_words::word(t, i + 3);
+    let k = records::kind(t, r);
+    let n = base_words::word(t, i + grammar_table::NAME_LENGTH);
     if k == 0 {
-        return name_bytes(t, out, write, at, i + 4, n);
+        return name_bytes(t, out, write, at, i + grammar_table::NAME, n);
     }
     if plain {
         let a = bytes::emit4(out, write, at, 108, 97, 107, 101);
         let b = bytes::emit2(out, write, a, 95, 95);
-        return name_bytes(t, out, write, b, i + 4, n);
+        return name_bytes(t, out, write, b, i + grammar_table::NAME, n);
     }
     let a = bytes::emit(out, write, at, 60);
-    let b = name_bytes(t, out, write, a, i + 4, n);
+    let b = name_bytes(t, out, write, a, i + grammar_table::NAME, n);
     bytes::emit(out, write, b, 62)
 }

@@ -11,6 +11,7 @@ ghost use Rattle.write_text.specs.steps.Pen.{most, Penned};
 ghost use Rattle.write_text.specs.steps.Printed.{called, toned};
 use crate::bytes;
 use crate::leaves;
+use grammar_table::records;
 
 // How tight an expression is: 0 choice, 1 sequence, 2 prefix, 3 suffix, 4 primary.
 pub fn level_of(t: &[u32], x: usize) -> usize
@@ -20,11 +21,8 @@ pub fn level_of(t: &[u32], x: usize) -> usize
     if x == 0 {
         return 4;
     }
-    let op = base_words::word(
-        t,
-        grammar_table::EXPRESSIONS_AT + grammar_table::EXPRESSION_WORDS * (x - 1),
-    );
-    if op < 2 {
+    let op = records::op(t, x - 1);
+    if op < grammar_table::SEQUENCE {
         return 4;
     }
     if op == grammar_table::SEQUENCE {
@@ -33,7 +31,7 @@ pub fn level_of(t: &[u32], x: usize) -> usize
     if op == grammar_table::CHOICE {
         return 0;
     }
-    if op < 7 {
+    if op < grammar_table::AHEAD {
         return 3;
     }
     2
@@ -48,17 +46,16 @@ pub fn exp(t: &[u32], out: &mut [u8], write: bool, plain: bool, x: usize, at: us
         return bytes::emit(out, write, at, 46);
     }
     let e = x - 1;
-    let i = grammar_table::EXPRESSIONS_AT + grammar_table::EXPRESSION_WORDS * e;
-    let l = base_words::word(t, i + 1);
+    let l = records::left(t, e);
     let y = grammar_table::part(l, e);
-    let op = base_words::word(t, i);
+    let op = records::op(t, e);
     match op {
         grammar_table::TERMINAL => leaves::leaf(t, out, write, at, l),
         grammar_table::SYMBOL => leaves::symbol(t, out, write, plain, at, l),
         grammar_table::SEQUENCE => {
             let a = wrapped(t, out, write, plain, y, 1, at);
             let b = bytes::emit(out, write, a, 32);
-            let r = base_words::word(t, i + 2);
+            let r = records::right(t, e);
             let z = grammar_table::part(r, e);
             wrapped(t, out, write, plain, z, 2, b)
         }
@@ -66,7 +63,7 @@ pub fn exp(t: &[u32], out: &mut [u8], write: bool, plain: bool, x: usize, at: us
             let a = wrapped(t, out, write, plain, y, 0, at);
             let b = bytes::emit(out, write, a, 32);
             let c = bytes::emit2(out, write, b, 47, 32);
-            let r = base_words::word(t, i + 2);
+            let r = records::right(t, e);
             let z = grammar_table::part(r, e);
             wrapped(t, out, write, plain, z, 1, c)
         }

@@ -10,6 +10,7 @@ ghost use Rattle.write_rules.specs.Writing.{ruleText, text};
 ghost use Rattle.write_text.specs.steps.Pen.{most, Penned};
 ghost use Rattle.write_text.specs.steps.Printed.{called, toned};
 ghost use Rattle.write_text.specs.steps.Texts.{rulesIn, textOf, Paged};
+use grammar_table::records;
 
 // Symbol r's rule with expression x - 1 as its right side: "name, ` <- `, expression, LF".
 fn rule(t: &[u32], out: &mut [u8], write: bool, plain: bool, r: usize, x: usize, at: usize) -> usize
@@ -28,12 +29,10 @@ fn rule(t: &[u32], out: &mut [u8], write: bool, plain: bool, r: usize, x: usize,
 // Symbol r's rule, if it has one.
 fn rule_of(t: &[u32], out: &mut [u8], write: bool, plain: bool, r: usize, at: usize) -> usize
     requires { ⌜ (at ≤ most) × (r < 4294967296) ⌝ }
-    ensures { λ u. ⌜ Penned write (text (rulesIn (called plain (now (t .entry))) r (bodyIn (now (t .entry)) r ∷ []))) (now (out .entry)) at (now (out .exit)) u ⌝ }
+    ensures { λ u.
+        ⌜ Penned write (text (rulesIn (called plain (now (t .entry))) r (bodyIn (now (t .entry)) r ∷ []))) (now (out .entry)) at (now (out .exit)) u ⌝ }
 {
-    let x = base_words::word(
-        t,
-        grammar_table::SYMBOLS_AT + grammar_table::SYMBOL_WORDS * r + grammar_table::BODY,
-    );
+    let x = records::body(t, r);
     if x == 0 {
         return at;
     }
@@ -45,7 +44,7 @@ pub fn rules(t: &[u32], out: &mut [u8], write: bool, plain: bool, at: usize) -> 
     requires { ⌜ at ≤ most ⌝ }
     ensures { λ u. ⌜ Penned write (textOf plain (now (t .entry))) (now (out .entry)) at (now (out .exit)) u ⌝ }
 {
-    let n = base_words::word(t, 0);
+    let n = records::symbols(t);
     let mut r: usize = 0;
     let mut a = at;
     while r < n {

@@ -13,19 +13,20 @@ use Rattle.lake_analysis.proofs.analyse_table.Tie as tie
 use Rattle.lake_analysis.proofs.analyse_table.Reads as reads
 use Rattle.lake_analysis.proofs.analyse_table.Lts as lts
 use Rattle.lake_analysis.proofs.analyse_front.Reads as analyse-front-reads
-use Rattle.base_words.proofs.word.Reads as word-reads
+use Rattle.grammar_table.proofs.records.symbols.Reads as symbols-reads
+use Rattle.grammar_table.proofs.records.expressions.Reads as expressions-reads
 
-word-requires : tie.Need-word-requires
-word-requires c κs = search needs
+symbols-requires : tie.Need-symbols-requires
+symbols-requires c κs = search needs
 
-word-requires-2 : tie.Need-word-requires-2
-word-requires-2 c κs = search needs
+expressions-requires : tie.Need-expressions-requires
+expressions-requires c κs = search needs
 
 returns : tie.Need-returns
-returns c = λ g h p. let z : ⊥ = omega (arith, h .few-symbols, c .before .before .before .word .ensures .0) in absurd z
+returns c = λ g h p. let z : ⊥ = omega (arith, h .few-symbols, c .before .before .before .symbols .ensures .0) in absurd z
 
 returns-2 : tie.Need-returns-2
-returns-2 c = λ g h p. let z : ⊥ = omega (arith, h .few-expressions, c .before .before .word2 .ensures .0) in absurd z
+returns-2 c = λ g h p. let z : ⊥ = omega (arith, h .few-expressions, c .before .before .expressions .ensures .0) in absurd z
 
 analyse-front-requires : tie.Need-analyse-front-requires
 analyse-front-requires c κs = search needs
@@ -33,11 +34,19 @@ analyse-front-requires c κs = search needs
 returns-3 : tie.Need-returns-3
 returns-3 c = λ g h p.
     let A = c .analyse-front .last in
-    subst (λ (n : ℕ). Analysed (analysis g) (take (getD (c .before .before .before .before .before .before .before .before .before .before .before .before .before .before .before .before .args .t .now) 0 0) (A .1 .1 .1 .0)) (take n (A .1 .1 .1 .1 .0)) (take n (A .1 .1 .1 .1 .1 .0)) (take n (A .1 .1 .1 .1 .1 .1 .0)) (take n (A .1 .1 .1 .1 .1 .1 .1 .0)) (c .analyse-front .result)) (c .before .before .before .before .before .before .before .before .before .before .before .before .word2 .ensures .0)
-    (subst (λ (r : ℕ). Analysed (analysis g) (take r (A .1 .1 .1 .0)) (take (c .before .before .before .before .before .before .before .before .before .before .before .before .word2 .result) (A .1 .1 .1 .1 .0)) (take (c .before .before .before .before .before .before .before .before .before .before .before .before .word2 .result) (A .1 .1 .1 .1 .1 .0)) (take (c .before .before .before .before .before .before .before .before .before .before .before .before .word2 .result) (A .1 .1 .1 .1 .1 .1 .0)) (take (c .before .before .before .before .before .before .before .before .before .before .before .before .word2 .result) (A .1 .1 .1 .1 .1 .1 .1 .0)) (c .analyse-front .result)) (c .before .before .before .before .before .before .before .before .before .before .before .before .before .before .word .ensures .0)
-    (c .analyse-front .ensures g h p (c .before .before .before .before .before .before .before .before .before .before .before .before .word2 .ensures .0) (c .before .before .before .before .before .before .before .before .before .before .before .before .before .before .word .ensures .0)))
+    subst (λ (n : ℕ). Analysed (analysis g) (take (getD
+    (c .before .before .before .before .before .before .before .before .before .before .before .before .before .before .before .before .args .t .now) 0 0) (A .1 .1 .1 .0)) (take n
+    (A .1 .1 .1 .1 .0)) (take n (A .1 .1 .1 .1 .1 .0)) (take n (A .1 .1 .1 .1 .1 .1 .0)) (take n (A .1 .1 .1 .1 .1 .1 .1 .0)) (c .analyse-front .result))
+    (c .before .before .before .before .before .before .before .before .before .before .before .before .expressions .ensures .0)
+    (subst (λ (r : ℕ). Analysed (analysis g) (take r (A .1 .1 .1 .0)) (take (c .before .before .before .before .before .before .before .before .before .before .before .before .expressions .result)
+    (A .1 .1 .1 .1 .0)) (take (c .before .before .before .before .before .before .before .before .before .before .before .before .expressions .result) (A .1 .1 .1 .1 .1 .0)) (take
+    (c .before .before .before .before .before .before .before .before .before .before .before .before .expressions .result) (A .1 .1 .1 .1 .1 .1 .0)) (take
+    (c .before .before .before .before .before .before .before .before .before .before .before .before .expressions .result) (A .1 .1 .1 .1 .1 .1 .1 .0)) (c .analyse-front .result))
+    (c .before .before .before .before .before .before .before .before .before .before .before .before .before .before .symbols .ensures .0)
+    (c .analyse-front .ensures g h p (c .before .before .before .before .before .before .before .before .before .before .before .before .expressions .ensures .0)
+    (c .before .before .before .before .before .before .before .before .before .before .before .before .before .before .symbols .ensures .0)))
 
 pub analyse-table-spec : {M : Type 1} → statement M
 analyse-table-spec =
     tie.close
-    (tie.spec word-requires word-requires-2 returns returns-2 analyse-front-requires returns-3)
+    (tie.spec symbols-requires expressions-requires returns returns-2 analyse-front-requires returns-3)

@@ -11,27 +11,21 @@ use Rattle.lake_step_one.proofs.pass.Statement.{statement}
 use Rattle.lake_step_one.proofs.pass.Tie as tie
 use Rattle.lake_step_one.proofs.pass.Reads as reads
 use Rattle.lake_step_one.proofs.pass.Lts as lts
+use Rattle.grammar_table.proofs.records.body.Reads as body-reads
 use Rattle.lake_step_one.proofs.next_from.Reads as next-from-reads
-use Rattle.base_words.proofs.word.Reads as word-reads
 
-mul-word : tie.Need-mul-word
-mul-word c = search needs
-
-add-word : tie.Need-add-word
-add-word c = search needs
-
-add-word-2 : tie.Need-add-word-2
-add-word-2 c = search needs
-
-word-requires : tie.Need-word-requires
-word-requires c κs = search needs
+body-requires : tie.Need-body-requires
+body-requires c κs = search needs
 
 next-from-requires : tie.Need-next-from-requires
 next-from-requires c κs = search needs
 
 returns : tie.Need-returns
-returns c = (next-lt (c .before .before .before .args .from) (c .before .word .result) (c .next-from .result) (c .next-from .ensures) (c .before .before .before .pre .1) (c .before .word .ensures .1), c .next-from .ensures ∙ ap (nextBy (c .before .before .before .args .from)) (c .before .word .ensures .0))
+returns c = (
+  next-lt (c .before .before .before .args .from) (c .before .body .result) (c .next-from .result) (c .next-from .ensures) (c .before .before .before .pre .1)
+      (c .before .body .ensures .1),
+  c .next-from .ensures ∙ ap (nextBy (c .before .before .before .args .from)) (c .before .body .ensures .0),
+)
 
 pub pass-spec : {M : Type 1} → statement M
-pass-spec =
-    tie.close (tie.spec mul-word add-word add-word-2 word-requires next-from-requires returns)
+pass-spec = tie.close (tie.spec body-requires next-from-requires returns)

@@ -10,12 +10,12 @@ use Rattle.lake_step_one.proofs.plain_body.Statement.{statement}
 use Rattle.lake_step_one.proofs.plain_body.Tie as tie
 use Rattle.lake_step_one.proofs.plain_body.Reads as reads
 use Rattle.lake_step_one.proofs.plain_body.Lts as lts
+use Rattle.grammar_table.proofs.records.store_expression.Reads as store-expression-reads
 use Rattle.lake_step_one.proofs.copy_run.Reads as copy-run-reads
-use Rattle.lake_step_one.proofs.put_part.Reads as put-part-reads
 use Rattle.lake_step_one.proofs.span.Reads as span-reads
 
-put-part-requires : tie.Need-put-part-requires
-put-part-requires c κs = search needs
+store-expression-requires : tie.Need-store-expression-requires
+store-expression-requires c κs = search needs
 
 add-result : tie.Need-add-result
 add-result c = search needs
@@ -24,7 +24,13 @@ same-length : tie.Need-same-length
 same-length c = search needs
 
 returns : tie.Need-returns
-returns c = (omega arith, λ wa wb. plain-none (c .before .before .before .before .before .before .before .args .t .now) (c .before .before .before .before .before .before .before .args .mid .now) (c .before .before .before .before .before .before .before .args .a) (c .before .before .before .before .before .before .before .args .b) wa wb (c .before .before .before .before .before .before .before .args .m) (c .before .before .put-part .last .0) (c .before .before .before .before .if1 .taken) (c .before .before .put-part .ensures))
+returns c = (
+  omega arith,
+  λ wa wb. plain-none (c .before .before .before .before .before .before .before .args .t .now) (c .before .before .before .before .before .before .before .args .mid .now)
+      (c .before .before .before .before .before .before .before .args .a) (c .before .before .before .before .before .before .before .args .b) wa wb
+      (c .before .before .before .before .before .before .before .args .m) (c .before .before .store-expression .last .0) (c .before .before .before .before .if1 .taken)
+      (c .before .before .store-expression .ensures),
+)
 
 span-requires : tie.Need-span-requires
 span-requires c κs = search needs
@@ -39,13 +45,20 @@ same-length-2 : tie.Need-same-length-2
 same-length-2 c = search needs
 
 returns-2 : tie.Need-returns-2
-returns-2 c = (omega (arith, c .before .before .before .before .span .ensures), λ wa wb. plain-some (c .before .before .before .before .before .before .before .before .args .t .now) (c .before .before .before .before .before .before .before .before .args .mid .now) (c .before .before .before .before .before .before .before .before .args .a) (c .before .before .before .before .before .before .before .before .args .b) wa wb (c .before .before .before .before .before .before .before .before .args .m) (c .before .before .copy-run .last .1 .0) (c .before .before .before .before .span .result) (c .before .before .before .before .before .if1 .left) (c .before .before .before .before .span .ensures) (c .before .before .copy-run .ensures))
+returns-2 c = (
+  omega (arith, c .before .before .before .before .span .ensures),
+  λ wa wb. plain-some (c .before .before .before .before .before .before .before .before .args .t .now)
+      (c .before .before .before .before .before .before .before .before .args .mid .now) (c .before .before .before .before .before .before .before .before .args .a)
+      (c .before .before .before .before .before .before .before .before .args .b) wa wb (c .before .before .before .before .before .before .before .before .args .m)
+      (c .before .before .copy-run .last .1 .0) (c .before .before .before .before .span .result) (c .before .before .before .before .before .if1 .left)
+      (c .before .before .before .before .span .ensures) (c .before .before .copy-run .ensures),
+)
 
 pub plain-body-spec : {M : Type 1} → statement M
 plain-body-spec =
     tie.close
     (tie.spec
-    put-part-requires
+    store-expression-requires
     add-result
     same-length
     returns

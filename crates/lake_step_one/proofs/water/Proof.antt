@@ -14,9 +14,9 @@ use Rattle.lake_step_one.proofs.water.Statement.{statement}
 use Rattle.lake_step_one.proofs.water.Tie as tie
 use Rattle.lake_step_one.proofs.water.Reads as reads
 use Rattle.lake_step_one.proofs.water.Lts as lts
+use Rattle.grammar_table.proofs.records.body.Reads as body-reads
 use Rattle.lake_step_one.proofs.is_water.Reads as is-water-reads
 use Rattle.lake_step_one.proofs.pass.Reads as pass-reads
-use Rattle.base_words.proofs.word.Reads as word-reads
 
 abbrev Inv-loop : tie.InvT-loop
 Inv-loop t r from₀ s₀ from s = (s ≤ r) × (from < 4294967296) × ((g : Grammar) → Holds t g → r ≡ symbolCount t → Sought t g s from)
@@ -30,20 +30,17 @@ loop-holds c = (omega arith, omega arith, λ g h e. sought-start (c .before .arg
 is-water-requires : tie.Need-is-water-requires Inv-loop μ-loop
 is-water-requires c κs = search needs
 
-mul-word : tie.Need-mul-word Inv-loop μ-loop
-mul-word c = search needs
-
-add-word : tie.Need-add-word Inv-loop μ-loop
-add-word c = search needs
-
-add-word-2 : tie.Need-add-word-2 Inv-loop μ-loop
-add-word-2 c = search needs
-
-word-requires : tie.Need-word-requires Inv-loop μ-loop
-word-requires c κs = search needs
+body-requires : tie.Need-body-requires Inv-loop μ-loop
+body-requires c κs = search needs
 
 returns : tie.Need-returns Inv-loop μ-loop
-returns c = (omega arith, c .word .ensures .1, λ g h e. sought-found (c .before .before .before .before .before .before .args .t .now) g h (c .before .before .before .before .loop .s) (c .before .before .before .before .loop .from) (c .word .result) (omega arith) (c .before .before .before .before .loop .inv .2 g h e) (sym (c .before .before .is-water .ensures) ∙ c .before .if1 .taken) (c .word .ensures .0))
+returns c = (
+  omega arith,
+  c .body .ensures .1,
+  λ g h e. sought-found (c .before .before .before .before .before .before .args .t .now) g h (c .before .before .before .before .loop .s)
+      (c .before .before .before .before .loop .from) (c .body .result) (omega arith) (c .before .before .before .before .loop .inv .2 g h e) (sym
+      (c .before .before .is-water .ensures) ∙ c .before .if1 .taken) (c .body .ensures .0),
+)
 
 pass-requires : tie.Need-pass-requires Inv-loop μ-loop
 pass-requires c κs = search needs
@@ -55,7 +52,13 @@ loop-less : tie.Need-loop-less Inv-loop μ-loop
 loop-less c = search needs
 
 loop-again : tie.Need-loop-again Inv-loop μ-loop
-loop-again c = (omega arith, c .pass .ensures .0, λ g h e. sought-next (c .before .before .before .before .before .before .args .t .now) g h (c .before .before .before .before .loop .s) (c .before .before .before .before .loop .from) (c .pass .result) (omega arith) (c .before .before .before .before .loop .inv .2 g h e) (sym (c .before .before .is-water .ensures) ∙ c .before .if1 .left) (c .pass .ensures .1))
+loop-again c = (
+  omega arith,
+  c .pass .ensures .0,
+  λ g h e. sought-next (c .before .before .before .before .before .before .args .t .now) g h (c .before .before .before .before .loop .s)
+      (c .before .before .before .before .loop .from) (c .pass .result) (omega arith) (c .before .before .before .before .loop .inv .2 g h e) (sym
+      (c .before .before .is-water .ensures) ∙ c .before .if1 .left) (c .pass .ensures .1),
+)
 
 returns-2 : tie.Need-returns-2 Inv-loop μ-loop
 returns-2 c = (omega arith, omega arith, λ g h e. sought-none (c .before .before .before .args .t .now) g h (c .before .loop .s) (c .before .loop .from) (omega arith) (c .before .loop .inv .2 g h e))
@@ -68,10 +71,7 @@ water-spec =
     μ-loop
     loop-holds
     is-water-requires
-    mul-word
-    add-word
-    add-word-2
-    word-requires
+    body-requires
     returns
     pass-requires
     add-s

@@ -10,22 +10,22 @@ use Rattle.lake_step_one.proofs.water_copy.Statement.{statement}
 use Rattle.lake_step_one.proofs.water_copy.Tie as tie
 use Rattle.lake_step_one.proofs.water_copy.Reads as reads
 use Rattle.lake_step_one.proofs.water_copy.Lts as lts
+use Rattle.grammar_table.proofs.records.store_expression.Reads as store-expression-reads
 use Rattle.lake_step_one.proofs.cap.Reads as cap-reads
 use Rattle.lake_step_one.proofs.copy_run.Reads as copy-run-reads
-use Rattle.lake_step_one.proofs.put_part.Reads as put-part-reads
 use Rattle.lake_step_one.proofs.span.Reads as span-reads
 
-put-part-requires : tie.Need-put-part-requires
-put-part-requires c κs = search needs
+store-expression-requires : tie.Need-store-expression-requires
+store-expression-requires c κs = search needs
 
 cap-requires : tie.Need-cap-requires
 cap-requires c κs = search needs
 
-add-put-part : tie.Need-add-put-part
-add-put-part c = search needs
+add-store-expression : tie.Need-add-store-expression
+add-store-expression c = search needs
 
-put-part-requires-2 : tie.Need-put-part-requires-2
-put-part-requires-2 c κs = search needs
+store-expression-requires-2 : tie.Need-store-expression-requires-2
+store-expression-requires-2 c κs = search needs
 
 add-result : tie.Need-add-result
 add-result c = search needs
@@ -34,7 +34,17 @@ same-length : tie.Need-same-length
 same-length c = search needs
 
 returns : tie.Need-returns
-returns c = (omega arith, water-none (c .before .before .before .before .before .before .before .before .before .before .before .before .args .t .now) (c .before .before .before .before .before .before .before .before .before .before .before .before .args .mid .now) (c .before .before .before .before .before .before .before .before .before .before .before .before .args .wa) (c .before .before .before .before .before .before .before .before .before .before .before .before .args .wb) (c .before .before .before .before .before .before .before .before .before .before .before .before .args .m) (c .before .before .before .before .before .before .before .put-part .last .0) (c .before .before .put-part2 .last .0) (c .before .before .before .before .cap .result) (c .before .before .before .before .before .before .before .before .before .if1 .taken) (c .before .before .before .before .before .before .before .put-part .ensures) (c .before .before .before .before .cap .ensures .1) (c .before .before .put-part2 .ensures))
+returns c = (
+  omega arith,
+  water-none (c .before .before .before .before .before .before .before .before .before .before .before .before .args .t .now)
+      (c .before .before .before .before .before .before .before .before .before .before .before .before .args .mid .now)
+      (c .before .before .before .before .before .before .before .before .before .before .before .before .args .wa)
+      (c .before .before .before .before .before .before .before .before .before .before .before .before .args .wb)
+      (c .before .before .before .before .before .before .before .before .before .before .before .before .args .m)
+      (c .before .before .before .before .before .before .before .store-expression .last .0) (c .before .before .store-expression2 .last .0) (c .before .before .before .before .cap .result)
+      (c .before .before .before .before .before .before .before .before .before .if1 .taken) (c .before .before .before .before .before .before .before .store-expression .ensures)
+      (c .before .before .before .before .cap .ensures .1) (c .before .before .store-expression2 .ensures),
+)
 
 span-requires : tie.Need-span-requires
 span-requires c κs = search needs
@@ -49,16 +59,23 @@ same-length-2 : tie.Need-same-length-2
 same-length-2 c = search needs
 
 returns-2 : tie.Need-returns-2
-returns-2 c = (omega (arith, c .before .before .before .before .span .ensures), water-some (c .before .before .before .before .before .before .before .before .args .t .now) (c .before .before .before .before .before .before .before .before .args .mid .now) (c .before .before .before .before .before .before .before .before .args .wa) (c .before .before .before .before .before .before .before .before .args .wb) (c .before .before .before .before .before .before .before .before .args .m) (c .before .before .copy-run .last .1 .0) (c .before .before .before .before .span .result) (c .before .before .before .before .before .if1 .left) (c .before .before .before .before .span .ensures) (c .before .before .copy-run .ensures))
+returns-2 c = (
+  omega (arith, c .before .before .before .before .span .ensures),
+  water-some (c .before .before .before .before .before .before .before .before .args .t .now)
+      (c .before .before .before .before .before .before .before .before .args .mid .now) (c .before .before .before .before .before .before .before .before .args .wa)
+      (c .before .before .before .before .before .before .before .before .args .wb) (c .before .before .before .before .before .before .before .before .args .m)
+      (c .before .before .copy-run .last .1 .0) (c .before .before .before .before .span .result) (c .before .before .before .before .before .if1 .left)
+      (c .before .before .before .before .span .ensures) (c .before .before .copy-run .ensures),
+)
 
 pub water-copy-spec : {M : Type 1} → statement M
 water-copy-spec =
     tie.close
     (tie.spec
-    put-part-requires
+    store-expression-requires
     cap-requires
-    add-put-part
-    put-part-requires-2
+    add-store-expression
+    store-expression-requires-2
     add-result
     same-length
     returns

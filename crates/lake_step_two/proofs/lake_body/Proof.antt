@@ -7,13 +7,13 @@ use lib.ListN.{length, getD, set, take}
 use lib.Dec.{eqb}
 use Rattle.lake_step_two.specs.laws.Skips.{plain-lake}
 use borrow.Author.Needs.{needs}
+use Rattle.grammar_table.proofs.records.store_expression.Reads as store-expression-reads
 use Rattle.lake_step_two.proofs.lake_body.Statement.{statement}
 use Rattle.lake_step_two.proofs.lake_body.Tie as tie
 use Rattle.lake_step_two.proofs.lake_body.Reads as reads
 use Rattle.lake_step_two.proofs.lake_body.Lts as lts
 use Rattle.lake_step_one.proofs.cap.Reads as cap-reads
 use Rattle.lake_step_one.proofs.copy_run.Reads as copy-run-reads
-use Rattle.lake_step_one.proofs.put_part.Reads as put-part-reads
 use Rattle.lake_step_one.proofs.span.Reads as span-reads
 use Rattle.lake_step_two.proofs.skip.Reads as skip-reads
 
@@ -41,8 +41,8 @@ span-requires-3 c κs = search needs
 cap-requires-2 : tie.Need-cap-requires-2
 cap-requires-2 c κs = search needs
 
-put-part-requires : tie.Need-put-part-requires
-put-part-requires c κs = search needs
+store-expression-requires : tie.Need-store-expression-requires
+store-expression-requires c κs = search needs
 
 add-result : tie.Need-add-result
 add-result c = search needs
@@ -51,7 +51,33 @@ same-length : tie.Need-same-length
 same-length c = search needs
 
 returns : tie.Need-returns
-returns c = (omega (arith, c .before .before .before .before .before .before .before .before .before .before .before .before .before .before .before .before .span .ensures, c .before .before .before .before .before .before .before .before .before .before .skip .ensures .0), plain-lake (c .before .before .before .before .before .before .before .before .before .before .before .before .before .before .before .before .before .before .before .args .t .now) (c .before .before .before .before .before .before .before .before .before .before .before .before .before .before .before .before .before .before .before .args .s) (c .before .before .before .before .before .before .before .before .before .before .before .before .before .before .before .before .before .before .before .args .r) (c .before .before .before .before .before .before .before .before .before .before .before .before .before .before .before .before .before .before .before .args .x) (c .before .before .before .before .before .before .before .before .before .before .before .before .before .before .before .before .before .before .before .args .a) (c .before .before .before .before .before .before .before .before .before .before .before .before .before .before .before .before .before .before .before .args .b) (c .before .before .before .before .before .before .before .before .before .before .before .before .before .before .before .before .before .before .before .args .m) (c .before .before .before .before .before .before .before .before .before .before .before .before .before .before .before .before .span .result) (c .before .before .before .before .before .before .before .before .before .before .before .before .before .before .before .before .before .before .before .args .out .now) (c .before .before .before .before .before .before .before .before .before .before .before .before .before .before .copy-run .last .1 .0) (c .before .before .before .before .before .before .before .before .before .before .before .before .before .before .before .before .span .ensures) (c .before .before .before .before .before .before .before .before .before .before .before .before .before .before .copy-run .ensures) (c .before .before .before .before .before .before .before .before .before .before .skip .last .1 .0) (c .before .before .put-part .last .0) (c .before .before .before .before .before .before .before .before .before .before .skip .result) (c .before .before .before .before .before .before .cap .result) (c .before .before .before .before .cap2 .result) (c .before .before .before .before .before .before .before .before .before .before .skip .ensures .1) (λ h. c .before .before .before .before .before .before .cap .ensures .1 (omega (arith, c .before .before .before .before .before .before .before .span2 .ensures)) ∙ c .before .before .before .before .before .before .before .span2 .ensures) (λ h. c .before .before .before .before .cap2 .ensures .1 (omega (arith, c .before .before .before .before .before .span3 .ensures)) ∙ c .before .before .before .before .before .span3 .ensures) (c .before .before .put-part .ensures))
+returns c = (
+  omega (
+    arith,
+    c .before .before .before .before .before .before .before .before .before .before .before .before .before .before .before .before .span .ensures,
+    c .before .before .before .before .before .before .before .before .before .before .skip .ensures .0,
+  ),
+  plain-lake
+      (c .before .before .before .before .before .before .before .before .before .before .before .before .before .before .before .before .before .before .before .args .t .now)
+      (c .before .before .before .before .before .before .before .before .before .before .before .before .before .before .before .before .before .before .before .args .s)
+      (c .before .before .before .before .before .before .before .before .before .before .before .before .before .before .before .before .before .before .before .args .r)
+      (c .before .before .before .before .before .before .before .before .before .before .before .before .before .before .before .before .before .before .before .args .x)
+      (c .before .before .before .before .before .before .before .before .before .before .before .before .before .before .before .before .before .before .before .args .a)
+      (c .before .before .before .before .before .before .before .before .before .before .before .before .before .before .before .before .before .before .before .args .b)
+      (c .before .before .before .before .before .before .before .before .before .before .before .before .before .before .before .before .before .before .before .args .m)
+      (c .before .before .before .before .before .before .before .before .before .before .before .before .before .before .before .before .span .result)
+      (c .before .before .before .before .before .before .before .before .before .before .before .before .before .before .before .before .before .before .before .args .out .now)
+      (c .before .before .before .before .before .before .before .before .before .before .before .before .before .before .copy-run .last .1 .0)
+      (c .before .before .before .before .before .before .before .before .before .before .before .before .before .before .before .before .span .ensures)
+      (c .before .before .before .before .before .before .before .before .before .before .before .before .before .before .copy-run .ensures)
+      (c .before .before .before .before .before .before .before .before .before .before .skip .last .1 .0) (c .before .before .store-expression .last .0)
+      (c .before .before .before .before .before .before .before .before .before .before .skip .result) (c .before .before .before .before .before .before .cap .result)
+      (c .before .before .before .before .cap2 .result) (c .before .before .before .before .before .before .before .before .before .before .skip .ensures .1)
+      (λ h. c .before .before .before .before .before .before .cap .ensures .1 (omega
+      (arith, c .before .before .before .before .before .before .before .span2 .ensures)) ∙ c .before .before .before .before .before .before .before .span2 .ensures)
+      (λ h. c .before .before .before .before .cap2 .ensures .1 (omega
+      (arith, c .before .before .before .before .before .span3 .ensures)) ∙ c .before .before .before .before .before .span3 .ensures) (c .before .before .store-expression .ensures),
+)
 
 pub lake-body-spec : {M : Type 1} → statement M
 lake-body-spec =
@@ -65,7 +91,7 @@ lake-body-spec =
     cap-requires
     span-requires-3
     cap-requires-2
-    put-part-requires
+    store-expression-requires
     add-result
     same-length
     returns)

@@ -15,19 +15,20 @@ use Rattle.lake_step_one.proofs.cap.Reads as cap-reads
 use Rattle.lake_step_one.proofs.copy_low.Reads as copy-low-reads
 use Rattle.lake_step_two.proofs.build.Reads as build-reads
 use Rattle.base_words.proofs.put.Reads as put-reads
-use Rattle.base_words.proofs.word.Reads as word-reads
+use Rattle.grammar_table.proofs.records.symbols.Reads as symbols-reads
+use Rattle.grammar_table.proofs.records.terminals.Reads as terminals-reads
 
-word-requires : tie.Need-word-requires
-word-requires c κs = search needs
+symbols-requires : tie.Need-symbols-requires
+symbols-requires c κs = search needs
 
-word-requires-2 : tie.Need-word-requires-2
-word-requires-2 c κs = search needs
+terminals-requires : tie.Need-terminals-requires
+terminals-requires c κs = search needs
 
 returns : tie.Need-returns
-returns c = λ g a s. let n : ⊥ = omega (arith, a .holds .few-symbols, c .before .before .before .word .ensures .0) in absurd n
+returns c = λ g a s. let n : ⊥ = omega (arith, a .holds .few-symbols, c .before .before .before .symbols .ensures .0) in absurd n
 
 returns-2 : tie.Need-returns-2
-returns-2 c = λ g a s. let n : ⊥ = omega (arith, a .holds .few-terminals, c .before .before .word2 .ensures .0) in absurd n
+returns-2 c = λ g a s. let n : ⊥ = omega (arith, a .holds .few-terminals, c .before .before .terminals .ensures .0) in absurd n
 
 copy-low-requires : tie.Need-copy-low-requires
 copy-low-requires c κs = search needs
@@ -42,17 +43,36 @@ put-requires : tie.Need-put-requires
 put-requires c κs = search needs
 
 returns-3 : tie.Need-returns-3
-returns-3 c = stepped (c .before .before .before .before .before .before .before .before .before .before .before .before .before .before .before .before .before .args .t .now) (c .before .before .before .before .before .before .before .before .before .before .before .before .before .before .before .before .before .args .alts .now) (c .before .before .before .before .before .before .before .before .before .before .before .before .before .before .before .before .before .args .out .now) (c .before .before .before .before .before .before .before .before .copy-low .last .1 .0) (c .before .before .before .before .build .last .1 .1 .0) (c .before .put .last .0) (c .before .before .before .before .before .before .before .before .before .before .before .before .before .before .before .word .result) (c .before .before .before .before .before .before .before .before .before .before .before .before .before .word2 .result) (c .before .before .before .before .build .result) (c .before .before .cap .result) 1025 (c .before .before .before .before .before .before .before .before .before .before .before .before .before .before .before .word .ensures .0) (c .before .before .before .before .before .before .before .before .before .before .before .before .before .word2 .ensures .0) (omega arith) (omega (arith, c .before .before .before .before .before .before .before .before .copy-low .kept)) (c .before .before .before .before .before .before .before .before .copy-low .ensures) (c .before .before .before .before .build .ensures) (c .before .before .cap .ensures .1) (c .before .put .ensures) (omega arith)
+returns-3 c = stepped (c .before .before .before .before .before .before .before .before .before .before .before .before .before .before .before .before .before .args .t .now)
+    (c .before .before .before .before .before .before .before .before .before .before .before .before .before .before .before .before .before .args .alts .now)
+    (c .before .before .before .before .before .before .before .before .before .before .before .before .before .before .before .before .before .args .out .now)
+    (c .before .before .before .before .before .before .before .before .copy-low .last .1 .0) (c .before .before .before .before .build .last .1 .1 .0) (c .before .put .last .0)
+    (c .before .before .before .before .before .before .before .before .before .before .before .before .before .before .before .symbols .result)
+    (c .before .before .before .before .before .before .before .before .before .before .before .before .before .terminals .result) (c .before .before .before .before .build .result)
+    (c .before .before .cap .result) 1025 (c .before .before .before .before .before .before .before .before .before .before .before .before .before .before .before .symbols .ensures .0)
+    (c .before .before .before .before .before .before .before .before .before .before .before .before .before .terminals .ensures .0) (omega arith) (omega
+    (arith, c .before .before .before .before .before .before .before .before .copy-low .kept)) (c .before .before .before .before .before .before .before .before .copy-low .ensures)
+    (c .before .before .before .before .build .ensures) (c .before .before .cap .ensures .1) (c .before .put .ensures) (omega arith)
 
 returns-4 : tie.Need-returns-4
-returns-4 c = stepped (c .before .before .before .before .before .before .before .before .before .before .before .before .before .before .before .before .before .args .t .now) (c .before .before .before .before .before .before .before .before .before .before .before .before .before .before .before .before .before .args .alts .now) (c .before .before .before .before .before .before .before .before .before .before .before .before .before .before .before .before .before .args .out .now) (c .before .before .before .before .before .before .before .before .copy-low .last .1 .0) (c .before .before .before .before .build .last .1 .1 .0) (c .before .put .last .0) (c .before .before .before .before .before .before .before .before .before .before .before .before .before .before .before .word .result) (c .before .before .before .before .before .before .before .before .before .before .before .before .before .word2 .result) (c .before .before .before .before .build .result) (c .before .before .cap .result) (c .before .before .before .before .build .result) (c .before .before .before .before .before .before .before .before .before .before .before .before .before .before .before .word .ensures .0) (c .before .before .before .before .before .before .before .before .before .before .before .before .before .word2 .ensures .0) (omega arith) (omega (arith, c .before .before .before .before .before .before .before .before .copy-low .kept)) (c .before .before .before .before .before .before .before .before .copy-low .ensures) (c .before .before .before .before .build .ensures) (c .before .before .cap .ensures .1) (c .before .put .ensures) (omega arith)
+returns-4 c = stepped (c .before .before .before .before .before .before .before .before .before .before .before .before .before .before .before .before .before .args .t .now)
+    (c .before .before .before .before .before .before .before .before .before .before .before .before .before .before .before .before .before .args .alts .now)
+    (c .before .before .before .before .before .before .before .before .before .before .before .before .before .before .before .before .before .args .out .now)
+    (c .before .before .before .before .before .before .before .before .copy-low .last .1 .0) (c .before .before .before .before .build .last .1 .1 .0) (c .before .put .last .0)
+    (c .before .before .before .before .before .before .before .before .before .before .before .before .before .before .before .symbols .result)
+    (c .before .before .before .before .before .before .before .before .before .before .before .before .before .terminals .result) (c .before .before .before .before .build .result)
+    (c .before .before .cap .result) (c .before .before .before .before .build .result)
+    (c .before .before .before .before .before .before .before .before .before .before .before .before .before .before .before .symbols .ensures .0)
+    (c .before .before .before .before .before .before .before .before .before .before .before .before .before .terminals .ensures .0) (omega arith) (omega
+    (arith, c .before .before .before .before .before .before .before .before .copy-low .kept)) (c .before .before .before .before .before .before .before .before .copy-low .ensures)
+    (c .before .before .before .before .build .ensures) (c .before .before .cap .ensures .1) (c .before .put .ensures) (omega arith)
 
 pub step-two-spec : {M : Type 1} → statement M
 step-two-spec =
     tie.close
     (tie.spec
-    word-requires
-    word-requires-2
+    symbols-requires
+    terminals-requires
     returns
     returns-2
     copy-low-requires

@@ -20,24 +20,16 @@ use Rattle.lake_step_one.proofs.cap.Reads as cap-reads
 use Rattle.lake_step_one.proofs.next_from.Reads as next-from-reads
 use Rattle.lake_step_one.proofs.span.Reads as span-reads
 use Rattle.lake_sets.proofs.set_at.Reads as set-at-reads
+use Rattle.grammar_table.proofs.records.body.Reads as records-body-reads
 use Rattle.lake_step_two.proofs.body.Reads as body-reads
-use Rattle.base_words.proofs.put.Reads as put-reads
-use Rattle.base_words.proofs.word.Reads as word-reads
+use Rattle.grammar_table.proofs.records.kind.Reads as kind-reads
+use Rattle.grammar_table.proofs.records.store_body.Reads as store-body-reads
 
-mul-at : tie.Need-mul-at
-mul-at c = search needs
+kind-requires : tie.Need-kind-requires
+kind-requires c κs = search needs
 
-add-at : tie.Need-add-at
-add-at c = search needs
-
-word-requires : tie.Need-word-requires
-word-requires c κs = search needs
-
-add-word : tie.Need-add-word
-add-word c = search needs
-
-word-requires-2 : tie.Need-word-requires-2
-word-requires-2 c κs = search needs
+body-requires : tie.Need-body-requires
+body-requires c κs = search needs
 
 span-requires : tie.Need-span-requires
 span-requires c κs = search needs
@@ -45,17 +37,14 @@ span-requires c κs = search needs
 set-at-requires : tie.Need-set-at-requires
 set-at-requires c κs = search needs
 
-body-requires : tie.Need-body-requires
-body-requires c κs = search needs
-
-add-put : tie.Need-add-put
-add-put c = search needs
+body-requires-2 : tie.Need-body-requires-2
+body-requires-2 c κs = search needs
 
 cap-requires : tie.Need-cap-requires
 cap-requires c κs = search needs
 
-put-requires : tie.Need-put-requires
-put-requires c κs = search needs
+store-body-requires : tie.Need-store-body-requires
+store-body-requires c κs = search needs
 
 next-from-requires : tie.Need-next-from-requires
 next-from-requires c κs = search needs
@@ -65,30 +54,56 @@ same-length c = search needs
 
 returns : tie.Need-returns
 returns c = (
-  next-lt (c .before .before .before .before .before .before .before .before .before .before .before .before .before .before .before .before .args .from) (c .before .before .before .before .before .before .before .before .before .before .before .before .word2 .result) (c .next-from .result) (c .next-from .ensures) (c .before .before .before .before .before .before .before .before .before .before .before .before .before .before .before .before .pre .3) (c .before .before .before .before .before .before .before .before .before .before .before .before .word2 .ensures .1),
-  c .before .before .before .before .before .before .before .before .body .ensures .0,
-  λ g a er ex l old. subst (λ (f : ℕ). PlainMade (c .before .before .before .before .before .before .before .before .before .before .before .before .before .before .before .before .args .t .now) g (c .before .before .before .before .before .before .before .before .before .before .before .before .before .before .before .before .args .s + 1) f (c .before .before .before .before .before .before .before .before .body .result) (c .before .before .before .put .last .0)) (sym (c .next-from .ensures))
-      (plain-next (c .before .before .before .before .before .before .before .before .before .before .before .before .before .before .before .before .args .t .now) (c .before .before .before .before .before .before .before .before .before .before .before .before .before .before .before .before .args .alts .now) (c .before .before .before .before .before .before .before .before .before .before .before .before .before .before .before .before .args .r) (c .before .before .before .before .before .before .before .before .before .before .before .before .before .before .before .before .args .x) (c .before .before .before .before .before .before .before .before .before .before .before .before .before .before .before .before .args .s) (c .before .before .before .before .before .before .before .before .before .before .before .before .before .before .before .before .args .from) (c .before .before .before .before .before .before .before .before .before .before .before .before .before .before .before .before .args .m) (c .before .before .before .before .before .before .before .before .before .before .before .before .word2 .result) (c .before .before .before .before .before .before .before .before .body .result) (c .before .before .before .before .cap .result) (c .before .before .before .before .before .before .before .before .before .before .set-at .result) (c .before .before .before .before .before .before .before .before .before .before .before .before .before .before .before .before .args .out .now) (c .before .before .before .before .before .before .before .before .body .last .1 .0) (c .before .before .before .put .last .0) (c .before .before .before .before .before .before .before .before .before .before .before .before .before .before .before .before .pre .2) (c .before .before .before .before .before .before .before .before .before .before .before .before .word2 .ensures .0)
-      (c .before .before .before .before .before .before .before .before .before .before .set-at .ensures ∙ ap (λ (i : ℕ). getD (c .before .before .before .before .before .before .before .before .before .before .before .before .before .before .before .before .args .alts .now) i empty) (c .before .before .before .before .before .before .before .before .before .before .before .span .ensures))
-      (subst (λ (k : Bool). PlainTo (c .before .before .before .before .before .before .before .before .before .before .before .before .before .before .before .before .args .t .now) k (c .before .before .before .before .before .before .before .before .before .before .set-at .result) (c .before .before .before .before .before .before .before .before .before .before .before .before .before .before .before .before .args .r) (c .before .before .before .before .before .before .before .before .before .before .before .before .before .before .before .before .args .x) (c .before .before .before .before .before .before .before .before .before .before .before .before .before .before .before .before .args .from) (c .before .before .before .before .before .before .before .before .before .before .before .before .word2 .result) (c .before .before .before .before .before .before .before .before .before .before .before .before .before .before .before .before .args .out .now) (c .before .before .before .before .before .before .before .before .before .before .before .before .before .before .before .before .args .m) (c .before .before .before .before .before .before .before .before .body .last .1 .0) (c .before .before .before .before .before .before .before .before .body .result)) (ap (λ (k : ℕ). not (eqb k 0)) (c .before .before .before .before .before .before .before .before .before .before .before .before .before .word .ensures .0 ∙ ap (λ (i : ℕ). getD (c .before .before .before .before .before .before .before .before .before .before .before .before .before .before .before .before .args .t .now) i 0) (let q : symbolsAt + symbolWords * c .before .before .before .before .before .before .before .before .before .before .before .before .before .before .before .before .args .s ≡ symbolsAt + symbolWords * c .before .before .before .before .before .before .before .before .before .before .before .before .before .before .before .before .args .s + 0 = omega arith in q))) (c .before .before .before .before .before .before .before .before .body .ensures .1))
-      (c .before .before .before .before .cap .ensures .1) (c .before .before .before .put .ensures) g a er ex l old),
+  next-lt (c .before .before .before .before .before .before .before .before .before .before .before .before .before .before .before .before .args .from)
+      (c .before .before .before .before .before .before .before .before .before .before .before .before .body .result) (c .next-from .result) (c .next-from .ensures)
+      (c .before .before .before .before .before .before .before .before .before .before .before .before .before .before .before .before .pre .3)
+      (c .before .before .before .before .before .before .before .before .before .before .before .before .body .ensures .1),
+  c .before .before .before .before .before .before .before .before .body2 .ensures .0,
+  λ g a er ex l old. subst (λ (f : ℕ). PlainMade (c .before .before .before .before .before .before .before .before .before .before .before .before .before .before .before .before .args .t .now) g
+      (c .before .before .before .before .before .before .before .before .before .before .before .before .before .before .before .before .args .s + 1) f
+      (c .before .before .before .before .before .before .before .before .body2 .result) (c .before .before .before .store-body .last .0)) (sym (c .next-from .ensures))
+      (plain-next (c .before .before .before .before .before .before .before .before .before .before .before .before .before .before .before .before .args .t .now)
+      (c .before .before .before .before .before .before .before .before .before .before .before .before .before .before .before .before .args .alts .now)
+      (c .before .before .before .before .before .before .before .before .before .before .before .before .before .before .before .before .args .r)
+      (c .before .before .before .before .before .before .before .before .before .before .before .before .before .before .before .before .args .x)
+      (c .before .before .before .before .before .before .before .before .before .before .before .before .before .before .before .before .args .s)
+      (c .before .before .before .before .before .before .before .before .before .before .before .before .before .before .before .before .args .from)
+      (c .before .before .before .before .before .before .before .before .before .before .before .before .before .before .before .before .args .m)
+      (c .before .before .before .before .before .before .before .before .before .before .before .before .body .result)
+      (c .before .before .before .before .before .before .before .before .body2 .result) (c .before .before .before .before .cap .result)
+      (c .before .before .before .before .before .before .before .before .before .before .set-at .result)
+      (c .before .before .before .before .before .before .before .before .before .before .before .before .before .before .before .before .args .out .now)
+      (c .before .before .before .before .before .before .before .before .body2 .last .1 .0) (c .before .before .before .store-body .last .0)
+      (c .before .before .before .before .before .before .before .before .before .before .before .before .before .before .before .before .pre .2)
+      (c .before .before .before .before .before .before .before .before .before .before .before .before .body .ensures .0)
+      (c .before .before .before .before .before .before .before .before .before .before .set-at .ensures ∙ ap (λ (i : ℕ). getD
+      (c .before .before .before .before .before .before .before .before .before .before .before .before .before .before .before .before .args .alts .now) i empty)
+      (c .before .before .before .before .before .before .before .before .before .before .before .span .ensures))
+      (subst (λ (k : Bool). PlainTo (c .before .before .before .before .before .before .before .before .before .before .before .before .before .before .before .before .args .t .now) k
+      (c .before .before .before .before .before .before .before .before .before .before .set-at .result)
+      (c .before .before .before .before .before .before .before .before .before .before .before .before .before .before .before .before .args .r)
+      (c .before .before .before .before .before .before .before .before .before .before .before .before .before .before .before .before .args .x)
+      (c .before .before .before .before .before .before .before .before .before .before .before .before .before .before .before .before .args .from)
+      (c .before .before .before .before .before .before .before .before .before .before .before .before .body .result)
+      (c .before .before .before .before .before .before .before .before .before .before .before .before .before .before .before .before .args .out .now)
+      (c .before .before .before .before .before .before .before .before .before .before .before .before .before .before .before .before .args .m)
+      (c .before .before .before .before .before .before .before .before .body2 .last .1 .0) (c .before .before .before .before .before .before .before .before .body2 .result)) (ap (λ
+      (k : ℕ). not (eqb k 0)) (c .before .before .before .before .before .before .before .before .before .before .before .before .before .kind .ensures .0))
+      (c .before .before .before .before .before .before .before .before .body2 .ensures .1))
+      (c .before .before .before .before .cap .ensures .1) (c .before .before .before .store-body .ensures) g a er ex l old),
 )
 
 pub symbol-spec : {M : Type 1} → statement M
 symbol-spec =
     tie.close
     (tie.spec
-    mul-at
-    add-at
-    word-requires
-    add-word
-    word-requires-2
+    kind-requires
+    body-requires
     span-requires
     set-at-requires
-    body-requires
-    add-put
+    body-requires-2
     cap-requires
-    put-requires
+    store-body-requires
     next-from-requires
     same-length
     returns)

@@ -16,7 +16,7 @@ use Rattle.grammar.specs.Exp.{Exp, sym, ter}
 use Rattle.grammar.specs.Lakes.{waterOf}
 use Rattle.grammar.specs.Same.{sameSymbol, indexOf}
 use Rattle.grammar.specs.Numbers.{Grammar, isLake}
-use Rattle.grammar_table.specs.Table.{symbolsAt, symbolWords, upTo, symbolCount, terminalCount, symbolWord, symbolBy, nameIn, leafIn, bodyBy, bodyIn, grammarIn, treeAt}
+use Rattle.grammar_table.specs.Table.{upTo, symbolCount, terminalCount, symbolWord, symbolBy, nameIn, leafIn, bodyBy, bodyIn, grammarIn, treeAt}
 use Rattle.grammar_table.specs.laws.Lists.{up-length, up-at}
 use Rattle.base_words.specs.Set.{memberOf}
 use Rattle.lake_step_one.specs.Intermediate.{waterName, waterIn}
@@ -105,11 +105,9 @@ and-assoc : (a b c : Bool) → (a && (b && c)) ≡ ((a && b) && c)
 and-assoc true b c = refl
 and-assoc false b c = refl
 
-pub lake-name : (t : List ℕ) (i k : ℕ) → k ≡ getD t (symbolsAt + symbolWords * i) 0 → not (eqb k 0) ≡ isLake (nameIn t i)
+pub lake-name : (t : List ℕ) (i k : ℕ) → k ≡ symbolWord t i 0 → not (eqb k 0) ≡ isLake (nameIn t i)
 unfolding nameIn
-lake-name t i k e =
-    let z : symbolsAt + symbolWords * i ≡ symbolsAt + symbolWords * i + 0 = omega arith in
-    ap (λ (x : ℕ). not (eqb x 0)) (e ∙ ap (λ (j : ℕ). getD t j 0) z) ∙ go (symbolWord t i 0) _
+lake-name t i k e = ap (λ (x : ℕ). not (eqb x 0)) e ∙ go (symbolWord t i 0) _
   where
     go : (x : ℕ) (w : List ℕ) → not (eqb x 0) ≡ isLake (symbolBy x w)
     go zero w = refl
@@ -175,7 +173,7 @@ module _ (t s cs : List ℕ) (n : ℕ) (set : List ℕ) (i p : ℕ) where
   pub symbol-not : memberOf set i ≡ false → true ≡ symbolFails s cs n set i (nameIn t i) p
   symbol-not e = ap (λ (b : Bool). cond (b && not (isLake (nameIn t i))) (eqb (ev s cs n (sym i) p) 0) true) (flip e)
 
-  module _ (e : memberOf set i ≡ true) (k : ℕ) (word : k ≡ getD t (symbolsAt + symbolWords * i) 0) where
+  module _ (e : memberOf set i ≡ true) (k : ℕ) (word : k ≡ symbolWord t i 0) where
     by-lake : (b : Bool) → not (eqb k 0) ≡ b → cond (not b) (eqb (ev s cs n (sym i) p) 0) true ≡ symbolFails s cs n set i (nameIn t i) p
     by-lake b h =
         ap (λ (c : Bool). cond (not c) (eqb (ev s cs n (sym i) p) 0) true) (flip h ∙ lake-name t i k word)

@@ -35,7 +35,7 @@ use Rattle.read_grammar.proofs.parts.prefix_op.Reads as prefix-op-reads
 use Rattle.read_grammar.proofs.suffix.Reads as suffix-reads
 use Rattle.read_grammar.proofs.terminal.Reads as terminal-reads
 use Rattle.read_tokens.proofs.token_at.Reads as token-at-reads
-use Rattle.base_words.proofs.word.Reads as word-reads
+use Rattle.grammar_table.proofs.records.expressions.Reads as expressions-reads
 use Rattle.read_grammar.proofs.+choice+prefix+primary+sequence.{statement}
 use Rattle.read_grammar.proofs.+choice+prefix+primary+sequence.Tie.{close}
 
@@ -77,16 +77,38 @@ sequence-below t =
     and 2 sequence-kinds.ps (falls 2 sequence-kinds.ps _<_ μ-sequence t) sequence.Pre
 
 abbrev choice-claims : ℕ → choice-lts.Claims
-choice-claims t = (sequence-below t, sequence.Post, token-at-reads.Asked, token-at-reads.Learnt, word-reads.Asked, word-reads.Learnt, add-pair-reads.Asked, add-pair-reads.Learnt)
+choice-claims t = (sequence-below t, sequence.Post, token-at-reads.Asked, token-at-reads.Learnt, expressions-reads.Asked, expressions-reads.Learnt, add-pair-reads.Asked, add-pair-reads.Learnt)
 
 abbrev prefix-claims : ℕ → prefix-lts.Claims
-prefix-claims t = (token-at-reads.Asked, token-at-reads.Learnt, prefix-op-reads.Asked, prefix-op-reads.Learnt, primary-below t, primary.Post, suffix-reads.Asked, suffix-reads.Learnt, add-over-reads.Asked, add-over-reads.Learnt)
+prefix-claims t = (
+  token-at-reads.Asked,
+  token-at-reads.Learnt,
+  prefix-op-reads.Asked,
+  prefix-op-reads.Learnt,
+  primary-below t,
+  primary.Post,
+  suffix-reads.Asked,
+  suffix-reads.Learnt,
+  add-over-reads.Asked,
+  add-over-reads.Learnt,
+)
 
 abbrev primary-claims : ℕ → primary-lts.Claims
-primary-claims t = (token-at-reads.Asked, token-at-reads.Learnt, occurrence-reads.Asked, occurrence-reads.Learnt, terminal-reads.Asked, terminal-reads.Learnt, choice-below t, choice.Post, over-reads.Asked, over-reads.Learnt)
+primary-claims t = (
+  token-at-reads.Asked,
+  token-at-reads.Learnt,
+  occurrence-reads.Asked,
+  occurrence-reads.Learnt,
+  terminal-reads.Asked,
+  terminal-reads.Learnt,
+  choice-below t,
+  choice.Post,
+  over-reads.Asked,
+  over-reads.Learnt,
+)
 
 abbrev sequence-claims : ℕ → sequence-lts.Claims
-sequence-claims t = (prefix-below t, prefix.Post, begins-at-reads.Asked, begins-at-reads.Learnt, word-reads.Asked, word-reads.Learnt, add-pair-reads.Asked, add-pair-reads.Learnt)
+sequence-claims t = (prefix-below t, prefix.Post, begins-at-reads.Asked, begins-at-reads.Learnt, expressions-reads.Asked, expressions-reads.Learnt, add-pair-reads.Asked, add-pair-reads.Learnt)
 
 abbrev choice-Inv-loop : choice-lts.InvT-loop
 choice-Inv-loop mode text at t₀ i₀ t i = (i₀ ≤ i) × (i ≤ length text) × (length t ≡ length t₀) × LoopC mode text i₀ t₀ i t
@@ -107,22 +129,91 @@ choice-same-length : (t : ℕ) → choice-lts.Need-same-length (choice-claims t)
 choice-same-length t c = c .before .before .loop .inv .2 ∙ c .before .before .before .before .before .sequence .kept .1 .1 .1 .0
 
 choice-returns : (t : ℕ) → choice-lts.Need-returns (choice-claims t) (choice-at t) choice.Post choice-Inv-loop choice-μ-loop
-choice-returns t c = end-c (c .before .before .before .before .before .sequence .ensures) (c .before .before .loop .inv .3) (c .before .before .loop .inv .0) (c .before .before .loop .inv .1) (λ e. c .if1 .taken (kind-there (c .before .before .before .before .before .before .before .before .before .args .mode) (c .before .before .before .before .before .before .before .before .before .args .text .now) (c .before .before .loop .i) (c .before .token-at .result) (c .before .token-at .ensures) ∙ e))
+choice-returns t c = end-c (c .before .before .before .before .before .sequence .ensures) (c .before .before .loop .inv .3) (c .before .before .loop .inv .0) (c .before .before .loop .inv .1)
+    (λ e. c .if1 .taken (kind-there (c .before .before .before .before .before .before .before .before .before .args .mode)
+    (c .before .before .before .before .before .before .before .before .before .args .text .now) (c .before .before .loop .i) (c .before .token-at .result) (c .before .token-at .ensures) ∙ e))
 
-choice-word-requires : (t : ℕ) → choice-lts.Need-word-requires (choice-claims t) (choice-at t) choice.Post choice-Inv-loop choice-μ-loop
-choice-word-requires t c κs = search needs
+choice-expressions-requires : (t : ℕ) → choice-lts.Need-expressions-requires (choice-claims t) (choice-at t) choice.Post choice-Inv-loop choice-μ-loop
+choice-expressions-requires t c κs = search needs
 
 choice-sequence-requires-2 : (t : ℕ) → choice-lts.Need-sequence-requires-2 (choice-claims t) (choice-at t) choice.Post choice-Inv-loop choice-μ-loop
-choice-sequence-requires-2 t c κs = (omega (arith, c .before .before .before .before .before .before .before .before .before .before .before .before .pre .0, c .before .before .before .before .before .before .before .before .sequence .ensures .low, c .before .before .before .before .before .loop .inv .0, c .before .before .before .before .before .loop .inv .1, long-next (c .before .before .before .before .before .before .before .before .before .before .before .before .args .mode) (c .before .before .before .before .before .before .before .before .before .before .before .before .args .text .now) (c .before .before .before .before .before .loop .i) (c .before .before .before .before .token-at .result) (c .before .before .before .before .token-at .ensures) (not-zero (c .before .before .before .before .token-at .result .kind) 11 (c .before .before .before .if1 .left)), over-next (c .before .before .before .before .before .before .before .before .before .before .before .before .args .mode) (c .before .before .before .before .before .before .before .before .before .before .before .before .args .text .now) (c .before .before .before .before .before .loop .i) (c .before .before .before .before .token-at .result) (c .before .before .before .before .token-at .ensures) (not-zero (c .before .before .before .before .token-at .result .kind) 11 (c .before .before .before .if1 .left)) .high), (over-next (c .before .before .before .before .before .before .before .before .before .before .before .before .args .mode) (c .before .before .before .before .before .before .before .before .before .before .before .before .args .text .now) (c .before .before .before .before .before .loop .i) (c .before .before .before .before .token-at .result) (c .before .before .before .before .token-at .ensures) (not-zero (c .before .before .before .before .token-at .result .kind) 11 (c .before .before .before .if1 .left)) .high, c .before .before .before .before .before .before .before .before .before .before .before .before .pre .1 .1))
+choice-sequence-requires-2 t c κs = (
+  omega (
+    arith,
+    c .before .before .before .before .before .before .before .before .before .before .before .before .pre .0,
+    c .before .before .before .before .before .before .before .before .sequence .ensures .low,
+    c .before .before .before .before .before .loop .inv .0,
+    c .before .before .before .before .before .loop .inv .1,
+    long-next (c .before .before .before .before .before .before .before .before .before .before .before .before .args .mode)
+        (c .before .before .before .before .before .before .before .before .before .before .before .before .args .text .now) (c .before .before .before .before .before .loop .i)
+        (c .before .before .before .before .token-at .result) (c .before .before .before .before .token-at .ensures) (not-zero (c .before .before .before .before .token-at .result .kind) 11
+        (c .before .before .before .if1 .left)),
+    over-next (c .before .before .before .before .before .before .before .before .before .before .before .before .args .mode)
+        (c .before .before .before .before .before .before .before .before .before .before .before .before .args .text .now) (c .before .before .before .before .before .loop .i)
+        (c .before .before .before .before .token-at .result) (c .before .before .before .before .token-at .ensures) (not-zero (c .before .before .before .before .token-at .result .kind) 11
+        (c .before .before .before .if1 .left)) .high,
+  ),
+  (
+    over-next (c .before .before .before .before .before .before .before .before .before .before .before .before .args .mode)
+        (c .before .before .before .before .before .before .before .before .before .before .before .before .args .text .now) (c .before .before .before .before .before .loop .i)
+        (c .before .before .before .before .token-at .result) (c .before .before .before .before .token-at .ensures) (not-zero (c .before .before .before .before .token-at .result .kind) 11
+        (c .before .before .before .if1 .left)) .high,
+    c .before .before .before .before .before .before .before .before .before .before .before .before .pre .1 .1,
+  ),
+)
 
 choice-add-pair-requires : (t : ℕ) → choice-lts.Need-add-pair-requires (choice-claims t) (choice-at t) choice.Post choice-Inv-loop choice-μ-loop
 choice-add-pair-requires t c κs = search needs
 
 choice-loop-less : (t : ℕ) → choice-lts.Need-loop-less (choice-claims t) (choice-at t) choice.Post choice-Inv-loop choice-μ-loop
-choice-loop-less t c = omega (arith, c .before .before .before .before .before .before .sequence2 .ensures .low, c .before .before .before .before .before .before .sequence2 .ensures .high, long-next (c .before .before .before .before .before .before .before .before .before .before .before .before .before .before .before .before .before .before .before .args .mode) (c .before .before .before .before .before .before .before .before .before .before .before .before .before .before .before .before .before .before .before .args .text .now) (c .before .before .before .before .before .before .before .before .before .before .before .before .loop .i) (c .before .before .before .before .before .before .before .before .before .before .before .token-at .result) (c .before .before .before .before .before .before .before .before .before .before .before .token-at .ensures) (not-zero (c .before .before .before .before .before .before .before .before .before .before .before .token-at .result .kind) 11 (c .before .before .before .before .before .before .before .before .before .before .if1 .left)))
+choice-loop-less t c = omega (
+  arith,
+  c .before .before .before .before .before .before .sequence2 .ensures .low,
+  c .before .before .before .before .before .before .sequence2 .ensures .high,
+  long-next (c .before .before .before .before .before .before .before .before .before .before .before .before .before .before .before .before .before .before .before .args .mode)
+      (c .before .before .before .before .before .before .before .before .before .before .before .before .before .before .before .before .before .before .before .args .text .now)
+      (c .before .before .before .before .before .before .before .before .before .before .before .before .loop .i)
+      (c .before .before .before .before .before .before .before .before .before .before .before .token-at .result)
+      (c .before .before .before .before .before .before .before .before .before .before .before .token-at .ensures) (not-zero
+      (c .before .before .before .before .before .before .before .before .before .before .before .token-at .result .kind) 11
+      (c .before .before .before .before .before .before .before .before .before .before .if1 .left)),
+)
 
 choice-loop-again : (t : ℕ) → choice-lts.Need-loop-again (choice-claims t) (choice-at t) choice.Post choice-Inv-loop choice-μ-loop
-choice-loop-again t c = (omega (arith, c .before .before .before .before .before .before .before .before .before .before .before .before .loop .inv .0, c .before .before .before .before .before .before .sequence2 .ensures .low, long-next (c .before .before .before .before .before .before .before .before .before .before .before .before .before .before .before .before .before .before .before .args .mode) (c .before .before .before .before .before .before .before .before .before .before .before .before .before .before .before .before .before .before .before .args .text .now) (c .before .before .before .before .before .before .before .before .before .before .before .before .loop .i) (c .before .before .before .before .before .before .before .before .before .before .before .token-at .result) (c .before .before .before .before .before .before .before .before .before .before .before .token-at .ensures) (not-zero (c .before .before .before .before .before .before .before .before .before .before .before .token-at .result .kind) 11 (c .before .before .before .before .before .before .before .before .before .before .if1 .left))), c .before .before .before .before .before .before .sequence2 .ensures .high, c .before .before .add-pair .kept .0 ∙ c .before .before .before .before .before .before .sequence2 .kept .1 .1 .1 .0 ∙ c .before .before .before .before .before .before .before .before .before .before .before .before .loop .inv .2, more-c (c .before .before .before .before .before .before .before .before .before .before .before .before .loop .inv .3) (sym (kind-there (c .before .before .before .before .before .before .before .before .before .before .before .before .before .before .before .before .before .before .before .args .mode) (c .before .before .before .before .before .before .before .before .before .before .before .before .before .before .before .before .before .before .before .args .text .now) (c .before .before .before .before .before .before .before .before .before .before .before .before .loop .i) (c .before .before .before .before .before .before .before .before .before .before .before .token-at .result) (c .before .before .before .before .before .before .before .before .before .before .before .token-at .ensures)) ∙ c .before .before .before .before .before .before .before .before .before .before .if1 .left) (over-next (c .before .before .before .before .before .before .before .before .before .before .before .before .before .before .before .before .before .before .before .args .mode) (c .before .before .before .before .before .before .before .before .before .before .before .before .before .before .before .before .before .before .before .args .text .now) (c .before .before .before .before .before .before .before .before .before .before .before .before .loop .i) (c .before .before .before .before .before .before .before .before .before .before .before .token-at .result) (c .before .before .before .before .before .before .before .before .before .before .before .token-at .ensures) (not-zero (c .before .before .before .before .before .before .before .before .before .before .before .token-at .result .kind) 11 (c .before .before .before .before .before .before .before .before .before .before .if1 .left))) (c .before .before .before .before .before .before .before .before .word .ensures .0) (c .before .before .before .before .before .before .sequence2 .ensures) (c .before .before .add-pair .ensures))
+choice-loop-again t c = (
+  omega (
+    arith,
+    c .before .before .before .before .before .before .before .before .before .before .before .before .loop .inv .0,
+    c .before .before .before .before .before .before .sequence2 .ensures .low,
+    long-next
+        (c .before .before .before .before .before .before .before .before .before .before .before .before .before .before .before .before .before .before .before .args .mode)
+        (c .before .before .before .before .before .before .before .before .before .before .before .before .before .before .before .before .before .before .before .args .text .now)
+        (c .before .before .before .before .before .before .before .before .before .before .before .before .loop .i)
+        (c .before .before .before .before .before .before .before .before .before .before .before .token-at .result)
+        (c .before .before .before .before .before .before .before .before .before .before .before .token-at .ensures) (not-zero
+        (c .before .before .before .before .before .before .before .before .before .before .before .token-at .result .kind) 11
+        (c .before .before .before .before .before .before .before .before .before .before .if1 .left)),
+  ),
+  c .before .before .before .before .before .before .sequence2 .ensures .high,
+  c .before .before .add-pair .kept .0 ∙ c .before .before .before .before .before .before .sequence2 .kept .1 .1 .1 .0 ∙
+      c .before .before .before .before .before .before .before .before .before .before .before .before .loop .inv .2,
+  more-c
+      (c .before .before .before .before .before .before .before .before .before .before .before .before .loop .inv .3) (sym (kind-there
+      (c .before .before .before .before .before .before .before .before .before .before .before .before .before .before .before .before .before .before .before .args .mode)
+      (c .before .before .before .before .before .before .before .before .before .before .before .before .before .before .before .before .before .before .before .args .text .now)
+      (c .before .before .before .before .before .before .before .before .before .before .before .before .loop .i)
+      (c .before .before .before .before .before .before .before .before .before .before .before .token-at .result)
+      (c .before .before .before .before .before .before .before .before .before .before .before .token-at .ensures)) ∙
+      c .before .before .before .before .before .before .before .before .before .before .if1 .left) (over-next
+      (c .before .before .before .before .before .before .before .before .before .before .before .before .before .before .before .before .before .before .before .args .mode)
+      (c .before .before .before .before .before .before .before .before .before .before .before .before .before .before .before .before .before .before .before .args .text .now)
+      (c .before .before .before .before .before .before .before .before .before .before .before .before .loop .i)
+      (c .before .before .before .before .before .before .before .before .before .before .before .token-at .result)
+      (c .before .before .before .before .before .before .before .before .before .before .before .token-at .ensures) (not-zero
+      (c .before .before .before .before .before .before .before .before .before .before .before .token-at .result .kind) 11
+      (c .before .before .before .before .before .before .before .before .before .before .if1 .left))) (c .before .before .before .before .before .before .before .before .expressions .ensures .0)
+      (c .before .before .before .before .before .before .sequence2 .ensures) (c .before .before .add-pair .ensures),
+)
 
 prefix-token-at-requires : (t : ℕ) → prefix-lts.Need-token-at-requires (prefix-claims t) (prefix-at t) prefix.Post
 prefix-token-at-requires t c κs = search needs
@@ -140,10 +231,35 @@ prefix-same-length : (t : ℕ) → prefix-lts.Need-same-length (prefix-claims t)
 prefix-same-length t c = c .before .before .suffix .kept .1 .1 .1 .0 ∙ c .before .before .before .before .before .before .primary .kept .1 .1 .1 .0
 
 prefix-returns : (t : ℕ) → prefix-lts.Need-returns (prefix-claims t) (prefix-at t) prefix.Post
-prefix-returns t c = without-pre (c .before .before .before .before .before .before .before .before .before .prefix-op .ensures .0 ∙ ap prefixOp (kind-there (c .before .before .before .before .before .before .before .before .before .before .before .before .before .args .mode) (c .before .before .before .before .before .before .before .before .before .before .before .before .before .args .text .now) (c .before .before .before .before .before .before .before .before .before .before .before .before .before .args .at) (c .before .before .before .before .before .before .before .before .before .before .token-at .result) (c .before .before .before .before .before .before .before .before .before .before .token-at .ensures))) (c .before .before .before .before .before .before .before .before .if1 .taken) (c .before .before .before .before .before .before .primary .ensures) (c .before .before .suffix .ensures)
+prefix-returns t c = without-pre (c .before .before .before .before .before .before .before .before .before .prefix-op .ensures .0 ∙ ap prefixOp (kind-there
+    (c .before .before .before .before .before .before .before .before .before .before .before .before .before .args .mode)
+    (c .before .before .before .before .before .before .before .before .before .before .before .before .before .args .text .now)
+    (c .before .before .before .before .before .before .before .before .before .before .before .before .before .args .at)
+    (c .before .before .before .before .before .before .before .before .before .before .token-at .result)
+    (c .before .before .before .before .before .before .before .before .before .before .token-at .ensures))) (c .before .before .before .before .before .before .before .before .if1 .taken)
+    (c .before .before .before .before .before .before .primary .ensures) (c .before .before .suffix .ensures)
 
 prefix-primary-requires-2 : (t : ℕ) → prefix-lts.Need-primary-requires-2 (prefix-claims t) (prefix-at t) prefix.Post
-prefix-primary-requires-2 t c κs = (omega (arith, c .before .before .before .before .before .before .pre .0, long-next (c .before .before .before .before .before .before .args .mode) (c .before .before .before .before .before .before .args .text .now) (c .before .before .before .before .before .before .args .at) (c .before .before .before .token-at .result) (c .before .before .before .token-at .ensures) (prefix-some _ _ (c .before .before .prefix-op .ensures .0) (c .before .if1 .left)), over-next (c .before .before .before .before .before .before .args .mode) (c .before .before .before .before .before .before .args .text .now) (c .before .before .before .before .before .before .args .at) (c .before .before .before .token-at .result) (c .before .before .before .token-at .ensures) (prefix-some _ _ (c .before .before .prefix-op .ensures .0) (c .before .if1 .left)) .high), (over-next (c .before .before .before .before .before .before .args .mode) (c .before .before .before .before .before .before .args .text .now) (c .before .before .before .before .before .before .args .at) (c .before .before .before .token-at .result) (c .before .before .before .token-at .ensures) (prefix-some _ _ (c .before .before .prefix-op .ensures .0) (c .before .if1 .left)) .high, c .before .before .before .before .before .before .pre .1 .1))
+prefix-primary-requires-2 t c κs = (
+  omega (
+    arith,
+    c .before .before .before .before .before .before .pre .0,
+    long-next (c .before .before .before .before .before .before .args .mode)
+        (c .before .before .before .before .before .before .args .text .now) (c .before .before .before .before .before .before .args .at) (c .before .before .before .token-at .result)
+        (c .before .before .before .token-at .ensures) (prefix-some _ _ (c .before .before .prefix-op .ensures .0) (c .before .if1 .left)),
+    over-next
+        (c .before .before .before .before .before .before .args .mode) (c .before .before .before .before .before .before .args .text .now)
+        (c .before .before .before .before .before .before .args .at) (c .before .before .before .token-at .result) (c .before .before .before .token-at .ensures) (prefix-some _ _
+        (c .before .before .prefix-op .ensures .0) (c .before .if1 .left)) .high,
+  ),
+  (
+    over-next (c .before .before .before .before .before .before .args .mode)
+        (c .before .before .before .before .before .before .args .text .now) (c .before .before .before .before .before .before .args .at) (c .before .before .before .token-at .result)
+        (c .before .before .before .token-at .ensures) (prefix-some _ _ (c .before .before .prefix-op .ensures .0)
+        (c .before .if1 .left)) .high,
+    c .before .before .before .before .before .before .pre .1 .1,
+  ),
+)
 
 prefix-suffix-requires-2 : (t : ℕ) → prefix-lts.Need-suffix-requires-2 (prefix-claims t) (prefix-at t) prefix.Post
 prefix-suffix-requires-2 t c κs = c .before .before .before .primary2 .ensures .high
@@ -152,37 +268,93 @@ prefix-add-over-requires : (t : ℕ) → prefix-lts.Need-add-over-requires (pref
 prefix-add-over-requires t c κs = search needs
 
 prefix-same-length-2 : (t : ℕ) → prefix-lts.Need-same-length-2 (prefix-claims t) (prefix-at t) prefix.Post
-prefix-same-length-2 t c = c .before .before .add-over .kept .0 ∙ c .before .before .before .before .before .before .suffix2 .kept .1 .1 .1 .0 ∙ c .before .before .before .before .before .before .before .before .before .before .primary2 .kept .1 .1 .1 .0
+prefix-same-length-2 t c = c .before .before .add-over .kept .0 ∙ c .before .before .before .before .before .before .suffix2 .kept .1 .1 .1 .0 ∙
+    c .before .before .before .before .before .before .before .before .before .before .primary2 .kept .1 .1 .1 .0
 
 prefix-returns-2 : (t : ℕ) → prefix-lts.Need-returns-2 (prefix-claims t) (prefix-at t) prefix.Post
-prefix-returns-2 t c = with-pre (c .before .before .before .before .before .before .before .before .before .before .before .before .before .prefix-op .ensures .0 ∙ ap prefixOp (kind-there (c .before .before .before .before .before .before .before .before .before .before .before .before .before .before .before .before .before .args .mode) (c .before .before .before .before .before .before .before .before .before .before .before .before .before .before .before .before .before .args .text .now) (c .before .before .before .before .before .before .before .before .before .before .before .before .before .before .before .before .before .args .at) (c .before .before .before .before .before .before .before .before .before .before .before .before .before .before .token-at .result) (c .before .before .before .before .before .before .before .before .before .before .before .before .before .before .token-at .ensures))) (c .before .before .before .before .before .before .before .before .before .before .before .before .if1 .left) (over-next (c .before .before .before .before .before .before .before .before .before .before .before .before .before .before .before .before .before .args .mode) (c .before .before .before .before .before .before .before .before .before .before .before .before .before .before .before .before .before .args .text .now) (c .before .before .before .before .before .before .before .before .before .before .before .before .before .before .before .before .before .args .at) (c .before .before .before .before .before .before .before .before .before .before .before .before .before .before .token-at .result) (c .before .before .before .before .before .before .before .before .before .before .before .before .before .before .token-at .ensures) (prefix-some _ _ (c .before .before .before .before .before .before .before .before .before .before .before .before .before .prefix-op .ensures .0) (c .before .before .before .before .before .before .before .before .before .before .before .before .if1 .left))) (c .before .before .before .before .before .before .before .before .before .before .primary2 .ensures) (c .before .before .before .before .before .before .suffix2 .ensures) (c .before .before .add-over .ensures)
+prefix-returns-2 t c = with-pre (c .before .before .before .before .before .before .before .before .before .before .before .before .before .prefix-op .ensures .0 ∙ ap prefixOp (kind-there
+    (c .before .before .before .before .before .before .before .before .before .before .before .before .before .before .before .before .before .args .mode)
+    (c .before .before .before .before .before .before .before .before .before .before .before .before .before .before .before .before .before .args .text .now)
+    (c .before .before .before .before .before .before .before .before .before .before .before .before .before .before .before .before .before .args .at)
+    (c .before .before .before .before .before .before .before .before .before .before .before .before .before .before .token-at .result)
+    (c .before .before .before .before .before .before .before .before .before .before .before .before .before .before .token-at .ensures)))
+    (c .before .before .before .before .before .before .before .before .before .before .before .before .if1 .left) (over-next
+    (c .before .before .before .before .before .before .before .before .before .before .before .before .before .before .before .before .before .args .mode)
+    (c .before .before .before .before .before .before .before .before .before .before .before .before .before .before .before .before .before .args .text .now)
+    (c .before .before .before .before .before .before .before .before .before .before .before .before .before .before .before .before .before .args .at)
+    (c .before .before .before .before .before .before .before .before .before .before .before .before .before .before .token-at .result)
+    (c .before .before .before .before .before .before .before .before .before .before .before .before .before .before .token-at .ensures) (prefix-some _ _
+    (c .before .before .before .before .before .before .before .before .before .before .before .before .before .prefix-op .ensures .0)
+    (c .before .before .before .before .before .before .before .before .before .before .before .before .if1 .left)))
+    (c .before .before .before .before .before .before .before .before .before .before .primary2 .ensures) (c .before .before .before .before .before .before .suffix2 .ensures)
+    (c .before .before .add-over .ensures)
 
 primary-token-at-requires : (t : ℕ) → primary-lts.Need-token-at-requires (primary-claims t) (primary-at t) primary.Post
 primary-token-at-requires t c κs = search needs
 
 primary-returns : (t : ℕ) → primary-lts.Need-returns (primary-claims t) (primary-at t) primary.Post
-primary-returns t c = prim-end (c .before .before .before .before .args .mode) (c .before .before .before .before .args .text .now) (c .before .before .before .before .args .at) (c .before .token-at .result) (c .before .token-at .ensures) (c .if1 .taken) (c .before .before .before .before .pre .1 .0)
+primary-returns t c = prim-end (c .before .before .before .before .args .mode) (c .before .before .before .before .args .text .now) (c .before .before .before .before .args .at)
+    (c .before .token-at .result) (c .before .token-at .ensures) (c .if1 .taken) (c .before .before .before .before .pre .1 .0)
 
 primary-occurrence-requires : (t : ℕ) → primary-lts.Need-occurrence-requires (primary-claims t) (primary-at t) primary.Post
-primary-occurrence-requires t c κs = omega (arith, room (c .before .before .before .before .before .before .args .mode) (c .before .before .before .before .before .before .args .text .now) (c .before .before .before .before .before .before .args .at) (c .before .before .before .token-at .result) (c .before .before .before .token-at .ensures) (c .before .before .if1 .left) (c .before .if2 .taken), c .before .before .before .before .before .before .pre .1 .1)
+primary-occurrence-requires t c κs = omega (
+  arith,
+  room (c .before .before .before .before .before .before .args .mode) (c .before .before .before .before .before .before .args .text .now)
+      (c .before .before .before .before .before .before .args .at) (c .before .before .before .token-at .result) (c .before .before .before .token-at .ensures) (c .before .before .if1 .left)
+      (c .before .if2 .taken),
+  c .before .before .before .before .before .before .pre .1 .1,
+)
 
 primary-same-length : (t : ℕ) → primary-lts.Need-same-length (primary-claims t) (primary-at t) primary.Post
 primary-same-length t c = search needs
 
 primary-returns-2 : (t : ℕ) → primary-lts.Need-returns-2 (primary-claims t) (primary-at t) primary.Post
-primary-returns-2 t c = prim-name (c .before .before .before .before .before .before .before .before .before .args .mode) (c .before .before .before .before .before .before .before .before .before .args .text .now) (c .before .before .before .before .before .before .before .before .before .args .at) (c .before .before .before .before .before .before .token-at .result) (c .before .before .before .before .before .before .token-at .ensures) (c .before .before .before .before .before .if1 .left) (c .before .before .before .before .if2 .taken) (c .before .before .occurrence .ensures)
+primary-returns-2 t c = prim-name (c .before .before .before .before .before .before .before .before .before .args .mode)
+    (c .before .before .before .before .before .before .before .before .before .args .text .now) (c .before .before .before .before .before .before .before .before .before .args .at)
+    (c .before .before .before .before .before .before .token-at .result) (c .before .before .before .before .before .before .token-at .ensures)
+    (c .before .before .before .before .before .if1 .left) (c .before .before .before .before .if2 .taken) (c .before .before .occurrence .ensures)
 
 primary-terminal-requires : (t : ℕ) → primary-lts.Need-terminal-requires (primary-claims t) (primary-at t) primary.Post
-primary-terminal-requires t c κs = (start-in (c .before .before .before .before .before .before .before .args .mode) (c .before .before .before .before .before .before .before .args .text .now) (c .before .before .before .before .before .before .before .args .at) (c .before .before .before .before .token-at .result) (c .before .before .before .before .token-at .ensures) (c .before .before .before .if1 .left), c .before .before .before .before .before .before .before .pre .1 .1)
+primary-terminal-requires t c κs = (
+  start-in (c .before .before .before .before .before .before .before .args .mode) (c .before .before .before .before .before .before .before .args .text .now)
+      (c .before .before .before .before .before .before .before .args .at) (c .before .before .before .before .token-at .result) (c .before .before .before .before .token-at .ensures)
+      (c .before .before .before .if1 .left),
+  c .before .before .before .before .before .before .before .pre .1 .1,
+)
 
 primary-same-length-2 : (t : ℕ) → primary-lts.Need-same-length-2 (primary-claims t) (primary-at t) primary.Post
 primary-same-length-2 t c = search needs
 
 primary-returns-3 : (t : ℕ) → primary-lts.Need-returns-3 (primary-claims t) (primary-at t) primary.Post
-primary-returns-3 t c = prim-terminal (c .before .before .before .before .before .before .before .before .before .before .args .mode) (c .before .before .before .before .before .before .before .before .before .before .args .text .now) (c .before .before .before .before .before .before .before .before .before .before .args .at) (c .before .before .before .before .before .before .before .token-at .result) (c .before .before .before .before .before .before .before .token-at .ensures) (c .before .before .before .before .before .before .if1 .left) (c .before .before .before .before .before .if2 .left) (c .before .before .before .before .if3 .taken) (c .before .before .terminal .ensures)
+primary-returns-3 t c = prim-terminal (c .before .before .before .before .before .before .before .before .before .before .args .mode)
+    (c .before .before .before .before .before .before .before .before .before .before .args .text .now)
+    (c .before .before .before .before .before .before .before .before .before .before .args .at) (c .before .before .before .before .before .before .before .token-at .result)
+    (c .before .before .before .before .before .before .before .token-at .ensures) (c .before .before .before .before .before .before .if1 .left)
+    (c .before .before .before .before .before .if2 .left) (c .before .before .before .before .if3 .taken) (c .before .before .terminal .ensures)
 
 primary-choice-requires : (t : ℕ) → primary-lts.Need-choice-requires (primary-claims t) (primary-at t) primary.Post
-primary-choice-requires t c κs = (omega (arith, c .before .before .before .before .before .before .before .before .pre .0, long-next (c .before .before .before .before .before .before .before .before .args .mode) (c .before .before .before .before .before .before .before .before .args .text .now) (c .before .before .before .before .before .before .before .before .args .at) (c .before .before .before .before .before .token-at .result) (c .before .before .before .before .before .token-at .ensures) (c .before .before .before .before .if1 .left), over-next (c .before .before .before .before .before .before .before .before .args .mode) (c .before .before .before .before .before .before .before .before .args .text .now) (c .before .before .before .before .before .before .before .before .args .at) (c .before .before .before .before .before .token-at .result) (c .before .before .before .before .before .token-at .ensures) (c .before .before .before .before .if1 .left) .high), (over-next (c .before .before .before .before .before .before .before .before .args .mode) (c .before .before .before .before .before .before .before .before .args .text .now) (c .before .before .before .before .before .before .before .before .args .at) (c .before .before .before .before .before .token-at .result) (c .before .before .before .before .before .token-at .ensures) (c .before .before .before .before .if1 .left) .high, c .before .before .before .before .before .before .before .before .pre .1 .1))
+primary-choice-requires t c κs = (
+  omega (
+    arith,
+    c .before .before .before .before .before .before .before .before .pre .0,
+    long-next
+        (c .before .before .before .before .before .before .before .before .args .mode) (c .before .before .before .before .before .before .before .before .args .text .now)
+        (c .before .before .before .before .before .before .before .before .args .at) (c .before .before .before .before .before .token-at .result)
+        (c .before .before .before .before .before .token-at .ensures) (c .before .before .before .before .if1 .left),
+    over-next
+        (c .before .before .before .before .before .before .before .before .args .mode) (c .before .before .before .before .before .before .before .before .args .text .now)
+        (c .before .before .before .before .before .before .before .before .args .at) (c .before .before .before .before .before .token-at .result)
+        (c .before .before .before .before .before .token-at .ensures) (c .before .before .before .before .if1 .left) .high,
+  ),
+  (
+    over-next
+        (c .before .before .before .before .before .before .before .before .args .mode) (c .before .before .before .before .before .before .before .before .args .text .now)
+        (c .before .before .before .before .before .before .before .before .args .at) (c .before .before .before .before .before .token-at .result)
+        (c .before .before .before .before .before .token-at .ensures)
+        (c .before .before .before .before .if1 .left) .high,
+    c .before .before .before .before .before .before .before .before .pre .1 .1,
+  ),
+)
 
 primary-over-requires : (t : ℕ) → primary-lts.Need-over-requires (primary-claims t) (primary-at t) primary.Post
 primary-over-requires t c κs = c .before .before .choice .ensures .high
@@ -191,10 +363,21 @@ primary-same-length-3 : (t : ℕ) → primary-lts.Need-same-length-3 (primary-cl
 primary-same-length-3 t c = c .before .before .before .choice .kept .1 .1 .1 .0
 
 primary-returns-4 : (t : ℕ) → primary-lts.Need-returns-4 (primary-claims t) (primary-at t) primary.Post
-primary-returns-4 t c = grouped (sym (kind-there (c .before .before .before .before .before .before .before .before .before .before .before .before .args .mode) (c .before .before .before .before .before .before .before .before .before .before .before .before .args .text .now) (c .before .before .before .before .before .before .before .before .before .before .before .before .args .at) (c .before .before .before .before .before .before .before .before .before .token-at .result) (c .before .before .before .before .before .before .before .before .before .token-at .ensures)) ∙ c .before .before .before .before .before .if4 .taken) (over-next (c .before .before .before .before .before .before .before .before .before .before .before .before .args .mode) (c .before .before .before .before .before .before .before .before .before .before .before .before .args .text .now) (c .before .before .before .before .before .before .before .before .before .before .before .before .args .at) (c .before .before .before .before .before .before .before .before .before .token-at .result) (c .before .before .before .before .before .before .before .before .before .token-at .ensures) (c .before .before .before .before .before .before .before .before .if1 .left)) (c .before .before .before .choice .ensures) (c .over .ensures)
+primary-returns-4 t c = grouped (sym (kind-there (c .before .before .before .before .before .before .before .before .before .before .before .before .args .mode)
+    (c .before .before .before .before .before .before .before .before .before .before .before .before .args .text .now)
+    (c .before .before .before .before .before .before .before .before .before .before .before .before .args .at)
+    (c .before .before .before .before .before .before .before .before .before .token-at .result)
+    (c .before .before .before .before .before .before .before .before .before .token-at .ensures)) ∙ c .before .before .before .before .before .if4 .taken) (over-next
+    (c .before .before .before .before .before .before .before .before .before .before .before .before .args .mode)
+    (c .before .before .before .before .before .before .before .before .before .before .before .before .args .text .now)
+    (c .before .before .before .before .before .before .before .before .before .before .before .before .args .at)
+    (c .before .before .before .before .before .before .before .before .before .token-at .result) (c .before .before .before .before .before .before .before .before .before .token-at .ensures)
+    (c .before .before .before .before .before .before .before .before .if1 .left)) (c .before .before .before .choice .ensures) (c .over .ensures)
 
 primary-returns-5 : (t : ℕ) → primary-lts.Need-returns-5 (primary-claims t) (primary-at t) primary.Post
-primary-returns-5 t c = prim-bad (c .before .before .before .before .before .before .before .args .mode) (c .before .before .before .before .before .before .before .args .text .now) (c .before .before .before .before .before .before .before .args .at) (c .before .before .before .before .token-at .result) (c .before .before .before .before .token-at .ensures) (c .before .before .before .if1 .left) (c .before .if3 .left) (c .if4 .left)
+primary-returns-5 t c = prim-bad (c .before .before .before .before .before .before .before .args .mode) (c .before .before .before .before .before .before .before .args .text .now)
+    (c .before .before .before .before .before .before .before .args .at) (c .before .before .before .before .token-at .result) (c .before .before .before .before .token-at .ensures)
+    (c .before .before .before .if1 .left) (c .before .if3 .left) (c .if4 .left)
 
 abbrev sequence-Inv-loop : sequence-lts.InvT-loop
 sequence-Inv-loop mode text at t₀ i₀ t i = (i₀ ≤ i) × (i ≤ length text) × (length t ≡ length t₀) × LoopS mode text i₀ t₀ i t
@@ -215,22 +398,57 @@ sequence-same-length : (t : ℕ) → sequence-lts.Need-same-length (sequence-cla
 sequence-same-length t c = c .before .before .loop .inv .2 ∙ c .before .before .before .before .before .prefix .kept .1 .1 .1 .0
 
 sequence-returns : (t : ℕ) → sequence-lts.Need-returns (sequence-claims t) (sequence-at t) sequence.Post sequence-Inv-loop sequence-μ-loop
-sequence-returns t c = end-s (c .before .before .before .before .before .prefix .ensures) (c .before .before .loop .inv .3) (c .before .before .loop .inv .0) (c .before .before .loop .inv .1) (sym (c .before .begins-at .ensures) ∙ not-true _ (c .if1 .taken))
+sequence-returns t c = end-s (c .before .before .before .before .before .prefix .ensures) (c .before .before .loop .inv .3) (c .before .before .loop .inv .0) (c .before .before .loop .inv .1) (sym
+    (c .before .begins-at .ensures) ∙ not-true _ (c .if1 .taken))
 
-sequence-word-requires : (t : ℕ) → sequence-lts.Need-word-requires (sequence-claims t) (sequence-at t) sequence.Post sequence-Inv-loop sequence-μ-loop
-sequence-word-requires t c κs = search needs
+sequence-expressions-requires : (t : ℕ) → sequence-lts.Need-expressions-requires (sequence-claims t) (sequence-at t) sequence.Post sequence-Inv-loop sequence-μ-loop
+sequence-expressions-requires t c κs = search needs
 
 sequence-prefix-requires-2 : (t : ℕ) → sequence-lts.Need-prefix-requires-2 (sequence-claims t) (sequence-at t) sequence.Post sequence-Inv-loop sequence-μ-loop
-sequence-prefix-requires-2 t c κs = (omega (arith, c .before .before .before .before .before .before .before .before .before .before .before .before .pre .0, c .before .before .before .before .before .before .before .before .prefix .ensures .low, c .before .before .before .before .before .loop .inv .0, c .before .before .before .before .before .loop .inv .1), (c .before .before .before .before .before .loop .inv .1, c .before .before .before .before .before .before .before .before .before .before .before .before .pre .1 .1))
+sequence-prefix-requires-2 t c κs = (
+  omega (
+    arith,
+    c .before .before .before .before .before .before .before .before .before .before .before .before .pre .0,
+    c .before .before .before .before .before .before .before .before .prefix .ensures .low,
+    c .before .before .before .before .before .loop .inv .0,
+    c .before .before .before .before .before .loop .inv .1,
+  ),
+  (
+    c .before .before .before .before .before .loop .inv .1,
+    c .before .before .before .before .before .before .before .before .before .before .before .before .pre .1 .1,
+  ),
+)
 
 sequence-add-pair-requires : (t : ℕ) → sequence-lts.Need-add-pair-requires (sequence-claims t) (sequence-at t) sequence.Post sequence-Inv-loop sequence-μ-loop
 sequence-add-pair-requires t c κs = search needs
 
 sequence-loop-less : (t : ℕ) → sequence-lts.Need-loop-less (sequence-claims t) (sequence-at t) sequence.Post sequence-Inv-loop sequence-μ-loop
-sequence-loop-less t c = omega (arith, c .before .before .before .before .before .before .prefix2 .ensures .forth (begins-some (toksAt (c .before .before .before .before .before .before .before .before .before .before .before .before .before .before .before .before .before .before .before .args .mode) (c .before .before .before .before .before .before .before .before .before .before .before .before .before .before .before .before .before .before .before .args .text .now) (c .before .before .before .before .before .before .before .before .before .before .before .before .loop .i)) (sym (c .before .before .before .before .before .before .before .before .before .before .before .begins-at .ensures) ∙ not-false _ (c .before .before .before .before .before .before .before .before .before .before .if1 .left))), c .before .before .before .before .before .before .prefix2 .ensures .high)
+sequence-loop-less t c = omega (
+  arith,
+  c .before .before .before .before .before .before .prefix2 .ensures .forth (begins-some (toksAt
+      (c .before .before .before .before .before .before .before .before .before .before .before .before .before .before .before .before .before .before .before .args .mode)
+      (c .before .before .before .before .before .before .before .before .before .before .before .before .before .before .before .before .before .before .before .args .text .now)
+      (c .before .before .before .before .before .before .before .before .before .before .before .before .loop .i)) (sym
+      (c .before .before .before .before .before .before .before .before .before .before .before .begins-at .ensures) ∙ not-false _
+      (c .before .before .before .before .before .before .before .before .before .before .if1 .left))),
+  c .before .before .before .before .before .before .prefix2 .ensures .high,
+)
 
 sequence-loop-again : (t : ℕ) → sequence-lts.Need-loop-again (sequence-claims t) (sequence-at t) sequence.Post sequence-Inv-loop sequence-μ-loop
-sequence-loop-again t c = (omega (arith, c .before .before .before .before .before .before .before .before .before .before .before .before .loop .inv .0, c .before .before .before .before .before .before .prefix2 .ensures .low), c .before .before .before .before .before .before .prefix2 .ensures .high, c .before .before .add-pair .kept .0 ∙ c .before .before .before .before .before .before .prefix2 .kept .1 .1 .1 .0 ∙ c .before .before .before .before .before .before .before .before .before .before .before .before .loop .inv .2, more-s (c .before .before .before .before .before .before .before .before .before .before .before .before .loop .inv .3) (sym (c .before .before .before .before .before .before .before .before .before .before .before .begins-at .ensures) ∙ not-false _ (c .before .before .before .before .before .before .before .before .before .before .if1 .left)) (c .before .before .before .before .before .before .before .before .word .ensures .0) (c .before .before .before .before .before .before .prefix2 .ensures) (c .before .before .add-pair .ensures))
+sequence-loop-again t c = (
+  omega (
+    arith,
+    c .before .before .before .before .before .before .before .before .before .before .before .before .loop .inv .0,
+    c .before .before .before .before .before .before .prefix2 .ensures .low,
+  ),
+  c .before .before .before .before .before .before .prefix2 .ensures .high,
+  c .before .before .add-pair .kept .0 ∙
+      c .before .before .before .before .before .before .prefix2 .kept .1 .1 .1 .0 ∙ c .before .before .before .before .before .before .before .before .before .before .before .before .loop .inv .2,
+  more-s (c .before .before .before .before .before .before .before .before .before .before .before .before .loop .inv .3) (sym
+      (c .before .before .before .before .before .before .before .before .before .before .before .begins-at .ensures) ∙ not-false _
+      (c .before .before .before .before .before .before .before .before .before .before .if1 .left)) (c .before .before .before .before .before .before .before .before .expressions .ensures .0)
+      (c .before .before .before .before .before .before .prefix2 .ensures) (c .before .before .add-pair .ensures),
+)
 
 pub +choice+prefix+primary+sequence-spec : {M : Type 1} → statement M
 +choice+prefix+primary+sequence-spec =
@@ -240,7 +458,7 @@ pub +choice+prefix+primary+sequence-spec : {M : Type 1} → statement M
     (choice-token-at-requires t)
     (choice-same-length t)
     (choice-returns t)
-    (choice-word-requires t)
+    (choice-expressions-requires t)
     (choice-sequence-requires-2 t)
     (choice-add-pair-requires t)
     (choice-loop-less t)
@@ -277,7 +495,7 @@ pub +choice+prefix+primary+sequence-spec : {M : Type 1} → statement M
     (sequence-begins-at-requires t)
     (sequence-same-length t)
     (sequence-returns t)
-    (sequence-word-requires t)
+    (sequence-expressions-requires t)
     (sequence-prefix-requires-2 t)
     (sequence-add-pair-requires t)
     (sequence-loop-less t)

@@ -13,15 +13,12 @@ use Rattle.grammar_table.specs.laws.Leaves.{is-any, is-literal, is-class}
 use Rattle.write_rules.specs.Writing.{litChars, runs, runsText, leafText, symbolText}
 use Rattle.write_text.specs.steps.Printed.{low, lowLeaf, calledBy, called}
 
-module _ (t : List ℕ) (x k : ℕ) (e : k ≡ getD t (terminalsAt + terminalWords * x) 0) where
-  kind : k ≡ terminalWord t x 0
-  kind = let z : terminalsAt + terminalWords * x ≡ terminalsAt + terminalWords * x + 0 = omega arith in e ∙ ap (λ (j : ℕ). getD t j 0) z
-
+module _ (t : List ℕ) (x k : ℕ) (kind : k ≡ terminalWord t x 0) where
   pub any-text : k ≡ 0 → 46 ∷ [] ≡ leafText (lowLeaf (leafIn t x))
   unfolding leafText
   any-text z = ap (λ (l : Leaf). leafText (lowLeaf l)) (is-any t x k kind z)
 
-  pub literal-text : (n : ℕ) → n ≡ getD t (terminalsAt + terminalWords * x + 1) 0 → k ≡ 1 → (39 ∷ []) ++ (litChars (map low (wordsFrom t (terminalsAt + terminalWords * x + 2) n)) ++ (39 ∷ [])) ≡ leafText (lowLeaf (leafIn t x))
+  pub literal-text : (n : ℕ) → n ≡ terminalWord t x 1 → k ≡ 1 → (39 ∷ []) ++ (litChars (map low (wordsFrom t (terminalsAt + terminalWords * x + 2) n)) ++ (39 ∷ [])) ≡ leafText (lowLeaf (leafIn t x))
   unfolding leafText
   literal-text n g z = ap (λ (l : Leaf). leafText (lowLeaf l)) (is-literal t x k kind n g z)
 
@@ -29,15 +26,15 @@ module _ (t : List ℕ) (x k : ℕ) (e : k ≡ getD t (terminalsAt + terminalWor
   unfolding leafText
   class-text f g = ap (λ (l : Leaf). leafText (lowLeaf l)) (is-class t x k kind f g)
 
-module _ (t : List ℕ) (r k n : ℕ) (e : k ≡ getD t (symbolsAt + symbolWords * r) 0) (g : n ≡ getD t (symbolsAt + symbolWords * r + 3) 0) where
+module _ (t : List ℕ) (r k n : ℕ) (e : k ≡ symbolWord t r 0) (g : n ≡ symbolWord t r 3) where
   abbrev bytes : List ℕ
   bytes = map low (wordsFrom t (symbolsAt + symbolWords * r + 4) n)
 
   words : (p : Bool) → calledBy p (symbolBy k bytes) ≡ called p t r
   unfolding called
   words p =
-      let z : symbolsAt + symbolWords * r ≡ symbolsAt + symbolWords * r + 0 = omega arith in
-      ap (λ (j : ℕ). calledBy p (symbolBy j bytes)) (e ∙ ap (λ (j : ℕ). getD t j 0) z) ∙ ap (λ (m : ℕ). calledBy p (symbolBy (symbolWord t r 0) (map low (wordsFrom t (symbolsAt + symbolWords * r + 4) m)))) g
+      ap (λ (j : ℕ). calledBy p (symbolBy j bytes)) e
+      ∙ ap (λ (m : ℕ). calledBy p (symbolBy (symbolWord t r 0) (map low (wordsFrom t (symbolsAt + symbolWords * r + 4) m)))) g
 
   pub name-text : (p : Bool) → k ≡ 0 → bytes ≡ symbolText (called p t r)
   unfolding symbolText plainName

@@ -10,7 +10,7 @@ use lib.Dec.{leb}
 use borrow.Author.Tests.{le-leb, lt-leb}
 use Rattle.read_tokens.specs.Token.{Symbol}
 use Rattle.grammar.specs.Exp.{Exp}
-use Rattle.grammar_table.specs.Table.{symbolsAt, symbolWords, symbolCount, bodyBy, bodyIn}
+use Rattle.grammar_table.specs.Table.{symbolWord, symbolCount, bodyBy, bodyIn}
 use Rattle.grammar_table.specs.Trees.{treeOf}
 use Rattle.write_rules.specs.Writing.{symbolText, exprText, ruleText, text}
 use Rattle.write_text.specs.steps.Pen.{most, inked, Penned}
@@ -22,7 +22,7 @@ pub rule-text : (h : Symbol) (e : Exp Symbol) → symbolText h ++ ((32 ∷ 60 �
 unfolding ruleText
 rule-text h e = refl
 
-module _ (f : ℕ → Symbol) (t : List ℕ) (r x : ℕ) (e : x ≡ getD t (symbolsAt + symbolWords * r + 1) 0) where
+module _ (f : ℕ → Symbol) (t : List ℕ) (r x : ℕ) (e : x ≡ symbolWord t r 1) where
   pub none-text : x ≡ 0 → [] ≡ text (rulesIn f r (bodyIn t r ∷ []))
   unfolding text rulesIn bodyIn
   none-text z = ap (λ (y : ℕ). text (ruleBy f r (bodyBy t y) [])) (sym z ∙ e)

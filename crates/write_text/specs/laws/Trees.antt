@@ -9,23 +9,22 @@ use lib.ListN.{getD}
 use borrow.Author.Tests.{lt-ltb, le-ltb}
 use Rattle.read_tokens.specs.Token.{Symbol, Leaf, any}
 use Rattle.grammar.specs.Exp.{Exp, sym as symbol, ter, seq, alt, opt, star, plus, ahead, never}
-use Rattle.grammar_table.specs.Table.{expressionsAt, expressionWords, nodeBy, leafIn}
+use Rattle.grammar_table.specs.Table.{opOf, leftOf, rightOf, nodeBy, leafIn}
 use Rattle.grammar_table.specs.Trees.{treeOf, below}
 use Rattle.grammar_table.specs.laws.Trees.{node-at, node-never}
 use Rattle.write_rules.specs.Writing.{level, wrap, put, symbolText, leafText, exprText}
 use Rattle.write_text.specs.steps.Printed.{lowLeaf, toned}
 
 -- an expression is the node of its words
-pub node-is : (t : List ℕ) (x k l : ℕ) → (x ≡ 0 → ⊥) → k ≡ getD t (expressionsAt + expressionWords * (x - 1)) 0 → l ≡ getD t (expressionsAt + expressionWords * (x - 1) + 1) 0
-    → nodeBy k l (getD t (expressionsAt + expressionWords * (x - 1) + 2) 0) (leafIn t) (λ i. treeOf t (below i (x - 1))) ≡ treeOf t x
+pub node-is : (t : List ℕ) (x k l : ℕ) → (x ≡ 0 → ⊥) → k ≡ opOf t (x - 1) → l ≡ leftOf t (x - 1)
+    → nodeBy k l (rightOf t (x - 1)) (leafIn t) (λ i. treeOf t (below i (x - 1))) ≡ treeOf t x
 node-is t x k l f u v =
-    let z : expressionsAt + expressionWords * (x - 1) ≡ expressionsAt + expressionWords * (x - 1) + 0 = omega arith in
-    node-at t x k l (getD t (expressionsAt + expressionWords * (x - 1) + 2) 0) f (u ∙ ap (λ (j : ℕ). getD t j 0) z) v refl
+    node-at t x k l (rightOf t (x - 1)) f u v refl
 
-pub never-is : (t : List ℕ) (x k l : ℕ) → (x ≡ 0 → ⊥) → k ≡ getD t (expressionsAt + expressionWords * (x - 1)) 0 → l ≡ getD t (expressionsAt + expressionWords * (x - 1) + 1) 0
+pub never-is : (t : List ℕ) (x k l : ℕ) → (x ≡ 0 → ⊥) → k ≡ opOf t (x - 1) → l ≡ leftOf t (x - 1)
     → (k ≡ 0 → ⊥) → (k ≡ 1 → ⊥) → (k ≡ 2 → ⊥) → (k ≡ 3 → ⊥) → (k ≡ 4 → ⊥) → (k ≡ 5 → ⊥) → (k ≡ 6 → ⊥) → (k ≡ 7 → ⊥) → never (treeOf t (below l (x - 1))) ≡ treeOf t x
 never-is t x k l f u v a b c d e g h i =
-    node-never k l (getD t (expressionsAt + expressionWords * (x - 1) + 2) 0) (leafIn t) (λ j. treeOf t (below j (x - 1))) a b c d e g h i ∙ node-is t x k l f u v
+    node-never k l (rightOf t (x - 1)) (leafIn t) (λ j. treeOf t (below j (x - 1))) a b c d e g h i ∙ node-is t x k l f u v
 
 -- the text of what is the same
 pub text-is : (f : ℕ → Symbol) (a b : Exp ℕ) → a ≡ b → exprText (toned f a) ≡ exprText (toned f b)
@@ -65,10 +64,10 @@ pub zero-level : (t : List ℕ) (f : ℕ → Symbol) (x : ℕ) → x ≡ 0 → 4
 unfolding toned
 zero-level t f x z = ap (λ (y : ℕ). level (toned f (treeOf t y))) (sym z)
 
-pub kind-level : (t : List ℕ) (f : ℕ → Symbol) (x k : ℕ) → (x ≡ 0 → ⊥) → k ≡ getD t (expressionsAt + expressionWords * (x - 1)) 0 → levelBy k ≡ level (toned f (treeOf t x))
+pub kind-level : (t : List ℕ) (f : ℕ → Symbol) (x k : ℕ) → (x ≡ 0 → ⊥) → k ≡ opOf t (x - 1) → levelBy k ≡ level (toned f (treeOf t x))
 kind-level t f x k g u =
-    level-is f k (getD t (expressionsAt + expressionWords * (x - 1) + 1) 0) (getD t (expressionsAt + expressionWords * (x - 1) + 2) 0) (leafIn t) (λ i. treeOf t (below i (x - 1)))
-    ∙ ap (λ (e : Exp ℕ). level (toned f e)) (node-is t x k (getD t (expressionsAt + expressionWords * (x - 1) + 1) 0) g u refl)
+    level-is f k (leftOf t (x - 1)) (rightOf t (x - 1)) (leafIn t) (λ i. treeOf t (below i (x - 1)))
+    ∙ ap (λ (e : Exp ℕ). level (toned f e)) (node-is t x k (leftOf t (x - 1)) g u refl)
 
 pub tight : (k : ℕ) → k < 2 → 4 ≡ levelBy k
 tight zero h = refl
@@ -103,12 +102,12 @@ pub zero-text : (t : List ℕ) (f : ℕ → Symbol) (x : ℕ) → x ≡ 0 → 46
 unfolding toned exprText leafText
 zero-text t f x z = ap (λ (y : ℕ). exprText (toned f (treeOf t y))) (sym z)
 
-module _ (t : List ℕ) (f : ℕ → Symbol) (x k l : ℕ) (n : x ≡ 0 → ⊥) (u : k ≡ getD t (expressionsAt + expressionWords * (x - 1)) 0) (v : l ≡ getD t (expressionsAt + expressionWords * (x - 1) + 1) 0) where
+module _ (t : List ℕ) (f : ℕ → Symbol) (x k l : ℕ) (n : x ≡ 0 → ⊥) (u : k ≡ opOf t (x - 1)) (v : l ≡ leftOf t (x - 1)) where
   abbrev whole : List ℕ
   whole = exprText (toned f (treeOf t x))
 
   -- the node by its kind
-  kind-text : (j : ℕ) → k ≡ j → exprText (toned f (nodeBy j l (getD t (expressionsAt + expressionWords * (x - 1) + 2) 0) (leafIn t) (λ i. treeOf t (below i (x - 1))))) ≡ whole
+  kind-text : (j : ℕ) → k ≡ j → exprText (toned f (nodeBy j l (rightOf t (x - 1)) (leafIn t) (λ i. treeOf t (below i (x - 1))))) ≡ whole
   kind-text j e = text-is f _ _ (node-is t x j l n (sym e ∙ u) v)
 
   pub leaf-text : k ≡ 0 → leafText (lowLeaf (leafIn t l)) ≡ whole
@@ -120,14 +119,14 @@ module _ (t : List ℕ) (f : ℕ → Symbol) (x k l : ℕ) (n : x ≡ 0 → ⊥)
   sym-text e = kind-text 1 e
 
   module _ (y : ℕ) (p : y ≡ below l (x - 1)) where
-    pub seq-text : (r z : ℕ) → r ≡ getD t (expressionsAt + expressionWords * (x - 1) + 2) 0 → z ≡ below r (x - 1) → k ≡ 2 → shown f t 1 y ++ ((32 ∷ []) ++ shown f t 2 z) ≡ whole
+    pub seq-text : (r z : ℕ) → r ≡ rightOf t (x - 1) → z ≡ below r (x - 1) → k ≡ 2 → shown f t 1 y ++ ((32 ∷ []) ++ shown f t 2 z) ≡ whole
     unfolding toned exprText nodeBy
     seq-text r z g q e =
         ap (λ (i : ℕ). shown f t 1 i ++ ((32 ∷ []) ++ shown f t 2 z)) p
         ∙ ap (λ (i : ℕ). shown f t 1 (below l (x - 1)) ++ ((32 ∷ []) ++ shown f t 2 i)) (q ∙ ap (λ (j : ℕ). below j (x - 1)) g)
         ∙ kind-text 2 e
 
-    pub alt-text : (r z : ℕ) → r ≡ getD t (expressionsAt + expressionWords * (x - 1) + 2) 0 → z ≡ below r (x - 1) → k ≡ 3 → shown f t 0 y ++ ((32 ∷ []) ++ ((47 ∷ 32 ∷ []) ++ shown f t 1 z)) ≡ whole
+    pub alt-text : (r z : ℕ) → r ≡ rightOf t (x - 1) → z ≡ below r (x - 1) → k ≡ 3 → shown f t 0 y ++ ((32 ∷ []) ++ ((47 ∷ 32 ∷ []) ++ shown f t 1 z)) ≡ whole
     unfolding toned exprText nodeBy
     alt-text r z g q e =
         ap (λ (i : ℕ). shown f t 0 i ++ ((32 ∷ []) ++ ((47 ∷ 32 ∷ []) ++ shown f t 1 z))) p

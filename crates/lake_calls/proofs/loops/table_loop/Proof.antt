@@ -6,10 +6,10 @@ use Rattle.lake_calls.proofs.loops.table_loop.Tie as tie
 use Rattle.lake_calls.proofs.loops.table_loop.Reads as reads
 use Rattle.lake_calls.proofs.loops.table_loop.Lts as lts
 use Rattle.lake_calls.proofs.loops.loop_front.Reads as loop-front-reads
-use Rattle.base_words.proofs.word.Reads as word-reads
+use Rattle.grammar_table.proofs.records.symbols.Reads as symbols-reads
 
-word-requires : tie.Need-word-requires
-word-requires c κs = search needs
+symbols-requires : tie.Need-symbols-requires
+symbols-requires c κs = search needs
 
 slice-aggregate-loop-front : tie.Need-slice-aggregate-loop-front
 slice-aggregate-loop-front c = search needs
@@ -24,13 +24,14 @@ loop-front-requires : tie.Need-loop-front-requires
 loop-front-requires c κs = search needs
 
 returns : tie.Need-returns
-returns c = looped-all (c .before .before .before .before .before .before .before .before .before .args .t .now) (c .before .before .before .before .before .before .before .word .result) (c .before .before .before .loop-front .result) (c .before .before .before .before .before .before .before .word .ensures .0) (c .before .before .before .loop-front .ensures)
+returns c = looped-all (c .before .before .before .before .before .before .before .before .before .args .t .now) (c .before .before .before .before .before .before .before .symbols .result)
+    (c .before .before .before .loop-front .result) (c .before .before .before .before .before .before .before .symbols .ensures .0) (c .before .before .before .loop-front .ensures)
 
 pub table-loop-spec : {M : Type 1} → statement M
 table-loop-spec =
     tie.close
     (tie.spec
-    word-requires
+    symbols-requires
     slice-aggregate-loop-front
     slice-aggregate-loop-front-2
     slice-aggregate-loop-front-3

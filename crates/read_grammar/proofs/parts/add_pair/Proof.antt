@@ -11,10 +11,10 @@ use Rattle.read_grammar.proofs.parts.add_pair.Reads as reads
 use Rattle.read_grammar.proofs.parts.add_pair.Lts as lts
 use Rattle.read_grammar.proofs.parts.add_part.Reads as add-part-reads
 use Rattle.read_grammar.proofs.parts.before.Reads as before-reads
-use Rattle.base_words.proofs.word.Reads as word-reads
+use Rattle.grammar_table.proofs.records.expressions.Reads as expressions-reads
 
-word-requires : tie.Need-word-requires
-word-requires c κs = search needs
+expressions-requires : tie.Need-expressions-requires
+expressions-requires c κs = search needs
 
 before-requires : tie.Need-before-requires
 before-requires c κs = search needs
@@ -29,13 +29,14 @@ same-length : tie.Need-same-length
 same-length c = search needs
 
 returns : tie.Need-returns
-returns c = pushed-args _ _ _ _ _ _ _ (c .before .before .add-part .ensures) (c .before .before .before .before .before .before2 .ensures) (c .before .before .before .before .before3 .ensures ∙ ap (λ (x : ℕ). x - 1) (c .before .before .before .before .before .before .word .ensures .0))
+returns c = pushed-args _ _ _ _ _ _ _ (c .before .before .add-part .ensures) (c .before .before .before .before .before .before2 .ensures) (c .before .before .before .before .before3 .ensures ∙ ap
+    (λ (x : ℕ). x - 1) (c .before .before .before .before .before .before .expressions .ensures .0))
 
 pub add-pair-spec : {M : Type 1} → statement M
 add-pair-spec =
     tie.close
     (tie.spec
-    word-requires
+    expressions-requires
     before-requires
     before-requires-2
     add-part-requires

@@ -9,30 +9,24 @@ use Rattle.read_grammar.proofs.parts.set_body.Statement.{statement}
 use Rattle.read_grammar.proofs.parts.set_body.Tie as tie
 use Rattle.read_grammar.proofs.parts.set_body.Reads as reads
 use Rattle.read_grammar.proofs.parts.set_body.Lts as lts
-use Rattle.base_words.proofs.put.Reads as put-reads
-use Rattle.base_words.proofs.word.Reads as word-reads
+use Rattle.grammar_table.proofs.records.expressions.Reads as expressions-reads
+use Rattle.grammar_table.proofs.records.store_body.Reads as store-body-reads
 
-word-requires : tie.Need-word-requires
-word-requires c κs = search needs
+expressions-requires : tie.Need-expressions-requires
+expressions-requires c κs = search needs
 
-mul-put : tie.Need-mul-put
-mul-put c = search needs
-
-add-put : tie.Need-add-put
-add-put c = search needs
-
-put-requires : tie.Need-put-requires
-put-requires c κs = search needs
+store-body-requires : tie.Need-store-body-requires
+store-body-requires c κs = search needs
 
 same-length : tie.Need-same-length
 same-length c = search needs
 
 returns : tie.Need-returns
-returns c = bodied-in _ _ _ _ (c .before .before .before .before .before .before .if1 .taken) (c .before .before .before .before .word .ensures .0) (c .before .before .put .ensures)
+returns c = bodied-in _ _ _ _ (c .before .before .before .before .before .before .if1 .taken) (c .before .before .before .before .expressions .ensures .0) (c .before .before .store-body .ensures)
 
 returns-2 : tie.Need-returns-2
 returns-2 c = bodied-out _ _ (c .if1 .left)
 
 pub set-body-spec : {M : Type 1} → statement M
 set-body-spec =
-    tie.close (tie.spec word-requires mul-put add-put put-requires same-length returns returns-2)
+    tie.close (tie.spec expressions-requires store-body-requires same-length returns returns-2)

@@ -13,7 +13,8 @@ use Rattle.write_text.proofs.leaves.leaf.Lts as lts
 use Rattle.write_text.proofs.bytes.emit.Reads as emit-reads
 use Rattle.write_text.proofs.leaves.class_runs.Reads as class-runs-reads
 use Rattle.write_text.proofs.leaves.lit_chars.Reads as lit-chars-reads
-use Rattle.base_words.proofs.word.Reads as word-reads
+use Rattle.grammar_table.proofs.records.leaf_kind.Reads as leaf-kind-reads
+use Rattle.grammar_table.proofs.records.leaf_length.Reads as leaf-length-reads
 
 mul-i : tie.Need-mul-i
 mul-i c = search needs
@@ -21,8 +22,11 @@ mul-i c = search needs
 add-i : tie.Need-add-i
 add-i c = search needs
 
-word-requires : tie.Need-word-requires
-word-requires c κs = search needs
+add-i-2 : tie.Need-add-i-2
+add-i-2 c = search needs
+
+leaf-kind-requires : tie.Need-leaf-kind-requires
+leaf-kind-requires c κs = search needs
 
 emit-requires : tie.Need-emit-requires
 emit-requires c κs = search needs
@@ -31,19 +35,15 @@ same-length : tie.Need-same-length
 same-length c = search needs
 
 returns : tie.Need-returns
-returns c = penned-is (any-text (c .before .before .before .before .before .before .before .before .args .t .now) (c .before .before .before .before .before .before .before .before .args .x) (c .before .before .before .before .before .word .result) (c .before .before .before .before .before .word .ensures .0) (c .before .before .before .before .if1 .taken)) (c .before .before .emit .ensures)
+returns c = penned-is (any-text (c .before .before .before .before .before .before .before .before .args .t .now) (c .before .before .before .before .before .before .before .before .args .x)
+    (c .before .before .before .before .before .leaf-kind .result) (c .before .before .before .before .before .leaf-kind .ensures .0) (c .before .before .before .before .if1 .taken))
+    (c .before .before .emit .ensures)
 
-add-word : tie.Need-add-word
-add-word c = search needs
-
-word-requires-2 : tie.Need-word-requires-2
-word-requires-2 c κs = search needs
+leaf-length-requires : tie.Need-leaf-length-requires
+leaf-length-requires c κs = search needs
 
 emit-requires-2 : tie.Need-emit-requires-2
 emit-requires-2 c κs = search needs
-
-add-lit-chars : tie.Need-add-lit-chars
-add-lit-chars c = search needs
 
 lit-chars-requires : tie.Need-lit-chars-requires
 lit-chars-requires c κs = (penned-most (c .before .before .before .emit2 .ensures), omega arith, omega arith)
@@ -55,13 +55,19 @@ same-length-2 : tie.Need-same-length-2
 same-length-2 c = search needs
 
 returns-2 : tie.Need-returns-2
-returns-2 c = penned-is (literal-text (c .before .before .before .before .before .before .before .before .before .before .before .before .before .before .before .before .before .before .args .t .now) (c .before .before .before .before .before .before .before .before .before .before .before .before .before .before .before .before .before .before .args .x) (c .before .before .before .before .before .before .before .before .before .before .before .before .before .before .before .word .result) (c .before .before .before .before .before .before .before .before .before .before .before .before .before .before .before .word .ensures .0) (c .before .before .before .before .before .before .before .before .before .before .before .before .word2 .result) (c .before .before .before .before .before .before .before .before .before .before .before .before .word2 .ensures .0) (c .before .before .before .before .before .before .before .before .before .before .before .before .before .if2 .taken)) (on (omega arith) (c .before .before .before .before .before .before .before .before .before .before .emit2 .ensures) (on (omega arith) (c .before .before .before .before .before .before .lit-chars .ensures) (c .before .before .emit3 .ensures)))
+returns-2 c = penned-is (literal-text
+    (c .before .before .before .before .before .before .before .before .before .before .before .before .before .before .before .before .before .before .args .t .now)
+    (c .before .before .before .before .before .before .before .before .before .before .before .before .before .before .before .before .before .before .args .x)
+    (c .before .before .before .before .before .before .before .before .before .before .before .before .before .before .before .leaf-kind .result)
+    (c .before .before .before .before .before .before .before .before .before .before .before .before .before .before .before .leaf-kind .ensures .0)
+    (c .before .before .before .before .before .before .before .before .before .before .before .before .leaf-length .result)
+    (c .before .before .before .before .before .before .before .before .before .before .before .before .leaf-length .ensures .0)
+    (c .before .before .before .before .before .before .before .before .before .before .before .before .before .if2 .taken)) (on (omega arith)
+    (c .before .before .before .before .before .before .before .before .before .before .emit2 .ensures) (on (omega arith) (c .before .before .before .before .before .before .lit-chars .ensures)
+    (c .before .before .emit3 .ensures)))
 
 emit-requires-4 : tie.Need-emit-requires-4
 emit-requires-4 c κs = search needs
-
-add-class-runs : tie.Need-add-class-runs
-add-class-runs c = search needs
 
 class-runs-requires : tie.Need-class-runs-requires
 class-runs-requires c κs = (penned-most (c .before .before .before .emit4 .ensures), omega arith)
@@ -73,7 +79,14 @@ same-length-3 : tie.Need-same-length-3
 same-length-3 c = search needs
 
 returns-3 : tie.Need-returns-3
-returns-3 c = penned-is (class-text (c .before .before .before .before .before .before .before .before .before .before .before .before .before .before .before .before .before .args .t .now) (c .before .before .before .before .before .before .before .before .before .before .before .before .before .before .before .before .before .args .x) (c .before .before .before .before .before .before .before .before .before .before .before .before .before .before .word .result) (c .before .before .before .before .before .before .before .before .before .before .before .before .before .before .word .ensures .0) (c .before .before .before .before .before .before .before .before .before .before .before .before .before .if1 .left) (c .before .before .before .before .before .before .before .before .before .before .before .before .if2 .left)) (on (omega arith) (c .before .before .before .before .before .before .before .before .before .before .emit4 .ensures) (on (omega arith) (c .before .before .before .before .before .before .class-runs .ensures) (c .before .before .emit5 .ensures)))
+returns-3 c = penned-is (class-text (c .before .before .before .before .before .before .before .before .before .before .before .before .before .before .before .before .before .args .t .now)
+    (c .before .before .before .before .before .before .before .before .before .before .before .before .before .before .before .before .before .args .x)
+    (c .before .before .before .before .before .before .before .before .before .before .before .before .before .before .leaf-kind .result)
+    (c .before .before .before .before .before .before .before .before .before .before .before .before .before .before .leaf-kind .ensures .0)
+    (c .before .before .before .before .before .before .before .before .before .before .before .before .before .if1 .left)
+    (c .before .before .before .before .before .before .before .before .before .before .before .before .if2 .left)) (on (omega arith)
+    (c .before .before .before .before .before .before .before .before .before .before .emit4 .ensures) (on (omega arith) (c .before .before .before .before .before .before .class-runs .ensures)
+    (c .before .before .emit5 .ensures)))
 
 pub leaf-spec : {M : Type 1} → statement M
 leaf-spec =
@@ -81,20 +94,18 @@ leaf-spec =
     (tie.spec
     mul-i
     add-i
-    word-requires
+    add-i-2
+    leaf-kind-requires
     emit-requires
     same-length
     returns
-    add-word
-    word-requires-2
+    leaf-length-requires
     emit-requires-2
-    add-lit-chars
     lit-chars-requires
     emit-requires-3
     same-length-2
     returns-2
     emit-requires-4
-    add-class-runs
     class-runs-requires
     emit-requires-5
     same-length-3

@@ -14,6 +14,7 @@ use Rattle.write_text.proofs.bytes.emit.Reads as emit-reads
 use Rattle.write_text.proofs.bytes.emit2.Reads as emit2-reads
 use Rattle.write_text.proofs.bytes.emit4.Reads as emit4-reads
 use Rattle.write_text.proofs.leaves.name_bytes.Reads as name-bytes-reads
+use Rattle.grammar_table.proofs.records.kind.Reads as kind-reads
 use Rattle.base_words.proofs.word.Reads as word-reads
 
 mul-i : tie.Need-mul-i
@@ -22,14 +23,14 @@ mul-i c = search needs
 add-i : tie.Need-add-i
 add-i c = search needs
 
-word-requires : tie.Need-word-requires
-word-requires c κs = search needs
+kind-requires : tie.Need-kind-requires
+kind-requires c κs = search needs
 
 add-word : tie.Need-add-word
 add-word c = search needs
 
-word-requires-2 : tie.Need-word-requires-2
-word-requires-2 c κs = search needs
+word-requires : tie.Need-word-requires
+word-requires c κs = search needs
 
 add-name-bytes : tie.Need-add-name-bytes
 add-name-bytes c = search needs
@@ -41,7 +42,10 @@ same-length : tie.Need-same-length
 same-length c = search needs
 
 returns : tie.Need-returns
-returns c = penned-is (name-text (c .before .before .before .before .before .before .before .before .before .args .t .now) (c .before .before .before .before .before .before .before .before .before .args .r) (c .before .before .before .before .before .before .word .result) (c .before .before .before .before .before .word2 .result) (c .before .before .before .before .before .before .word .ensures .0) (c .before .before .before .before .before .word2 .ensures .0) (c .before .before .before .before .before .before .before .before .before .args .plain) (c .before .before .before .before .if1 .taken)) (c .before .before .name-bytes .ensures)
+returns c = penned-is (name-text (c .before .before .before .before .before .before .before .before .before .args .t .now)
+    (c .before .before .before .before .before .before .before .before .before .args .r) (c .before .before .before .before .before .before .kind .result)
+    (c .before .before .before .before .before .word .result) (c .before .before .before .before .before .before .kind .ensures .0) (c .before .before .before .before .before .word .ensures .0)
+    (c .before .before .before .before .before .before .before .before .before .args .plain) (c .before .before .before .before .if1 .taken)) (c .before .before .name-bytes .ensures)
 
 emit4-requires : tie.Need-emit4-requires
 emit4-requires c κs = search needs
@@ -59,7 +63,18 @@ same-length-2 : tie.Need-same-length-2
 same-length-2 c = search needs
 
 returns-2 : tie.Need-returns-2
-returns-2 c = penned-is (plain-text (c .before .before .before .before .before .before .before .before .before .before .before .before .before .before .before .before .before .before .args .t .now) (c .before .before .before .before .before .before .before .before .before .before .before .before .before .before .before .before .before .before .args .r) (c .before .before .before .before .before .before .before .before .before .before .before .before .before .before .before .word .result) (c .before .before .before .before .before .before .before .before .before .before .before .before .before .before .word2 .result) (c .before .before .before .before .before .before .before .before .before .before .before .before .before .before .before .word .ensures .0) (c .before .before .before .before .before .before .before .before .before .before .before .before .before .before .word2 .ensures .0) (c .before .before .before .before .before .before .before .before .before .before .before .before .before .before .before .before .before .before .args .plain) (c .before .before .before .before .before .before .before .before .before .before .before .before .if2 .taken) (c .before .before .before .before .before .before .before .before .before .before .before .before .before .if1 .left)) (on (omega arith) (c .before .before .before .before .before .before .before .before .before .before .emit4 .ensures) (on (omega arith) (c .before .before .before .before .before .before .emit2 .ensures) (c .before .before .name-bytes2 .ensures)))
+returns-2 c = penned-is (plain-text
+    (c .before .before .before .before .before .before .before .before .before .before .before .before .before .before .before .before .before .before .args .t .now)
+    (c .before .before .before .before .before .before .before .before .before .before .before .before .before .before .before .before .before .before .args .r)
+    (c .before .before .before .before .before .before .before .before .before .before .before .before .before .before .before .kind .result)
+    (c .before .before .before .before .before .before .before .before .before .before .before .before .before .before .word .result)
+    (c .before .before .before .before .before .before .before .before .before .before .before .before .before .before .before .kind .ensures .0)
+    (c .before .before .before .before .before .before .before .before .before .before .before .before .before .before .word .ensures .0)
+    (c .before .before .before .before .before .before .before .before .before .before .before .before .before .before .before .before .before .before .args .plain)
+    (c .before .before .before .before .before .before .before .before .before .before .before .before .if2 .taken)
+    (c .before .before .before .before .before .before .before .before .before .before .before .before .before .if1 .left)) (on (omega arith)
+    (c .before .before .before .before .before .before .before .before .before .before .emit4 .ensures) (on (omega arith) (c .before .before .before .before .before .before .emit2 .ensures)
+    (c .before .before .name-bytes2 .ensures)))
 
 emit-requires : tie.Need-emit-requires
 emit-requires c κs = search needs
@@ -77,7 +92,17 @@ same-length-3 : tie.Need-same-length-3
 same-length-3 c = search needs
 
 returns-3 : tie.Need-returns-3
-returns-3 c = penned-is (lake-text (c .before .before .before .before .before .before .before .before .before .before .before .before .before .before .before .before .before .before .args .t .now) (c .before .before .before .before .before .before .before .before .before .before .before .before .before .before .before .before .before .before .args .r) (c .before .before .before .before .before .before .before .before .before .before .before .before .before .before .before .word .result) (c .before .before .before .before .before .before .before .before .before .before .before .before .before .before .word2 .result) (c .before .before .before .before .before .before .before .before .before .before .before .before .before .before .before .word .ensures .0) (c .before .before .before .before .before .before .before .before .before .before .before .before .before .before .word2 .ensures .0) (c .before .before .before .before .before .before .before .before .before .before .before .before .before .before .before .before .before .before .args .plain) (c .before .before .before .before .before .before .before .before .before .before .before .before .if2 .left) (c .before .before .before .before .before .before .before .before .before .before .before .before .before .if1 .left)) (on (omega arith) (c .before .before .before .before .before .before .before .before .before .before .emit .ensures) (on (omega arith) (c .before .before .before .before .before .before .name-bytes3 .ensures) (c .before .before .emit3 .ensures)))
+returns-3 c = penned-is (lake-text (c .before .before .before .before .before .before .before .before .before .before .before .before .before .before .before .before .before .before .args .t .now)
+    (c .before .before .before .before .before .before .before .before .before .before .before .before .before .before .before .before .before .before .args .r)
+    (c .before .before .before .before .before .before .before .before .before .before .before .before .before .before .before .kind .result)
+    (c .before .before .before .before .before .before .before .before .before .before .before .before .before .before .word .result)
+    (c .before .before .before .before .before .before .before .before .before .before .before .before .before .before .before .kind .ensures .0)
+    (c .before .before .before .before .before .before .before .before .before .before .before .before .before .before .word .ensures .0)
+    (c .before .before .before .before .before .before .before .before .before .before .before .before .before .before .before .before .before .before .args .plain)
+    (c .before .before .before .before .before .before .before .before .before .before .before .before .if2 .left)
+    (c .before .before .before .before .before .before .before .before .before .before .before .before .before .if1 .left)) (on (omega arith)
+    (c .before .before .before .before .before .before .before .before .before .before .emit .ensures) (on (omega arith) (c .before .before .before .before .before .before .name-bytes3 .ensures)
+    (c .before .before .emit3 .ensures)))
 
 pub symbol-spec : {M : Type 1} → statement M
 symbol-spec =
@@ -85,9 +110,9 @@ symbol-spec =
     (tie.spec
     mul-i
     add-i
-    word-requires
+    kind-requires
     add-word
-    word-requires-2
+    word-requires
     add-name-bytes
     name-bytes-requires
     same-length

@@ -29,7 +29,9 @@ use Rattle.write_text.proofs.bytes.emit2.Reads as emit2-reads
 use Rattle.write_text.proofs.leaves.leaf.Reads as leaf-reads
 use Rattle.write_text.proofs.leaves.symbol.Reads as symbol-reads
 use Rattle.write_text.proofs.rules.level_of.Reads as level-of-reads
-use Rattle.base_words.proofs.word.Reads as word-reads
+use Rattle.grammar_table.proofs.records.left.Reads as left-reads
+use Rattle.grammar_table.proofs.records.op.Reads as op-reads
+use Rattle.grammar_table.proofs.records.right.Reads as right-reads
 use Rattle.write_text.proofs.rules.+exp+wrapped.{statement}
 use Rattle.write_text.proofs.rules.+exp+wrapped.Tie.{close}
 
@@ -52,7 +54,26 @@ abbrev wrapped-below : ℕ → In 2 wrapped-kinds.ps
 wrapped-below t = and 2 wrapped-kinds.ps (falls 2 wrapped-kinds.ps _<_ μ-wrapped t) wrapped.Pre
 
 abbrev exp-claims : ℕ → exp-lts.Claims
-exp-claims t = (emit-reads.Asked, emit-reads.Learnt, word-reads.Asked, word-reads.Learnt, part-reads.Asked, part-reads.Learnt, leaf-reads.Asked, leaf-reads.Learnt, symbol-reads.Asked, symbol-reads.Learnt, wrapped-below t, wrapped.Post, emit2-reads.Asked, emit2-reads.Learnt)
+exp-claims t = (
+  emit-reads.Asked,
+  emit-reads.Learnt,
+  left-reads.Asked,
+  left-reads.Learnt,
+  part-reads.Asked,
+  part-reads.Learnt,
+  op-reads.Asked,
+  op-reads.Learnt,
+  leaf-reads.Asked,
+  leaf-reads.Learnt,
+  symbol-reads.Asked,
+  symbol-reads.Learnt,
+  wrapped-below t,
+  wrapped.Post,
+  right-reads.Asked,
+  right-reads.Learnt,
+  emit2-reads.Asked,
+  emit2-reads.Learnt,
+)
 
 abbrev wrapped-claims : ℕ → wrapped-lts.Claims
 wrapped-claims t = (level-of-reads.Asked, level-of-reads.Learnt, emit-reads.Asked, emit-reads.Learnt, exp-below t, exp.Post)
@@ -64,28 +85,21 @@ exp-same-length : (t : ℕ) → exp-lts.Need-same-length (exp-claims t) (exp-at 
 exp-same-length t c = search needs
 
 exp-returns : (t : ℕ) → exp-lts.Need-returns (exp-claims t) (exp-at t) exp.Post
-exp-returns t c = penned-is (zero-text (c .before .before .before .before .before .before .before .args .t .now) (called (c .before .before .before .before .before .before .before .args .plain) (c .before .before .before .before .before .before .before .args .t .now)) (c .before .before .before .before .before .before .before .args .x) (c .before .before .before .before .if1 .taken)) (c .before .before .emit .ensures)
+exp-returns t c = penned-is (zero-text (c .before .before .before .before .before .before .before .args .t .now) (called (c .before .before .before .before .before .before .before .args .plain)
+    (c .before .before .before .before .before .before .before .args .t .now)) (c .before .before .before .before .before .before .before .args .x) (c .before .before .before .before .if1 .taken))
+    (c .before .before .emit .ensures)
 
 exp-sub-e : (t : ℕ) → exp-lts.Need-sub-e (exp-claims t) (exp-at t) exp.Post
 exp-sub-e t c = search needs
 
-exp-mul-i : (t : ℕ) → exp-lts.Need-mul-i (exp-claims t) (exp-at t) exp.Post
-exp-mul-i t c = search needs
-
-exp-add-i : (t : ℕ) → exp-lts.Need-add-i (exp-claims t) (exp-at t) exp.Post
-exp-add-i t c = search needs
-
-exp-add-word : (t : ℕ) → exp-lts.Need-add-word (exp-claims t) (exp-at t) exp.Post
-exp-add-word t c = search needs
-
-exp-word-requires : (t : ℕ) → exp-lts.Need-word-requires (exp-claims t) (exp-at t) exp.Post
-exp-word-requires t c κs = search needs
+exp-left-requires : (t : ℕ) → exp-lts.Need-left-requires (exp-claims t) (exp-at t) exp.Post
+exp-left-requires t c κs = search needs
 
 exp-part-requires : (t : ℕ) → exp-lts.Need-part-requires (exp-claims t) (exp-at t) exp.Post
 exp-part-requires t c κs = search needs
 
-exp-word-requires-2 : (t : ℕ) → exp-lts.Need-word-requires-2 (exp-claims t) (exp-at t) exp.Post
-exp-word-requires-2 t c κs = search needs
+exp-op-requires : (t : ℕ) → exp-lts.Need-op-requires (exp-claims t) (exp-at t) exp.Post
+exp-op-requires t c κs = search needs
 
 exp-leaf-requires : (t : ℕ) → exp-lts.Need-leaf-requires (exp-claims t) (exp-at t) exp.Post
 exp-leaf-requires t c κs = search needs
@@ -94,25 +108,83 @@ exp-symbol-requires : (t : ℕ) → exp-lts.Need-symbol-requires (exp-claims t) 
 exp-symbol-requires t c κs = search needs
 
 exp-wrapped-requires : (t : ℕ) → exp-lts.Need-wrapped-requires (exp-claims t) (exp-at t) exp.Post
-exp-wrapped-requires t c κs = (omega (arith, below-le (c .before .before .before .before .word .result) (c .before .before .before .before .before .before .before .before .args .x - 1), c .before .before .before .part .ensures, c .before .before .before .before .before .if1 .left, c .before .before .before .before .before .before .before .before .pre .0), (c .before .before .before .before .before .before .before .before .pre .1 .0, omega (arith, below-le (c .before .before .before .before .word .result) (c .before .before .before .before .before .before .before .before .args .x - 1), c .before .before .before .part .ensures, c .before .before .before .before .before .if1 .left, c .before .before .before .before .before .before .before .before .pre .1)))
+exp-wrapped-requires t c κs = (
+  omega (
+    arith,
+    below-le (c .before .before .before .before .left .result)
+        (c .before .before .before .before .before .before .before .before .args .x - 1),
+    c .before .before .before .part .ensures,
+    c .before .before .before .before .before .if1 .left,
+    c .before .before .before .before .before .before .before .before .pre .0,
+  ),
+  (
+    c .before .before .before .before .before .before .before .before .pre .1 .0,
+    omega (
+      arith,
+      below-le
+          (c .before .before .before .before .left .result) (c .before .before .before .before .before .before .before .before .args .x - 1),
+      c .before .before .before .part .ensures,
+      c .before .before .before .before .before .if1 .left,
+      c .before .before .before .before .before .before .before .before .pre .1,
+    ),
+  ),
+)
 
 exp-emit-requires-2 : (t : ℕ) → exp-lts.Need-emit-requires-2 (exp-claims t) (exp-at t) exp.Post
 exp-emit-requires-2 t c κs = search needs
 
-exp-add-word-2 : (t : ℕ) → exp-lts.Need-add-word-2 (exp-claims t) (exp-at t) exp.Post
-exp-add-word-2 t c = search needs
-
-exp-word-requires-3 : (t : ℕ) → exp-lts.Need-word-requires-3 (exp-claims t) (exp-at t) exp.Post
-exp-word-requires-3 t c κs = search needs
+exp-right-requires : (t : ℕ) → exp-lts.Need-right-requires (exp-claims t) (exp-at t) exp.Post
+exp-right-requires t c κs = search needs
 
 exp-part-requires-2 : (t : ℕ) → exp-lts.Need-part-requires-2 (exp-claims t) (exp-at t) exp.Post
 exp-part-requires-2 t c κs = search needs
 
 exp-wrapped-requires-2 : (t : ℕ) → exp-lts.Need-wrapped-requires-2 (exp-claims t) (exp-at t) exp.Post
-exp-wrapped-requires-2 t c κs = (omega (arith, below-le (c .before .before .word3 .result) (c .before .before .before .before .before .before .before .before .before .before .before .before .before .before .before .before .before .before .args .x - 1), c .before .part2 .ensures, c .before .before .before .before .before .before .before .before .before .before .before .before .before .before .before .if1 .left, c .before .before .before .before .before .before .before .before .before .before .before .before .before .before .before .before .before .before .pre .0), (penned-most (c .before .before .before .before .before .emit2 .ensures), omega (arith, below-le (c .before .before .word3 .result) (c .before .before .before .before .before .before .before .before .before .before .before .before .before .before .before .before .before .before .args .x - 1), c .before .part2 .ensures, c .before .before .before .before .before .before .before .before .before .before .before .before .before .before .before .if1 .left, c .before .before .before .before .before .before .before .before .before .before .before .before .before .before .before .before .before .before .pre .1)))
+exp-wrapped-requires-2 t c κs = (
+  omega (
+    arith,
+    below-le (c .before .before .right .result)
+        (c .before .before .before .before .before .before .before .before .before .before .before .before .before .before .before .before .before .before .args .x - 1),
+    c .before .part2 .ensures,
+    c .before .before .before .before .before .before .before .before .before .before .before .before .before .before .before .if1 .left,
+    c .before .before .before .before .before .before .before .before .before .before .before .before .before .before .before .before .before .before .pre .0,
+  ),
+  (
+    penned-most
+        (c .before .before .before .before .before .emit2 .ensures),
+    omega (
+      arith,
+      below-le (c .before .before .right .result)
+          (c .before .before .before .before .before .before .before .before .before .before .before .before .before .before .before .before .before .before .args .x - 1),
+      c .before .part2 .ensures,
+      c .before .before .before .before .before .before .before .before .before .before .before .before .before .before .before .if1 .left,
+      c .before .before .before .before .before .before .before .before .before .before .before .before .before .before .before .before .before .before .pre .1,
+    ),
+  ),
+)
 
 exp-wrapped-requires-3 : (t : ℕ) → exp-lts.Need-wrapped-requires-3 (exp-claims t) (exp-at t) exp.Post
-exp-wrapped-requires-3 t c κs = (omega (arith, below-le (c .before .before .before .before .word .result) (c .before .before .before .before .before .before .before .before .args .x - 1), c .before .before .before .part .ensures, c .before .before .before .before .before .if1 .left, c .before .before .before .before .before .before .before .before .pre .0), (c .before .before .before .before .before .before .before .before .pre .1 .0, omega (arith, below-le (c .before .before .before .before .word .result) (c .before .before .before .before .before .before .before .before .args .x - 1), c .before .before .before .part .ensures, c .before .before .before .before .before .if1 .left, c .before .before .before .before .before .before .before .before .pre .1)))
+exp-wrapped-requires-3 t c κs = (
+  omega (
+    arith,
+    below-le (c .before .before .before .before .left .result)
+        (c .before .before .before .before .before .before .before .before .args .x - 1),
+    c .before .before .before .part .ensures,
+    c .before .before .before .before .before .if1 .left,
+    c .before .before .before .before .before .before .before .before .pre .0,
+  ),
+  (
+    c .before .before .before .before .before .before .before .before .pre .1 .0,
+    omega (
+      arith,
+      below-le
+          (c .before .before .before .before .left .result) (c .before .before .before .before .before .before .before .before .args .x - 1),
+      c .before .before .before .part .ensures,
+      c .before .before .before .before .before .if1 .left,
+      c .before .before .before .before .before .before .before .before .pre .1,
+    ),
+  ),
+)
 
 exp-emit-requires-3 : (t : ℕ) → exp-lts.Need-emit-requires-3 (exp-claims t) (exp-at t) exp.Post
 exp-emit-requires-3 t c κs = search needs
@@ -120,32 +192,111 @@ exp-emit-requires-3 t c κs = search needs
 exp-emit2-requires : (t : ℕ) → exp-lts.Need-emit2-requires (exp-claims t) (exp-at t) exp.Post
 exp-emit2-requires t c κs = search needs
 
-exp-add-word-3 : (t : ℕ) → exp-lts.Need-add-word-3 (exp-claims t) (exp-at t) exp.Post
-exp-add-word-3 t c = search needs
-
-exp-word-requires-4 : (t : ℕ) → exp-lts.Need-word-requires-4 (exp-claims t) (exp-at t) exp.Post
-exp-word-requires-4 t c κs = search needs
+exp-right-requires-2 : (t : ℕ) → exp-lts.Need-right-requires-2 (exp-claims t) (exp-at t) exp.Post
+exp-right-requires-2 t c κs = search needs
 
 exp-part-requires-3 : (t : ℕ) → exp-lts.Need-part-requires-3 (exp-claims t) (exp-at t) exp.Post
 exp-part-requires-3 t c κs = search needs
 
 exp-wrapped-requires-4 : (t : ℕ) → exp-lts.Need-wrapped-requires-4 (exp-claims t) (exp-at t) exp.Post
-exp-wrapped-requires-4 t c κs = (omega (arith, below-le (c .before .before .word4 .result) (c .before .before .before .before .before .before .before .before .before .before .before .before .before .before .before .before .before .before .before .before .before .before .args .x - 1), c .before .part3 .ensures, c .before .before .before .before .before .before .before .before .before .before .before .before .before .before .before .before .before .before .before .if1 .left, c .before .before .before .before .before .before .before .before .before .before .before .before .before .before .before .before .before .before .before .before .before .before .pre .0), (penned-most (c .before .before .before .before .before .emit22 .ensures), omega (arith, below-le (c .before .before .word4 .result) (c .before .before .before .before .before .before .before .before .before .before .before .before .before .before .before .before .before .before .before .before .before .before .args .x - 1), c .before .part3 .ensures, c .before .before .before .before .before .before .before .before .before .before .before .before .before .before .before .before .before .before .before .if1 .left, c .before .before .before .before .before .before .before .before .before .before .before .before .before .before .before .before .before .before .before .before .before .before .pre .1)))
+exp-wrapped-requires-4 t c κs = (
+  omega (
+    arith,
+    below-le (c .before .before .right2 .result)
+        (c .before .before .before .before .before .before .before .before .before .before .before .before .before .before .before .before .before .before .before .before .before .before .args .x -
+        1),
+    c .before .part3 .ensures,
+    c .before .before .before .before .before .before .before .before .before .before .before .before .before .before .before .before .before .before .before .if1 .left,
+    c .before .before .before .before .before .before .before .before .before .before .before .before .before .before .before .before .before .before .before .before .before .before .pre .0,
+  ),
+  (
+    penned-most (c .before .before .before .before .before .emit22 .ensures),
+    omega (
+      arith,
+      below-le (c .before .before .right2 .result)
+          (c .before .before .before .before .before .before .before .before .before .before .before .before .before .before .before .before .before .before .before .before .before .before .args .x -
+          1),
+      c .before .part3 .ensures,
+      c .before .before .before .before .before .before .before .before .before .before .before .before .before .before .before .before .before .before .before .if1 .left,
+      c .before .before .before .before .before .before .before .before .before .before .before .before .before .before .before .before .before .before .before .before .before .before .pre .1,
+    ),
+  ),
+)
 
 exp-wrapped-requires-5 : (t : ℕ) → exp-lts.Need-wrapped-requires-5 (exp-claims t) (exp-at t) exp.Post
-exp-wrapped-requires-5 t c κs = (omega (arith, below-le (c .before .before .before .before .word .result) (c .before .before .before .before .before .before .before .before .args .x - 1), c .before .before .before .part .ensures, c .before .before .before .before .before .if1 .left, c .before .before .before .before .before .before .before .before .pre .0), (c .before .before .before .before .before .before .before .before .pre .1 .0, omega (arith, below-le (c .before .before .before .before .word .result) (c .before .before .before .before .before .before .before .before .args .x - 1), c .before .before .before .part .ensures, c .before .before .before .before .before .if1 .left, c .before .before .before .before .before .before .before .before .pre .1)))
+exp-wrapped-requires-5 t c κs = (
+  omega (
+    arith,
+    below-le (c .before .before .before .before .left .result)
+        (c .before .before .before .before .before .before .before .before .args .x - 1),
+    c .before .before .before .part .ensures,
+    c .before .before .before .before .before .if1 .left,
+    c .before .before .before .before .before .before .before .before .pre .0,
+  ),
+  (
+    c .before .before .before .before .before .before .before .before .pre .1 .0,
+    omega (
+      arith,
+      below-le
+          (c .before .before .before .before .left .result) (c .before .before .before .before .before .before .before .before .args .x - 1),
+      c .before .before .before .part .ensures,
+      c .before .before .before .before .before .if1 .left,
+      c .before .before .before .before .before .before .before .before .pre .1,
+    ),
+  ),
+)
 
 exp-emit-requires-4 : (t : ℕ) → exp-lts.Need-emit-requires-4 (exp-claims t) (exp-at t) exp.Post
 exp-emit-requires-4 t c κs = search needs
 
 exp-wrapped-requires-6 : (t : ℕ) → exp-lts.Need-wrapped-requires-6 (exp-claims t) (exp-at t) exp.Post
-exp-wrapped-requires-6 t c κs = (omega (arith, below-le (c .before .before .before .before .word .result) (c .before .before .before .before .before .before .before .before .args .x - 1), c .before .before .before .part .ensures, c .before .before .before .before .before .if1 .left, c .before .before .before .before .before .before .before .before .pre .0), (c .before .before .before .before .before .before .before .before .pre .1 .0, omega (arith, below-le (c .before .before .before .before .word .result) (c .before .before .before .before .before .before .before .before .args .x - 1), c .before .before .before .part .ensures, c .before .before .before .before .before .if1 .left, c .before .before .before .before .before .before .before .before .pre .1)))
+exp-wrapped-requires-6 t c κs = (
+  omega (
+    arith,
+    below-le (c .before .before .before .before .left .result)
+        (c .before .before .before .before .before .before .before .before .args .x - 1),
+    c .before .before .before .part .ensures,
+    c .before .before .before .before .before .if1 .left,
+    c .before .before .before .before .before .before .before .before .pre .0,
+  ),
+  (
+    c .before .before .before .before .before .before .before .before .pre .1 .0,
+    omega (
+      arith,
+      below-le
+          (c .before .before .before .before .left .result) (c .before .before .before .before .before .before .before .before .args .x - 1),
+      c .before .before .before .part .ensures,
+      c .before .before .before .before .before .if1 .left,
+      c .before .before .before .before .before .before .before .before .pre .1,
+    ),
+  ),
+)
 
 exp-emit-requires-5 : (t : ℕ) → exp-lts.Need-emit-requires-5 (exp-claims t) (exp-at t) exp.Post
 exp-emit-requires-5 t c κs = search needs
 
 exp-wrapped-requires-7 : (t : ℕ) → exp-lts.Need-wrapped-requires-7 (exp-claims t) (exp-at t) exp.Post
-exp-wrapped-requires-7 t c κs = (omega (arith, below-le (c .before .before .before .before .word .result) (c .before .before .before .before .before .before .before .before .args .x - 1), c .before .before .before .part .ensures, c .before .before .before .before .before .if1 .left, c .before .before .before .before .before .before .before .before .pre .0), (c .before .before .before .before .before .before .before .before .pre .1 .0, omega (arith, below-le (c .before .before .before .before .word .result) (c .before .before .before .before .before .before .before .before .args .x - 1), c .before .before .before .part .ensures, c .before .before .before .before .before .if1 .left, c .before .before .before .before .before .before .before .before .pre .1)))
+exp-wrapped-requires-7 t c κs = (
+  omega (
+    arith,
+    below-le (c .before .before .before .before .left .result)
+        (c .before .before .before .before .before .before .before .before .args .x - 1),
+    c .before .before .before .part .ensures,
+    c .before .before .before .before .before .if1 .left,
+    c .before .before .before .before .before .before .before .before .pre .0,
+  ),
+  (
+    c .before .before .before .before .before .before .before .before .pre .1 .0,
+    omega (
+      arith,
+      below-le
+          (c .before .before .before .before .left .result) (c .before .before .before .before .before .before .before .before .args .x - 1),
+      c .before .before .before .part .ensures,
+      c .before .before .before .before .before .if1 .left,
+      c .before .before .before .before .before .before .before .before .pre .1,
+    ),
+  ),
+)
 
 exp-emit-requires-6 : (t : ℕ) → exp-lts.Need-emit-requires-6 (exp-claims t) (exp-at t) exp.Post
 exp-emit-requires-6 t c κs = search needs
@@ -154,67 +305,241 @@ exp-emit-requires-7 : (t : ℕ) → exp-lts.Need-emit-requires-7 (exp-claims t) 
 exp-emit-requires-7 t c κs = search needs
 
 exp-wrapped-requires-8 : (t : ℕ) → exp-lts.Need-wrapped-requires-8 (exp-claims t) (exp-at t) exp.Post
-exp-wrapped-requires-8 t c κs = (omega (arith, below-le (c .before .before .before .before .before .before .before .before .word .result) (c .before .before .before .before .before .before .before .before .before .before .before .before .args .x - 1), c .before .before .before .before .before .before .before .part .ensures, c .before .before .before .before .before .before .before .before .before .if1 .left, c .before .before .before .before .before .before .before .before .before .before .before .before .pre .0), (penned-most (c .before .before .before .emit7 .ensures), omega (arith, below-le (c .before .before .before .before .before .before .before .before .word .result) (c .before .before .before .before .before .before .before .before .before .before .before .before .args .x - 1), c .before .before .before .before .before .before .before .part .ensures, c .before .before .before .before .before .before .before .before .before .if1 .left, c .before .before .before .before .before .before .before .before .before .before .before .before .pre .1)))
+exp-wrapped-requires-8 t c κs = (
+  omega (
+    arith,
+    below-le (c .before .before .before .before .before .before .before .before .left .result)
+        (c .before .before .before .before .before .before .before .before .before .before .before .before .args .x - 1),
+    c .before .before .before .before .before .before .before .part .ensures,
+    c .before .before .before .before .before .before .before .before .before .if1 .left,
+    c .before .before .before .before .before .before .before .before .before .before .before .before .pre .0,
+  ),
+  (
+    penned-most (c .before .before .before .emit7 .ensures),
+    omega (
+      arith,
+      below-le
+          (c .before .before .before .before .before .before .before .before .left .result)
+          (c .before .before .before .before .before .before .before .before .before .before .before .before .args .x - 1),
+      c .before .before .before .before .before .before .before .part .ensures,
+      c .before .before .before .before .before .before .before .before .before .if1 .left,
+      c .before .before .before .before .before .before .before .before .before .before .before .before .pre .1,
+    ),
+  ),
+)
 
 exp-emit-requires-8 : (t : ℕ) → exp-lts.Need-emit-requires-8 (exp-claims t) (exp-at t) exp.Post
 exp-emit-requires-8 t c κs = search needs
 
 exp-wrapped-requires-9 : (t : ℕ) → exp-lts.Need-wrapped-requires-9 (exp-claims t) (exp-at t) exp.Post
-exp-wrapped-requires-9 t c κs = (omega (arith, below-le (c .before .before .before .before .before .before .before .before .word .result) (c .before .before .before .before .before .before .before .before .before .before .before .before .args .x - 1), c .before .before .before .before .before .before .before .part .ensures, c .before .before .before .before .before .before .before .before .before .if1 .left, c .before .before .before .before .before .before .before .before .before .before .before .before .pre .0), (penned-most (c .before .before .before .emit8 .ensures), omega (arith, below-le (c .before .before .before .before .before .before .before .before .word .result) (c .before .before .before .before .before .before .before .before .before .before .before .before .args .x - 1), c .before .before .before .before .before .before .before .part .ensures, c .before .before .before .before .before .before .before .before .before .if1 .left, c .before .before .before .before .before .before .before .before .before .before .before .before .pre .1)))
+exp-wrapped-requires-9 t c κs = (
+  omega (
+    arith,
+    below-le (c .before .before .before .before .before .before .before .before .left .result)
+        (c .before .before .before .before .before .before .before .before .before .before .before .before .args .x - 1),
+    c .before .before .before .before .before .before .before .part .ensures,
+    c .before .before .before .before .before .before .before .before .before .if1 .left,
+    c .before .before .before .before .before .before .before .before .before .before .before .before .pre .0,
+  ),
+  (
+    penned-most (c .before .before .before .emit8 .ensures),
+    omega (
+      arith,
+      below-le
+          (c .before .before .before .before .before .before .before .before .left .result)
+          (c .before .before .before .before .before .before .before .before .before .before .before .before .args .x - 1),
+      c .before .before .before .before .before .before .before .part .ensures,
+      c .before .before .before .before .before .before .before .before .before .if1 .left,
+      c .before .before .before .before .before .before .before .before .before .before .before .before .pre .1,
+    ),
+  ),
+)
 
 exp-same-length-2 : (t : ℕ) → exp-lts.Need-same-length-2 (exp-claims t) (exp-at t) exp.Post
 exp-same-length-2 t c = search needs
 
 exp-returns-2 : (t : ℕ) → exp-lts.Need-returns-2 (exp-claims t) (exp-at t) exp.Post
-exp-returns-2 t c = penned-is (leaf-text (c .before .before .before .before .before .before .before .before .before .before .before .args .t .now) (called (c .before .before .before .before .before .before .before .before .before .before .before .args .plain) (c .before .before .before .before .before .before .before .before .before .before .before .args .t .now)) (c .before .before .before .before .before .before .before .before .before .before .before .args .x) (c .before .before .before .before .before .word2 .result) (c .before .before .before .before .before .before .before .word .result) (c .before .before .before .before .before .before .before .before .if1 .left) (c .before .before .before .before .before .word2 .ensures .0) (c .before .before .before .before .before .before .before .word .ensures .0) (c .before .before .before .before .match .keys1)) (c .before .before .leaf .ensures)
+exp-returns-2 t c = penned-is (leaf-text (c .before .before .before .before .before .before .before .before .before .before .before .args .t .now) (called
+    (c .before .before .before .before .before .before .before .before .before .before .before .args .plain)
+    (c .before .before .before .before .before .before .before .before .before .before .before .args .t .now))
+    (c .before .before .before .before .before .before .before .before .before .before .before .args .x) (c .before .before .before .before .before .op .result)
+    (c .before .before .before .before .before .before .before .left .result) (c .before .before .before .before .before .before .before .before .if1 .left)
+    (c .before .before .before .before .before .op .ensures .0) (c .before .before .before .before .before .before .before .left .ensures .0) (c .before .before .before .before .match .keys1))
+    (c .before .before .leaf .ensures)
 
 exp-same-length-3 : (t : ℕ) → exp-lts.Need-same-length-3 (exp-claims t) (exp-at t) exp.Post
 exp-same-length-3 t c = search needs
 
 exp-returns-3 : (t : ℕ) → exp-lts.Need-returns-3 (exp-claims t) (exp-at t) exp.Post
-exp-returns-3 t c = penned-is (sym-text (c .before .before .before .before .before .before .before .before .before .before .before .args .t .now) (called (c .before .before .before .before .before .before .before .before .before .before .before .args .plain) (c .before .before .before .before .before .before .before .before .before .before .before .args .t .now)) (c .before .before .before .before .before .before .before .before .before .before .before .args .x) (c .before .before .before .before .before .word2 .result) (c .before .before .before .before .before .before .before .word .result) (c .before .before .before .before .before .before .before .before .if1 .left) (c .before .before .before .before .before .word2 .ensures .0) (c .before .before .before .before .before .before .before .word .ensures .0) (c .before .before .before .before .match .keys2)) (c .before .before .symbol .ensures)
+exp-returns-3 t c = penned-is (sym-text (c .before .before .before .before .before .before .before .before .before .before .before .args .t .now) (called
+    (c .before .before .before .before .before .before .before .before .before .before .before .args .plain)
+    (c .before .before .before .before .before .before .before .before .before .before .before .args .t .now))
+    (c .before .before .before .before .before .before .before .before .before .before .before .args .x) (c .before .before .before .before .before .op .result)
+    (c .before .before .before .before .before .before .before .left .result) (c .before .before .before .before .before .before .before .before .if1 .left)
+    (c .before .before .before .before .before .op .ensures .0) (c .before .before .before .before .before .before .before .left .ensures .0) (c .before .before .before .before .match .keys2))
+    (c .before .before .symbol .ensures)
 
 exp-same-length-4 : (t : ℕ) → exp-lts.Need-same-length-4 (exp-claims t) (exp-at t) exp.Post
 exp-same-length-4 t c = search needs
 
 exp-returns-4 : (t : ℕ) → exp-lts.Need-returns-4 (exp-claims t) (exp-at t) exp.Post
-exp-returns-4 t c = penned-is (seq-text (c .before .before .before .before .before .before .before .before .before .before .before .before .before .before .before .before .before .before .before .before .before .args .t .now) (called (c .before .before .before .before .before .before .before .before .before .before .before .before .before .before .before .before .before .before .before .before .before .args .plain) (c .before .before .before .before .before .before .before .before .before .before .before .before .before .before .before .before .before .before .before .before .before .args .t .now)) (c .before .before .before .before .before .before .before .before .before .before .before .before .before .before .before .before .before .before .before .before .before .args .x) (c .before .before .before .before .before .before .before .before .before .before .before .before .before .before .before .word2 .result) (c .before .before .before .before .before .before .before .before .before .before .before .before .before .before .before .before .before .word .result) (c .before .before .before .before .before .before .before .before .before .before .before .before .before .before .before .before .before .before .if1 .left) (c .before .before .before .before .before .before .before .before .before .before .before .before .before .before .before .word2 .ensures .0) (c .before .before .before .before .before .before .before .before .before .before .before .before .before .before .before .before .before .word .ensures .0) (c .before .before .before .before .before .before .before .before .before .before .before .before .before .before .before .before .part .result) (c .before .before .before .before .before .before .before .before .before .before .before .before .before .before .before .before .part .ensures) (c .before .before .before .before .before .word3 .result) (c .before .before .before .before .part2 .result) (c .before .before .before .before .before .word3 .ensures .0) (c .before .before .before .before .part2 .ensures) (c .before .before .before .before .before .before .before .before .before .before .before .before .before .before .match .keys3)) (on (omega (arith, c .before .before .before .before .before .before .before .before .before .before .before .before .before .before .before .before .before .before .before .before .before .good .1 .0)) (c .before .before .before .before .before .before .before .before .before .before .before .before .wrapped .ensures) (on (omega (arith, c .before .before .before .before .before .before .before .before .before .before .before .before .before .before .before .before .before .before .before .before .before .good .1 .0, penned-long (c .before .before .before .before .before .before .before .before .before .before .before .before .wrapped .ensures))) (c .before .before .before .before .before .before .before .before .emit2 .ensures) (c .before .before .wrapped2 .ensures)))
+exp-returns-4 t c = penned-is (seq-text
+    (c .before .before .before .before .before .before .before .before .before .before .before .before .before .before .before .before .before .before .before .before .before .args .t .now)
+    (called (c .before .before .before .before .before .before .before .before .before .before .before .before .before .before .before .before .before .before .before .before .before .args .plain)
+    (c .before .before .before .before .before .before .before .before .before .before .before .before .before .before .before .before .before .before .before .before .before .args .t .now))
+    (c .before .before .before .before .before .before .before .before .before .before .before .before .before .before .before .before .before .before .before .before .before .args .x)
+    (c .before .before .before .before .before .before .before .before .before .before .before .before .before .before .before .op .result)
+    (c .before .before .before .before .before .before .before .before .before .before .before .before .before .before .before .before .before .left .result)
+    (c .before .before .before .before .before .before .before .before .before .before .before .before .before .before .before .before .before .before .if1 .left)
+    (c .before .before .before .before .before .before .before .before .before .before .before .before .before .before .before .op .ensures .0)
+    (c .before .before .before .before .before .before .before .before .before .before .before .before .before .before .before .before .before .left .ensures .0)
+    (c .before .before .before .before .before .before .before .before .before .before .before .before .before .before .before .before .part .result)
+    (c .before .before .before .before .before .before .before .before .before .before .before .before .before .before .before .before .part .ensures)
+    (c .before .before .before .before .before .right .result) (c .before .before .before .before .part2 .result) (c .before .before .before .before .before .right .ensures .0)
+    (c .before .before .before .before .part2 .ensures) (c .before .before .before .before .before .before .before .before .before .before .before .before .before .before .match .keys3)) (on
+    (omega (
+      arith,
+      c .before .before .before .before .before .before .before .before .before .before .before .before .before .before .before .before .before .before .before .before .before .good .1 .0,
+    ))
+    (c .before .before .before .before .before .before .before .before .before .before .before .before .wrapped .ensures) (on (omega (
+      arith,
+      c .before .before .before .before .before .before .before .before .before .before .before .before .before .before .before .before .before .before .before .before .before .good .1 .0,
+      penned-long (c .before .before .before .before .before .before .before .before .before .before .before .before .wrapped .ensures),
+    ))
+    (c .before .before .before .before .before .before .before .before .emit2 .ensures) (c .before .before .wrapped2 .ensures)))
 
 exp-same-length-5 : (t : ℕ) → exp-lts.Need-same-length-5 (exp-claims t) (exp-at t) exp.Post
 exp-same-length-5 t c = search needs
 
 exp-returns-5 : (t : ℕ) → exp-lts.Need-returns-5 (exp-claims t) (exp-at t) exp.Post
-exp-returns-5 t c = penned-is (alt-text (c .before .before .before .before .before .before .before .before .before .before .before .before .before .before .before .before .before .before .before .before .before .before .before .before .before .args .t .now) (called (c .before .before .before .before .before .before .before .before .before .before .before .before .before .before .before .before .before .before .before .before .before .before .before .before .before .args .plain) (c .before .before .before .before .before .before .before .before .before .before .before .before .before .before .before .before .before .before .before .before .before .before .before .before .before .args .t .now)) (c .before .before .before .before .before .before .before .before .before .before .before .before .before .before .before .before .before .before .before .before .before .before .before .before .before .args .x) (c .before .before .before .before .before .before .before .before .before .before .before .before .before .before .before .before .before .before .before .word2 .result) (c .before .before .before .before .before .before .before .before .before .before .before .before .before .before .before .before .before .before .before .before .before .word .result) (c .before .before .before .before .before .before .before .before .before .before .before .before .before .before .before .before .before .before .before .before .before .before .if1 .left) (c .before .before .before .before .before .before .before .before .before .before .before .before .before .before .before .before .before .before .before .word2 .ensures .0) (c .before .before .before .before .before .before .before .before .before .before .before .before .before .before .before .before .before .before .before .before .before .word .ensures .0) (c .before .before .before .before .before .before .before .before .before .before .before .before .before .before .before .before .before .before .before .before .part .result) (c .before .before .before .before .before .before .before .before .before .before .before .before .before .before .before .before .before .before .before .before .part .ensures) (c .before .before .before .before .before .word4 .result) (c .before .before .before .before .part3 .result) (c .before .before .before .before .before .word4 .ensures .0) (c .before .before .before .before .part3 .ensures) (c .before .before .before .before .before .before .before .before .before .before .before .before .before .before .before .before .before .before .match .keys4)) (on (omega (arith, c .before .before .before .before .before .before .before .before .before .before .before .before .before .before .before .before .before .before .before .before .before .before .before .before .before .good .1 .0)) (c .before .before .before .before .before .before .before .before .before .before .before .before .before .before .before .before .wrapped3 .ensures) (on (omega (arith, c .before .before .before .before .before .before .before .before .before .before .before .before .before .before .before .before .before .before .before .before .before .before .before .before .before .good .1 .0, penned-long (c .before .before .before .before .before .before .before .before .before .before .before .before .before .before .before .before .wrapped3 .ensures))) (c .before .before .before .before .before .before .before .before .before .before .before .before .emit3 .ensures) (on (omega (arith, c .before .before .before .before .before .before .before .before .before .before .before .before .before .before .before .before .before .before .before .before .before .before .before .before .before .good .1 .0, penned-long (c .before .before .before .before .before .before .before .before .before .before .before .before .before .before .before .before .wrapped3 .ensures), penned-long (c .before .before .before .before .before .before .before .before .before .before .before .before .emit3 .ensures))) (c .before .before .before .before .before .before .before .before .emit22 .ensures) (c .before .before .wrapped4 .ensures))))
+exp-returns-5 t c = penned-is (alt-text
+    (c .before .before .before .before .before .before .before .before .before .before .before .before .before .before .before .before .before .before .before .before .before .before .before
+    .before .before .args .t .now) (called
+    (c .before .before .before .before .before .before .before .before .before .before .before .before .before .before .before .before .before .before .before .before .before .before .before
+    .before .before .args .plain)
+    (c .before .before .before .before .before .before .before .before .before .before .before .before .before .before .before .before .before .before .before .before .before .before .before
+    .before .before .args .t .now))
+    (c .before .before .before .before .before .before .before .before .before .before .before .before .before .before .before .before .before .before .before .before .before .before .before
+    .before .before .args .x)
+    (c .before .before .before .before .before .before .before .before .before .before .before .before .before .before .before .before .before .before .before .op .result)
+    (c .before .before .before .before .before .before .before .before .before .before .before .before .before .before .before .before .before .before .before .before .before .left .result)
+    (c .before .before .before .before .before .before .before .before .before .before .before .before .before .before .before .before .before .before .before .before .before .before .if1 .left)
+    (c .before .before .before .before .before .before .before .before .before .before .before .before .before .before .before .before .before .before .before .op .ensures .0)
+    (c .before .before .before .before .before .before .before .before .before .before .before .before .before .before .before .before .before .before .before .before .before .left .ensures .0)
+    (c .before .before .before .before .before .before .before .before .before .before .before .before .before .before .before .before .before .before .before .before .part .result)
+    (c .before .before .before .before .before .before .before .before .before .before .before .before .before .before .before .before .before .before .before .before .part .ensures)
+    (c .before .before .before .before .before .right2 .result) (c .before .before .before .before .part3 .result) (c .before .before .before .before .before .right2 .ensures .0)
+    (c .before .before .before .before .part3 .ensures)
+    (c .before .before .before .before .before .before .before .before .before .before .before .before .before .before .before .before .before .before .match .keys4)) (on (omega (
+      arith,
+      c .before .before .before .before .before .before .before .before .before .before .before .before .before .before .before .before .before .before .before .before .before .before .before
+          .before .before .good .1 .0,
+    )) (c .before .before .before .before .before .before .before .before .before .before .before .before .before .before .before .before .wrapped3 .ensures) (on (omega (
+      arith,
+      c .before .before .before .before .before .before .before .before .before .before .before .before .before .before .before .before .before .before .before .before .before .before .before
+          .before .before .good .1 .0,
+      penned-long
+          (c .before .before .before .before .before .before .before .before .before .before .before .before .before .before .before .before .wrapped3 .ensures),
+    ))
+    (c .before .before .before .before .before .before .before .before .before .before .before .before .emit3 .ensures) (on (omega (
+      arith,
+      c .before .before .before .before .before .before .before .before .before .before .before .before .before .before .before .before .before .before .before .before .before .before .before
+          .before .before .good .1 .0,
+      penned-long (c .before .before .before .before .before .before .before .before .before .before .before .before .before .before .before .before .wrapped3 .ensures),
+      penned-long (c .before .before .before .before .before .before .before .before .before .before .before .before .emit3 .ensures),
+    ))
+    (c .before .before .before .before .before .before .before .before .emit22 .ensures) (c .before .before .wrapped4 .ensures))))
 
 exp-same-length-6 : (t : ℕ) → exp-lts.Need-same-length-6 (exp-claims t) (exp-at t) exp.Post
 exp-same-length-6 t c = search needs
 
 exp-returns-6 : (t : ℕ) → exp-lts.Need-returns-6 (exp-claims t) (exp-at t) exp.Post
-exp-returns-6 t c = penned-is (opt-text (c .before .before .before .before .before .before .before .before .before .before .before .before .before .before .before .args .t .now) (called (c .before .before .before .before .before .before .before .before .before .before .before .before .before .before .before .args .plain) (c .before .before .before .before .before .before .before .before .before .before .before .before .before .before .before .args .t .now)) (c .before .before .before .before .before .before .before .before .before .before .before .before .before .before .before .args .x) (c .before .before .before .before .before .before .before .before .before .word2 .result) (c .before .before .before .before .before .before .before .before .before .before .before .word .result) (c .before .before .before .before .before .before .before .before .before .before .before .before .if1 .left) (c .before .before .before .before .before .before .before .before .before .word2 .ensures .0) (c .before .before .before .before .before .before .before .before .before .before .before .word .ensures .0) (c .before .before .before .before .before .before .before .before .before .before .part .result) (c .before .before .before .before .before .before .before .before .before .before .part .ensures) (c .before .before .before .before .before .before .before .before .match .keys5)) (on (omega arith) (c .before .before .before .before .before .before .wrapped5 .ensures) (c .before .before .emit4 .ensures))
+exp-returns-6 t c = penned-is (opt-text (c .before .before .before .before .before .before .before .before .before .before .before .before .before .before .before .args .t .now) (called
+    (c .before .before .before .before .before .before .before .before .before .before .before .before .before .before .before .args .plain)
+    (c .before .before .before .before .before .before .before .before .before .before .before .before .before .before .before .args .t .now))
+    (c .before .before .before .before .before .before .before .before .before .before .before .before .before .before .before .args .x)
+    (c .before .before .before .before .before .before .before .before .before .op .result)
+    (c .before .before .before .before .before .before .before .before .before .before .before .left .result)
+    (c .before .before .before .before .before .before .before .before .before .before .before .before .if1 .left)
+    (c .before .before .before .before .before .before .before .before .before .op .ensures .0)
+    (c .before .before .before .before .before .before .before .before .before .before .before .left .ensures .0)
+    (c .before .before .before .before .before .before .before .before .before .before .part .result)
+    (c .before .before .before .before .before .before .before .before .before .before .part .ensures) (c .before .before .before .before .before .before .before .before .match .keys5)) (on
+    (omega arith) (c .before .before .before .before .before .before .wrapped5 .ensures) (c .before .before .emit4 .ensures))
 
 exp-same-length-7 : (t : ℕ) → exp-lts.Need-same-length-7 (exp-claims t) (exp-at t) exp.Post
 exp-same-length-7 t c = search needs
 
 exp-returns-7 : (t : ℕ) → exp-lts.Need-returns-7 (exp-claims t) (exp-at t) exp.Post
-exp-returns-7 t c = penned-is (star-text (c .before .before .before .before .before .before .before .before .before .before .before .before .before .before .before .args .t .now) (called (c .before .before .before .before .before .before .before .before .before .before .before .before .before .before .before .args .plain) (c .before .before .before .before .before .before .before .before .before .before .before .before .before .before .before .args .t .now)) (c .before .before .before .before .before .before .before .before .before .before .before .before .before .before .before .args .x) (c .before .before .before .before .before .before .before .before .before .word2 .result) (c .before .before .before .before .before .before .before .before .before .before .before .word .result) (c .before .before .before .before .before .before .before .before .before .before .before .before .if1 .left) (c .before .before .before .before .before .before .before .before .before .word2 .ensures .0) (c .before .before .before .before .before .before .before .before .before .before .before .word .ensures .0) (c .before .before .before .before .before .before .before .before .before .before .part .result) (c .before .before .before .before .before .before .before .before .before .before .part .ensures) (c .before .before .before .before .before .before .before .before .match .keys6)) (on (omega arith) (c .before .before .before .before .before .before .wrapped6 .ensures) (c .before .before .emit5 .ensures))
+exp-returns-7 t c = penned-is (star-text (c .before .before .before .before .before .before .before .before .before .before .before .before .before .before .before .args .t .now) (called
+    (c .before .before .before .before .before .before .before .before .before .before .before .before .before .before .before .args .plain)
+    (c .before .before .before .before .before .before .before .before .before .before .before .before .before .before .before .args .t .now))
+    (c .before .before .before .before .before .before .before .before .before .before .before .before .before .before .before .args .x)
+    (c .before .before .before .before .before .before .before .before .before .op .result)
+    (c .before .before .before .before .before .before .before .before .before .before .before .left .result)
+    (c .before .before .before .before .before .before .before .before .before .before .before .before .if1 .left)
+    (c .before .before .before .before .before .before .before .before .before .op .ensures .0)
+    (c .before .before .before .before .before .before .before .before .before .before .before .left .ensures .0)
+    (c .before .before .before .before .before .before .before .before .before .before .part .result)
+    (c .before .before .before .before .before .before .before .before .before .before .part .ensures) (c .before .before .before .before .before .before .before .before .match .keys6)) (on
+    (omega arith) (c .before .before .before .before .before .before .wrapped6 .ensures) (c .before .before .emit5 .ensures))
 
 exp-same-length-8 : (t : ℕ) → exp-lts.Need-same-length-8 (exp-claims t) (exp-at t) exp.Post
 exp-same-length-8 t c = search needs
 
 exp-returns-8 : (t : ℕ) → exp-lts.Need-returns-8 (exp-claims t) (exp-at t) exp.Post
-exp-returns-8 t c = penned-is (plus-text (c .before .before .before .before .before .before .before .before .before .before .before .before .before .before .before .args .t .now) (called (c .before .before .before .before .before .before .before .before .before .before .before .before .before .before .before .args .plain) (c .before .before .before .before .before .before .before .before .before .before .before .before .before .before .before .args .t .now)) (c .before .before .before .before .before .before .before .before .before .before .before .before .before .before .before .args .x) (c .before .before .before .before .before .before .before .before .before .word2 .result) (c .before .before .before .before .before .before .before .before .before .before .before .word .result) (c .before .before .before .before .before .before .before .before .before .before .before .before .if1 .left) (c .before .before .before .before .before .before .before .before .before .word2 .ensures .0) (c .before .before .before .before .before .before .before .before .before .before .before .word .ensures .0) (c .before .before .before .before .before .before .before .before .before .before .part .result) (c .before .before .before .before .before .before .before .before .before .before .part .ensures) (c .before .before .before .before .before .before .before .before .match .keys7)) (on (omega arith) (c .before .before .before .before .before .before .wrapped7 .ensures) (c .before .before .emit6 .ensures))
+exp-returns-8 t c = penned-is (plus-text (c .before .before .before .before .before .before .before .before .before .before .before .before .before .before .before .args .t .now) (called
+    (c .before .before .before .before .before .before .before .before .before .before .before .before .before .before .before .args .plain)
+    (c .before .before .before .before .before .before .before .before .before .before .before .before .before .before .before .args .t .now))
+    (c .before .before .before .before .before .before .before .before .before .before .before .before .before .before .before .args .x)
+    (c .before .before .before .before .before .before .before .before .before .op .result)
+    (c .before .before .before .before .before .before .before .before .before .before .before .left .result)
+    (c .before .before .before .before .before .before .before .before .before .before .before .before .if1 .left)
+    (c .before .before .before .before .before .before .before .before .before .op .ensures .0)
+    (c .before .before .before .before .before .before .before .before .before .before .before .left .ensures .0)
+    (c .before .before .before .before .before .before .before .before .before .before .part .result)
+    (c .before .before .before .before .before .before .before .before .before .before .part .ensures) (c .before .before .before .before .before .before .before .before .match .keys7)) (on
+    (omega arith) (c .before .before .before .before .before .before .wrapped7 .ensures) (c .before .before .emit6 .ensures))
 
 exp-same-length-9 : (t : ℕ) → exp-lts.Need-same-length-9 (exp-claims t) (exp-at t) exp.Post
 exp-same-length-9 t c = search needs
 
 exp-returns-9 : (t : ℕ) → exp-lts.Need-returns-9 (exp-claims t) (exp-at t) exp.Post
-exp-returns-9 t c = penned-is (ahead-text (c .before .before .before .before .before .before .before .before .before .before .before .before .before .before .before .args .t .now) (called (c .before .before .before .before .before .before .before .before .before .before .before .before .before .before .before .args .plain) (c .before .before .before .before .before .before .before .before .before .before .before .before .before .before .before .args .t .now)) (c .before .before .before .before .before .before .before .before .before .before .before .before .before .before .before .args .x) (c .before .before .before .before .before .before .before .before .before .word2 .result) (c .before .before .before .before .before .before .before .before .before .before .before .word .result) (c .before .before .before .before .before .before .before .before .before .before .before .before .if1 .left) (c .before .before .before .before .before .before .before .before .before .word2 .ensures .0) (c .before .before .before .before .before .before .before .before .before .before .before .word .ensures .0) (c .before .before .before .before .before .before .before .before .before .before .part .result) (c .before .before .before .before .before .before .before .before .before .before .part .ensures) (c .before .before .before .before .before .before .before .before .match .keys8)) (on (omega arith) (c .before .before .before .before .before .before .emit7 .ensures) (c .before .before .wrapped8 .ensures))
+exp-returns-9 t c = penned-is (ahead-text (c .before .before .before .before .before .before .before .before .before .before .before .before .before .before .before .args .t .now) (called
+    (c .before .before .before .before .before .before .before .before .before .before .before .before .before .before .before .args .plain)
+    (c .before .before .before .before .before .before .before .before .before .before .before .before .before .before .before .args .t .now))
+    (c .before .before .before .before .before .before .before .before .before .before .before .before .before .before .before .args .x)
+    (c .before .before .before .before .before .before .before .before .before .op .result)
+    (c .before .before .before .before .before .before .before .before .before .before .before .left .result)
+    (c .before .before .before .before .before .before .before .before .before .before .before .before .if1 .left)
+    (c .before .before .before .before .before .before .before .before .before .op .ensures .0)
+    (c .before .before .before .before .before .before .before .before .before .before .before .left .ensures .0)
+    (c .before .before .before .before .before .before .before .before .before .before .part .result)
+    (c .before .before .before .before .before .before .before .before .before .before .part .ensures) (c .before .before .before .before .before .before .before .before .match .keys8)) (on
+    (omega arith) (c .before .before .before .before .before .before .emit7 .ensures) (c .before .before .wrapped8 .ensures))
 
 exp-same-length-10 : (t : ℕ) → exp-lts.Need-same-length-10 (exp-claims t) (exp-at t) exp.Post
 exp-same-length-10 t c = search needs
 
 exp-returns-10 : (t : ℕ) → exp-lts.Need-returns-10 (exp-claims t) (exp-at t) exp.Post
-exp-returns-10 t c = penned-is (never-text (c .before .before .before .before .before .before .before .before .before .before .before .before .before .before .before .args .t .now) (called (c .before .before .before .before .before .before .before .before .before .before .before .before .before .before .before .args .plain) (c .before .before .before .before .before .before .before .before .before .before .before .before .before .before .before .args .t .now)) (c .before .before .before .before .before .before .before .before .before .before .before .before .before .before .before .args .x) (c .before .before .before .before .before .before .before .before .before .word2 .result) (c .before .before .before .before .before .before .before .before .before .before .before .word .result) (c .before .before .before .before .before .before .before .before .before .before .before .before .if1 .left) (c .before .before .before .before .before .before .before .before .before .word2 .ensures .0) (c .before .before .before .before .before .before .before .before .before .before .before .word .ensures .0) (c .before .before .before .before .before .before .before .before .before .before .part .result) (c .before .before .before .before .before .before .before .before .before .before .part .ensures) (c .before .before .before .before .before .before .before .before .match .rest .0 .0 .0 .0 .0 .0 .0 .1) (c .before .before .before .before .before .before .before .before .match .rest .0 .0 .0 .0 .0 .0 .1) (c .before .before .before .before .before .before .before .before .match .rest .0 .0 .0 .0 .0 .1) (c .before .before .before .before .before .before .before .before .match .rest .0 .0 .0 .0 .1) (c .before .before .before .before .before .before .before .before .match .rest .0 .0 .0 .1) (c .before .before .before .before .before .before .before .before .match .rest .0 .0 .1) (c .before .before .before .before .before .before .before .before .match .rest .0 .1) (c .before .before .before .before .before .before .before .before .match .rest .1)) (on (omega arith) (c .before .before .before .before .before .before .emit8 .ensures) (c .before .before .wrapped9 .ensures))
+exp-returns-10 t c = penned-is (never-text (c .before .before .before .before .before .before .before .before .before .before .before .before .before .before .before .args .t .now) (called
+    (c .before .before .before .before .before .before .before .before .before .before .before .before .before .before .before .args .plain)
+    (c .before .before .before .before .before .before .before .before .before .before .before .before .before .before .before .args .t .now))
+    (c .before .before .before .before .before .before .before .before .before .before .before .before .before .before .before .args .x)
+    (c .before .before .before .before .before .before .before .before .before .op .result)
+    (c .before .before .before .before .before .before .before .before .before .before .before .left .result)
+    (c .before .before .before .before .before .before .before .before .before .before .before .before .if1 .left)
+    (c .before .before .before .before .before .before .before .before .before .op .ensures .0)
+    (c .before .before .before .before .before .before .before .before .before .before .before .left .ensures .0)
+    (c .before .before .before .before .before .before .before .before .before .before .part .result)
+    (c .before .before .before .before .before .before .before .before .before .before .part .ensures)
+    (c .before .before .before .before .before .before .before .before .match .rest .0 .0 .0 .0 .0 .0 .0 .1)
+    (c .before .before .before .before .before .before .before .before .match .rest .0 .0 .0 .0 .0 .0 .1)
+    (c .before .before .before .before .before .before .before .before .match .rest .0 .0 .0 .0 .0 .1)
+    (c .before .before .before .before .before .before .before .before .match .rest .0 .0 .0 .0 .1) (c .before .before .before .before .before .before .before .before .match .rest .0 .0 .0 .1)
+    (c .before .before .before .before .before .before .before .before .match .rest .0 .0 .1) (c .before .before .before .before .before .before .before .before .match .rest .0 .1)
+    (c .before .before .before .before .before .before .before .before .match .rest .1)) (on (omega arith) (c .before .before .before .before .before .before .emit8 .ensures)
+    (c .before .before .wrapped9 .ensures))
 
 wrapped-level-of-requires : (t : ℕ) → wrapped-lts.Need-level-of-requires (wrapped-claims t) (wrapped-at t) wrapped.Post
 wrapped-level-of-requires t c κs = search needs
@@ -223,7 +548,14 @@ wrapped-emit-requires : (t : ℕ) → wrapped-lts.Need-emit-requires (wrapped-cl
 wrapped-emit-requires t c κs = search needs
 
 wrapped-exp-requires : (t : ℕ) → wrapped-lts.Need-exp-requires (wrapped-claims t) (wrapped-at t) wrapped.Post
-wrapped-exp-requires t c κs = (omega (arith, c .before .before .before .before .before .before .before .before .before .pre .0), (penned-most (c .before .before .before .emit .ensures), c .before .before .before .before .before .before .before .before .before .pre .1 .1))
+wrapped-exp-requires t c κs = (
+  omega (arith, c .before .before .before .before .before .before .before .before .before .pre .0),
+  (
+    penned-most
+        (c .before .before .before .emit .ensures),
+    c .before .before .before .before .before .before .before .before .before .pre .1 .1,
+  ),
+)
 
 wrapped-emit-requires-2 : (t : ℕ) → wrapped-lts.Need-emit-requires-2 (wrapped-claims t) (wrapped-at t) wrapped.Post
 wrapped-emit-requires-2 t c κs = search needs
@@ -232,16 +564,35 @@ wrapped-same-length : (t : ℕ) → wrapped-lts.Need-same-length (wrapped-claims
 wrapped-same-length t c = search needs
 
 wrapped-returns : (t : ℕ) → wrapped-lts.Need-returns (wrapped-claims t) (wrapped-at t) wrapped.Post
-wrapped-returns t c = penned-is (in-pair (c .before .before .before .before .before .before .before .before .before .before .before .before .before .before .before .before .args .k) (toned (called (c .before .before .before .before .before .before .before .before .before .before .before .before .before .before .before .before .args .plain) (c .before .before .before .before .before .before .before .before .before .before .before .before .before .before .before .before .args .t .now)) (treeOf (c .before .before .before .before .before .before .before .before .before .before .before .before .before .before .before .before .args .t .now) (c .before .before .before .before .before .before .before .before .before .before .before .before .before .before .before .before .args .x))) (c .before .before .before .before .before .before .before .before .before .before .before .before .before .level-of .result) (c .before .before .before .before .before .before .before .before .before .before .before .before .before .level-of .ensures (called (c .before .before .before .before .before .before .before .before .before .before .before .before .before .before .before .before .args .plain) (c .before .before .before .before .before .before .before .before .before .before .before .before .before .before .before .before .args .t .now))) (c .before .before .before .before .before .before .before .before .before .before .before .before .if1 .taken)) (on (omega arith) (c .before .before .before .before .before .before .before .before .before .before .emit .ensures) (on (omega arith) (c .before .before .before .before .before .before .exp .ensures) (c .before .before .emit2 .ensures)))
+wrapped-returns t c = penned-is (in-pair (c .before .before .before .before .before .before .before .before .before .before .before .before .before .before .before .before .args .k) (toned (called
+    (c .before .before .before .before .before .before .before .before .before .before .before .before .before .before .before .before .args .plain)
+    (c .before .before .before .before .before .before .before .before .before .before .before .before .before .before .before .before .args .t .now)) (treeOf
+    (c .before .before .before .before .before .before .before .before .before .before .before .before .before .before .before .before .args .t .now)
+    (c .before .before .before .before .before .before .before .before .before .before .before .before .before .before .before .before .args .x)))
+    (c .before .before .before .before .before .before .before .before .before .before .before .before .before .level-of .result)
+    (c .before .before .before .before .before .before .before .before .before .before .before .before .before .level-of .ensures (called
+    (c .before .before .before .before .before .before .before .before .before .before .before .before .before .before .before .before .args .plain)
+    (c .before .before .before .before .before .before .before .before .before .before .before .before .before .before .before .before .args .t .now)))
+    (c .before .before .before .before .before .before .before .before .before .before .before .before .if1 .taken)) (on (omega arith)
+    (c .before .before .before .before .before .before .before .before .before .before .emit .ensures) (on (omega arith) (c .before .before .before .before .before .before .exp .ensures)
+    (c .before .before .emit2 .ensures)))
 
 wrapped-exp-requires-2 : (t : ℕ) → wrapped-lts.Need-exp-requires-2 (wrapped-claims t) (wrapped-at t) wrapped.Post
-wrapped-exp-requires-2 t c κs = (omega (arith, c .before .before .before .before .before .pre .0), (c .before .before .before .before .before .pre .1 .0, c .before .before .before .before .before .pre .1 .1))
+wrapped-exp-requires-2 t c κs = (
+  omega (arith, c .before .before .before .before .before .pre .0),
+  (c .before .before .before .before .before .pre .1 .0, c .before .before .before .before .before .pre .1 .1),
+)
 
 wrapped-same-length-2 : (t : ℕ) → wrapped-lts.Need-same-length-2 (wrapped-claims t) (wrapped-at t) wrapped.Post
 wrapped-same-length-2 t c = search needs
 
 wrapped-returns-2 : (t : ℕ) → wrapped-lts.Need-returns-2 (wrapped-claims t) (wrapped-at t) wrapped.Post
-wrapped-returns-2 t c = penned-is (is-bare (c .before .before .before .before .before .before .before .before .args .k) (toned (called (c .before .before .before .before .before .before .before .before .args .plain) (c .before .before .before .before .before .before .before .before .args .t .now)) (treeOf (c .before .before .before .before .before .before .before .before .args .t .now) (c .before .before .before .before .before .before .before .before .args .x))) (c .before .before .before .before .before .level-of .result) (c .before .before .before .before .before .level-of .ensures (called (c .before .before .before .before .before .before .before .before .args .plain) (c .before .before .before .before .before .before .before .before .args .t .now))) (omega (arith, c .before .before .before .before .if1 .left))) (c .before .before .exp2 .ensures)
+wrapped-returns-2 t c = penned-is (is-bare (c .before .before .before .before .before .before .before .before .args .k) (toned (called
+    (c .before .before .before .before .before .before .before .before .args .plain) (c .before .before .before .before .before .before .before .before .args .t .now)) (treeOf
+    (c .before .before .before .before .before .before .before .before .args .t .now) (c .before .before .before .before .before .before .before .before .args .x)))
+    (c .before .before .before .before .before .level-of .result) (c .before .before .before .before .before .level-of .ensures (called
+    (c .before .before .before .before .before .before .before .before .args .plain) (c .before .before .before .before .before .before .before .before .args .t .now))) (omega
+    (arith, c .before .before .before .before .if1 .left))) (c .before .before .exp2 .ensures)
 
 pub +exp+wrapped-spec : {M : Type 1} → statement M
 +exp+wrapped-spec = close μ-exp μ-wrapped (λ t. exp-lts.spec (exp-claims t) (exp-at t) exp.Post
@@ -249,25 +600,20 @@ pub +exp+wrapped-spec : {M : Type 1} → statement M
     (exp-same-length t)
     (exp-returns t)
     (exp-sub-e t)
-    (exp-mul-i t)
-    (exp-add-i t)
-    (exp-add-word t)
-    (exp-word-requires t)
+    (exp-left-requires t)
     (exp-part-requires t)
-    (exp-word-requires-2 t)
+    (exp-op-requires t)
     (exp-leaf-requires t)
     (exp-symbol-requires t)
     (exp-wrapped-requires t)
     (exp-emit-requires-2 t)
-    (exp-add-word-2 t)
-    (exp-word-requires-3 t)
+    (exp-right-requires t)
     (exp-part-requires-2 t)
     (exp-wrapped-requires-2 t)
     (exp-wrapped-requires-3 t)
     (exp-emit-requires-3 t)
     (exp-emit2-requires t)
-    (exp-add-word-3 t)
-    (exp-word-requires-4 t)
+    (exp-right-requires-2 t)
     (exp-part-requires-3 t)
     (exp-wrapped-requires-4 t)
     (exp-wrapped-requires-5 t)

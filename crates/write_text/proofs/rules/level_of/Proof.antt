@@ -8,47 +8,46 @@ use Rattle.write_text.proofs.rules.level_of.Statement.{statement}
 use Rattle.write_text.proofs.rules.level_of.Tie as tie
 use Rattle.write_text.proofs.rules.level_of.Reads as reads
 use Rattle.write_text.proofs.rules.level_of.Lts as lts
-use Rattle.base_words.proofs.word.Reads as word-reads
+use Rattle.grammar_table.proofs.records.op.Reads as op-reads
 
 returns : tie.Need-returns
 returns c = λ f. zero-level (c .before .before .args .t .now) f (c .before .before .args .x) (c .if1 .taken)
 
-sub-word : tie.Need-sub-word
-sub-word c = search needs
+sub-op : tie.Need-sub-op
+sub-op c = search needs
 
-mul-word : tie.Need-mul-word
-mul-word c = search needs
-
-add-word : tie.Need-add-word
-add-word c = search needs
-
-word-requires : tie.Need-word-requires
-word-requires c κs = search needs
+op-requires : tie.Need-op-requires
+op-requires c κs = search needs
 
 returns-2 : tie.Need-returns-2
-returns-2 c = λ f. tight (c .before .word .result) (c .if2 .taken) ∙ kind-level (c .before .before .before .before .args .t .now) f (c .before .before .before .before .args .x) (c .before .word .result) (c .before .before .if1 .left) (c .before .word .ensures .0)
+returns-2 c = λ f. tight (c .before .op .result) (c .if2 .taken) ∙ kind-level (c .before .before .before .before .args .t .now) f (c .before .before .before .before .args .x)
+    (c .before .op .result) (c .before .before .if1 .left) (c .before .op .ensures .0)
 
 returns-3 : tie.Need-returns-3
-returns-3 c = λ f. sym (ap levelBy (c .if3 .taken)) ∙ kind-level (c .before .before .before .before .before .args .t .now) f (c .before .before .before .before .before .args .x) (c .before .before .word .result) (c .before .before .before .if1 .left) (c .before .before .word .ensures .0)
+returns-3 c = λ f. sym (ap levelBy (c .if3 .taken)) ∙ kind-level (c .before .before .before .before .before .args .t .now) f (c .before .before .before .before .before .args .x)
+    (c .before .before .op .result) (c .before .before .before .if1 .left) (c .before .before .op .ensures .0)
 
 returns-4 : tie.Need-returns-4
-returns-4 c = λ f. sym (ap levelBy (c .if4 .taken)) ∙ kind-level (c .before .before .before .before .before .before .args .t .now) f (c .before .before .before .before .before .before .args .x) (c .before .before .before .word .result) (c .before .before .before .before .if1 .left) (c .before .before .before .word .ensures .0)
+returns-4 c = λ f. sym (ap levelBy (c .if4 .taken)) ∙ kind-level (c .before .before .before .before .before .before .args .t .now) f (c .before .before .before .before .before .before .args .x)
+    (c .before .before .before .op .result) (c .before .before .before .before .if1 .left) (c .before .before .before .op .ensures .0)
 
 returns-5 : tie.Need-returns-5
-returns-5 c = λ f. suffixes (c .before .before .before .before .word .result) (c .before .before .if3 .left) (c .before .if4 .left) (omega arith) (c .if5 .taken) ∙ kind-level (c .before .before .before .before .before .before .before .args .t .now) f (c .before .before .before .before .before .before .before .args .x) (c .before .before .before .before .word .result) (c .before .before .before .before .before .if1 .left) (c .before .before .before .before .word .ensures .0)
+returns-5 c = λ f. suffixes (c .before .before .before .before .op .result) (c .before .before .if3 .left) (c .before .if4 .left) (omega arith) (c .if5 .taken) ∙ kind-level
+    (c .before .before .before .before .before .before .before .args .t .now) f (c .before .before .before .before .before .before .before .args .x) (c .before .before .before .before .op .result)
+    (c .before .before .before .before .before .if1 .left) (c .before .before .before .before .op .ensures .0)
 
 returns-6 : tie.Need-returns-6
-returns-6 c = λ f. prefixes (c .before .before .before .before .word .result) (omega arith) ∙ kind-level (c .before .before .before .before .before .before .before .args .t .now) f (c .before .before .before .before .before .before .before .args .x) (c .before .before .before .before .word .result) (c .before .before .before .before .before .if1 .left) (c .before .before .before .before .word .ensures .0)
+returns-6 c = λ f. prefixes (c .before .before .before .before .op .result) (omega arith) ∙ kind-level (c .before .before .before .before .before .before .before .args .t .now) f
+    (c .before .before .before .before .before .before .before .args .x) (c .before .before .before .before .op .result) (c .before .before .before .before .before .if1 .left)
+    (c .before .before .before .before .op .ensures .0)
 
 pub level-of-spec : {M : Type 1} → statement M
 level-of-spec =
     tie.close
     (tie.spec
     returns
-    sub-word
-    mul-word
-    add-word
-    word-requires
+    sub-op
+    op-requires
     returns-2
     returns-3
     returns-4
