@@ -74,7 +74,7 @@ class Picture:
 # ── the stages: a crate's name begins with its stage ──
 
 STAGES = {
-    "read": ("a text into a table", ["read_tokens", "read_syntax", "read_names", "read_grammar"]),
+    "read": ("a text into a table", ["read_tokens", "read_spelling", "read_syntax", "read_names", "read_grammar"]),
     "lake": ("lakes made plain", ["lake_step_one", "lake_sets", "lake_analysis", "lake_step_two", "lake_calls"]),
     "match": ("a text into spans", ["match_meaning", "match_cells", "match_nodes", "match_lake"]),
     "write": ("a table into a text", ["write_rules", "write_text", "write_back"]),

@@ -1,7 +1,6 @@
 pub mod Token
 pub mod Bounds
 pub mod Chars
-pub mod Spelling
 pub mod Tokens
 pub mod steps
 pub mod laws

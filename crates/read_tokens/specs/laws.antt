@@ -1,4 +1,4 @@
--- Computed tests, bytes, where a token lies, the fuel of the token list, marks by place, what a token holds, read again, and what spells what.
+-- Computed tests, bytes, where a token lies, the fuel of the token list, marks by place, what a token holds, read again.
 -- Assumes nothing.
 pub mod All
 pub mod Bytes
@@ -10,6 +10,3 @@ pub mod Passing
 pub mod Turning
 pub mod Again
 pub mod Here
-pub mod Spells
-pub mod Bodies
-pub mod Spelled

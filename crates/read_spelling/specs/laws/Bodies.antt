@@ -10,15 +10,15 @@ use lib.Dec.{eqb}
 use lib.ListN.{length, drop, getD}
 use lib.Seq.{drop-drop, ext-getD}
 use borrow.Author.Tests.{eqb-true, eqb-false, eq-eqb, ne-eqb}
 use Rattle.read_tokens.specs.Kinds.{kindAt, oneOf, ranges}
 use Rattle.read_tokens.specs.Chars as chars
 use Rattle.read_tokens.specs.Chars.{Range, Body, shut, broken, also, byWidth, bodyBy, body}
 use Rattle.read_tokens.specs.Tokens.{blankBy, skip, nameByte, nameSpan, within, among, someTrue, turned, marksOf}
-use Rattle.read_tokens.specs.Spelling.{OneOf, First, blankBytes, lineEnds, NameByte, Run, stop, go, Blanks, none-more, blank, comment, Skips, Spells, itself, escaped, three, two, one, Item, alone, ranged, UpTo, closed, more, Listed, Marks}
+use Rattle.read_spelling.specs.Spelling.{OneOf, First, blankBytes, lineEnds, NameByte, Run, stop, go, Blanks, none-more, blank, comment, Skips, Spells, itself, escaped, three, two, one, Item, alone, ranged, UpTo, closed, more, Listed, Marks}
 use Rattle.read_tokens.specs.laws.Bytes.{Bytes, bytes-drop}
 use Rattle.read_tokens.specs.laws.Marks.{table-at, table-length}
 use Rattle.read_tokens.specs.laws.Passing.{passes}
-use Rattle.read_tokens.specs.laws.Spells.{in-true, true-in, name-true, true-name, kind-blank, blank-kind, kind-hash, oneTest, one-true, one-false, each-one, Turn}
+use Rattle.read_spelling.specs.laws.Spells.{in-true, true-in, name-true, true-name, kind-blank, blank-kind, kind-hash, oneTest, one-true, one-false, each-one, Turn}
 
 pub never : {A : Type 0} → false ≡ true → A
 never e = absurd (false≢true e)

@@ -10,18 +10,18 @@ use lib.Dec.{eqb}
 use lib.ListN.{length, drop, length-drop}
 use lib.Seq.{drop-drop, drop-length}
 use borrow.Author.Tests.{eqb-true, eqb-false, eq-eqb, ne-eqb}
 use Rattle.read_tokens.specs.Kinds.{kindAt, oneOf, ranges}
 use Rattle.read_tokens.specs.declared.Mode.{Mode}
 use Rattle.read_tokens.specs.declared.Mode.the-variants.{Lake, Plain}
 use Rattle.read_tokens.specs.Token.{Tok, Token, Lexeme, name, lake, literal, class, symbol, leaf, pre, suf, arrow, slash, opens, closes, bad}
 use Rattle.read_tokens.specs.Chars.{Range, range, Body, shut, broken, body, char, four, single, listed}
 use Rattle.read_tokens.specs.Tokens.{tok, badAt, skip, nameSpan, lakeBy, less, lowOf, literalBy, someTrue, marksOf, marked, classBy, bracket, preOf, sufOf, byKind, tokenFrom, tokenAt, lexeme, lexemes}
-use Rattle.read_tokens.specs.Spelling.{Letter, NameByte, OneOf, quotes, Run, Skips, Spells, Item, UpTo, Marks, Caret, Sign, is-opens, is-closes, is-slash, is-amp, is-bang, is-query, is-asterisk, is-cross, is-any, Reads, a-sign, an-arrow, a-name, a-lake, a-literal, a-class, a-complement, SpelledAt, text-end, good, no-token, Spelled, ended, follows}
+use Rattle.read_spelling.specs.Spelling.{Letter, NameByte, OneOf, quotes, Run, Skips, Spells, Item, UpTo, Marks, Caret, Sign, is-opens, is-closes, is-slash, is-amp, is-bang, is-query, is-asterisk, is-cross, is-any, Reads, a-sign, an-arrow, a-name, a-lake, a-literal, a-class, a-complement, SpelledAt, text-end, good, no-token, Spelled, ended, follows}
 use Rattle.read_tokens.specs.laws.Bytes.{Bytes, bytes-drop}
 use Rattle.read_tokens.specs.laws.Tests.{by-test}
 use Rattle.read_tokens.specs.laws.Forward.{span-letter, forward, lexemesAt, lex-end, lex-more}
-use Rattle.read_tokens.specs.laws.Spells.{kind-letter, letter-kind, kind-quote, quote-kind, kind-prefix, kind-suffix, kind-opens, kind-closes, kind-slash, kind-dot, kind-bracket, kind-less, single-sound, single-complete, listed-sound, listed-complete}
-use Rattle.read_tokens.specs.laws.Bodies.{never, Cut, cut-byte, cut-then, run-cut, run-length, blanks-cut, literal-cut, class-cut, Closed, body-sound, body-complete, span-run, run-span, Inside, marks-sound, marks-complete, skip-sound, skip-complete}
+use Rattle.read_spelling.specs.laws.Spells.{kind-letter, letter-kind, kind-quote, quote-kind, kind-prefix, kind-suffix, kind-opens, kind-closes, kind-slash, kind-dot, kind-bracket, kind-less, single-sound, single-complete, listed-sound, listed-complete}
+use Rattle.read_spelling.specs.laws.Bodies.{never, Cut, cut-byte, cut-then, run-cut, run-length, blanks-cut, literal-cut, class-cut, Closed, body-sound, body-complete, span-run, run-span, Inside, marks-sound, marks-complete, skip-sound, skip-complete}
 
 -- ── what the function gives is spelled, or bad ──
 data Found (m : Mode) (i : ℕ) (l : List ℕ) : Token → Type 0 where

@@ -9,14 +9,14 @@ use lib.Dec.{T, eqb, leb}
 use lib.ListN.{length, drop, getD}
 use lib.Seq.{drop-drop}
 use borrow.Author.Tests.{eqb-true, eqb-false, eq-eqb, ne-eqb, leb-true, le-leb, not-true}
 use Rattle.read_tokens.specs.Kinds.{kindAt, oneOf, ranges}
 use Rattle.read_tokens.specs.Bounds.{firstOctal}
 use Rattle.read_tokens.specs.Chars as chars
 use Rattle.read_tokens.specs.Chars.{Char, Range, got, octal, octals, letters, four, char, single, dashed, started, listed, range}
 use Rattle.read_tokens.specs.Tokens.{nameByte}
-use Rattle.read_tokens.specs.Spelling.{OneOf, Between, First, blankBytes, quotes, escapes, Letter, NameByte, Digit, Octal, Escape, n-lf, r-cr, t-tab, same, Spells, itself, escaped, three, two, one, Item, alone, ranged}
+use Rattle.read_spelling.specs.Spelling.{OneOf, Between, First, blankBytes, quotes, escapes, Letter, NameByte, Digit, Octal, Escape, n-lf, r-cr, t-tab, same, Spells, itself, escaped, three, two, one, Item, alone, ranged}
 use Rattle.read_tokens.specs.laws.All.{all, all-at, both-left, both-right}
 use Rattle.read_tokens.specs.laws.Bytes.{Bytes, bytes-drop}
 
 -- ── the kinds of the bytes, each by one computed test ──
 abbrev pub oneTest : List ℕ → ℕ → Bool
