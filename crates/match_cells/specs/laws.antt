@@ -14,3 +14,5 @@ pub mod Order
 pub mod Full
 pub mod Runs
 pub mod Firsts
+pub mod Words
+pub mod Preset

@@ -4,9 +4,16 @@ ghost use mathlib.Core.Path.{_≡_};
 ghost use lib.ListN.{getD, length, set};
 ghost use Rattle.grammar_table.specs.Table.{wordsFrom, symbolCount};
 ghost use Rattle.grammar_table.specs.Trees.{bodiesOf};
-ghost use Rattle.match_cells.specs.Cells.{bodyAt, rowOf, fillOf};
-ghost use Rattle.match_cells.specs.steps.Memory.{Knows};
-ghost use Rattle.match_cells.specs.steps.Runs.{OrderedIn, Fills};
+ghost use Rattle.match_cells.specs.Cells.{bodyAt, rowOf};
+ghost use Rattle.match_cells.specs.steps.Firsts.{byteAt, presetOf};
+ghost use Rattle.match_cells.specs.steps.Memory.{Knows, Calm};
+ghost use Rattle.match_cells.specs.steps.Runs.{OrderedIn, fillBy, FilledBy, Fills};
+use crate::memory::BODIES_AT;
+use crate::memory::BYTE_WORDS;
+use crate::memory::Memory;
+use crate::memory::WORDS;
+use base_words::put;
+use base_words::word;
 
 // The symbols of a table by rank, then by number, at the front of `order`: how many.
 pub fn order_in(
@@ -51,66 +58,109 @@ fn order_front(
     )
 }
 
-// Fills the cell of symbol r at p; one that cannot match at its byte is not evaluated.
-fn store(t: &[u32], s: &[u8], cells: &mut [u32], mem: &[u32], n: usize, r: usize, p: usize)
-    requires { ⌜ ((n ≡ symbolCount (now t)) × (n ≤ 64) × (r < n) × (length (now s) ≤ 65535) × (p ≤ length (now s)))
-        × Knows (now t) (now s) (now cells) n (now mem) (p + 1) ⌝ }
+// Sets the cells of n symbols from i on to what is decided where byte b stands. The others keep what they have: it is never asked for.
+fn preset(cells: &mut [u32], mem: &[u32], n: usize, b: usize, i: usize)
+    requires { ⌜ (n ≤ 64) × (b ≤ 256) × (i < 4294967296) ⌝ }
+    ensures { λ _. ⌜ now (cells .exit) ≡ presetOf (now (mem .entry)) b i n (now (cells .entry)) ⌝ }
+{
+    let mut r = n;
+    while 0 < r {
+        r -= 1;
+        let w = word(mem, BODIES_AT + BYTE_WORDS * b + r);
+        if w != 0 {
+            put(cells, i + r, w - 1);
+        }
+    }
+}
+
+// Fills the cell of symbol r at p, where byte b stands; what is decided is there already.
+fn store(
+    t: &[u32],
+    s: &[u8],
+    cells: &mut [u32],
+    mem: &[u32],
+    n: usize,
+    r: usize,
+    p: usize,
+    b: usize,
+)
+    requires { ⌜ ((n ≡ symbolCount (now t)) × (n ≤ 64) × (r < n) × (length (now s) ≤ 65535) × (p ≤ length (now s)) × (b ≡ byteAt (now s) p) × (b ≤ 256))
+        × Knows (now t) (now s) (now cells) n (now mem) (p + 1) p ⌝ }
     ensures { λ _. ⌜ (now (cells .exit)
         ≡ set (now (cells .entry)) (p * length (bodiesOf (now (t .entry))) + r)
         (bodyAt (bodiesOf (now (t .entry))) (now (s .entry)) (now (cells .entry)) r p))
-        × Knows (now (t .entry)) (now (s .entry)) (now (cells .exit)) n (now (mem .entry)) (p + 1) ⌝ }
+        × Knows (now (t .entry)) (now (s .entry)) (now (cells .exit)) n (now (mem .entry)) (p + 1) p ⌝ }
 {
-    let b = crate::firsts::byte_at(s, p);
-    if crate::firsts::barred(mem, b, r) {
-        base_words::put(cells, p * n + r, 0);
-    } else {
-        let x = base_words::word(
-            t,
-            grammar_table::SYMBOLS_AT + grammar_table::SYMBOL_WORDS * r + grammar_table::BODY,
-        );
+    let w = word(mem, BODIES_AT + BYTE_WORDS * b + r);
+    if w == 0 {
+        let x = grammar_table::records::body(t, r);
         let v = crate::eval_with(t, s, cells, mem, n, x, p);
-        base_words::put(cells, p * n + r, v);
+        put(cells, p * n + r, v);
     }
 }
 
 // Fills the cells of all symbols at p, in an order that puts first-called symbols first.
-fn row(t: &[u32], s: &[u8], cells: &mut [u32], mem: &[u32], order: &[u32], n: usize, p: usize)
+fn row(
+    t: &[u32],
+    s: &[u8],
+    cells: &mut [u32],
+    mem: &[u32],
+    order: &[u32],
+    n: usize,
+    p: usize,
+    b: usize,
+)
     requires { ⌜ ((n ≡ symbolCount (now t)) × (n ≤ 64) × ((j : ℕ) → j < n → getD (now order) j 0 < n) × (length (now s) ≤ 65535)
-        × (p ≤ length (now s))) × Knows (now t) (now s) (now cells) n (now mem) (p + 1) ⌝ }
+        × (p ≤ length (now s)) × (b ≡ byteAt (now s) p) × (b ≤ 256)) × Knows (now t) (now s) (now cells) n (now mem) (p + 1) p ⌝ }
     ensures { λ _. ⌜ (now (cells .exit) ≡ rowOf (bodiesOf (now (t .entry))) (now (s .entry)) p (wordsFrom (now (order .entry)) 0 n) (now (cells .entry)))
-        × Knows (now (t .entry)) (now (s .entry)) (now (cells .exit)) n (now (mem .entry)) (p + 1) ⌝ }
+        × Knows (now (t .entry)) (now (s .entry)) (now (cells .exit)) n (now (mem .entry)) (p + 1) p ⌝ }
 {
     let mut j: usize = 0;
     while j < n {
-        let r = base_words::word(order, j);
-        store(t, s, cells, mem, n, r, p);
+        let r = word(order, j);
+        store(t, s, cells, mem, n, r, p, b);
         j += 1;
     }
+}
+
+// The same with what is decided set before.
+fn place(t: &[u32], s: &[u8], cells: &mut [u32], mem: &[u32], order: &[u32], n: usize, p: usize)
+    requires { ⌜ ((n ≡ symbolCount (now t)) × (n ≤ 64) × ((j : ℕ) → j < n → getD (now order) j 0 < n) × (length (now s) ≤ 65535)
+        × (p ≤ length (now s)))
+        × Knows (now t) (now s) (now cells) n (now mem) (p + 1) (p + 1) × Calm (now mem) (now s) n (length (now cells)) ⌝ }
+    ensures { λ _. ⌜ (now (cells .exit)
+        ≡ rowOf (bodiesOf (now (t .entry))) (now (s .entry)) p (wordsFrom (now (order .entry)) 0 n)
+        (presetOf (now (mem .entry)) (byteAt (now (s .entry)) p) (p * n) n (now (cells .entry))))
+        × Knows (now (t .entry)) (now (s .entry)) (now (cells .exit)) n (now (mem .entry)) (p + 1) p × (byteAt (now (s .entry)) p ≤ 256) ⌝ }
+{
+    let b = crate::firsts::byte_at(s, p);
+    preset(cells, mem, n, b, p * n);
+    row(t, s, cells, mem, order, n, p, b);
 }
 
 // Fills the cells of the places below k, the last first (01: "for p from 0 to n"), and remembers the rounds of each key at each place.
 fn rows(t: &[u32], s: &[u8], cells: &mut [u32], mem: &mut [u32], order: &[u32], n: usize, k: usize)
     requires { ⌜ ((n ≡ symbolCount (now t)) × (n ≤ 64) × ((j : ℕ) → j < n → getD (now order) j 0 < n) × (length (now s) ≤ 65535)
-        × (k ≤ length (now s) + 1)) × Knows (now t) (now s) (now cells) n (now mem) k ⌝ }
-    ensures { λ _. ⌜ now (cells .exit) ≡ fillOf (bodiesOf (now (t .entry))) (now (s .entry)) k (wordsFrom (now (order .entry)) 0 n) (now (cells .entry)) ⌝ }
+        × (k ≤ length (now s) + 1)) × Knows (now t) (now s) (now cells) n (now mem) k k × Calm (now mem) (now s) n (length (now cells)) ⌝ }
+    ensures { λ _. ⌜ now (cells .exit)
+        ≡ fillBy (now (mem .entry)) (bodiesOf (now (t .entry))) (now (s .entry)) n k (wordsFrom (now (order .entry)) 0 n) (now (cells .entry)) ⌝ }
 {
     let mut i = k;
     while 0 < i {
         i -= 1;
-        row(t, s, cells, mem, order, n, i);
+        place(t, s, cells, mem, order, n, i);
         crate::memory::learn_all(t, s, cells, mem, n, i);
     }
 }
 
-// The same for every place, with a key for each repeated part and nothing remembered at first.
+// The same for every place, with a key for each repeated part, what bytes decide, and nothing remembered at first.
 fn rows_in(t: &[u32], s: &[u8], cells: &mut [u32], order: &[u32], n: usize)
     requires { ⌜ (n ≡ symbolCount (now t)) × (n ≤ 64) × ((j : ℕ) → j < n → getD (now order) j 0 < n) × (length (now s) ≤ 65535) ⌝ }
-    ensures { λ _. ⌜ now (cells .exit)
-        ≡ fillOf (bodiesOf (now (t .entry))) (now (s .entry)) (length (now (s .entry)) + 1) (wordsFrom (now (order .entry)) 0 n) (now (cells .entry)) ⌝ }
+    ensures { λ _. ⌜ FilledBy (bodiesOf (now (t .entry))) (now (s .entry)) n (wordsFrom (now (order .entry)) 0 n) (now (cells .entry)) (now (cells .exit)) ⌝ }
 {
-    let mut mem: crate::memory::Memory = [0; crate::memory::WORDS];
+    let mut mem: Memory = [0; WORDS];
     crate::memory::enter_all(t, &mut mem);
-    crate::firsts::bar_text(t, s, &mut mem, n);
+    crate::firsts::decide_all(t, s, &mut mem, order, n, cells.len());
     rows(t, s, cells, &mut mem, order, n, s.len() + 1);
 }
 
@@ -124,7 +174,7 @@ pub fn fill(t: &[u32], s: &[u8], cells: &mut [u32])
     let mut calls: [u64; 64] = [0; 64];
     let mut ranks: [usize; 64] = [0; 64];
     let mut order: [u32; 64] = [0; 64];
-    let n = base_words::word(t, 0);
+    let n = grammar_table::records::symbols(t);
     let k = order_front(
         t,
         n,

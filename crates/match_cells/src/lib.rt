@@ -7,6 +7,7 @@ ghost use Rattle.grammar_table.specs.Table.{wordsFrom, marksFrom, leafIn};
 ghost use Rattle.match_cells.specs.Eval.{leafAt, cellAt, ev};
 ghost use Rattle.match_cells.specs.steps.Memory.{roundsOf, Knows};
 ghost use Rattle.grammar_table.specs.Trees.{treeOf};
+use grammar_table::records;
 
 pub mod filling;
 pub mod firsts;
@@ -67,16 +68,18 @@ pub fn leaf_at(t: &[u32], s: &[u8], x: usize, p: usize) -> usize
     requires { ⌜ (x < 4294967296) × (length (now s) ≤ 65535) × (p ≤ length (now s)) ⌝ }
     ensures { λ r. ⌜ r ≡ leafAt (now (s .entry)) (leafIn (now (t .entry)) x) p ⌝ }
 {
-    let i = grammar_table::TERMINALS_AT + grammar_table::TERMINAL_WORDS * x;
-    let k = base_words::word(t, i);
-    if k == 0 {
+    let i = grammar_table::TERMINALS_AT
+        + grammar_table::TERMINAL_WORDS * x
+        + grammar_table::CONTENT;
+    let k = records::leaf_kind(t, x);
+    if k == grammar_table::ANY {
         return any_at(s, p);
     }
-    if k == 1 {
-        let n = base_words::word(t, i + 1);
-        return literal_at(t, s, i + 2, n, p);
+    if k == grammar_table::LITERAL {
+        let n = records::leaf_length(t, x);
+        return literal_at(t, s, i, n, p);
     }
-    class_at(t, s, i + 2, p)
+    class_at(t, s, i, p)
 }
 
 // What the cells say of symbol r of n.
@@ -95,7 +98,7 @@ pub fn cell_at(s: &[u8], cells: &[u32], n: usize, r: usize, p: usize) -> usize
 }
 
 // What expression x - 1 takes at p, and `.` for 0: 0 for failure, else 1 + the bytes taken. Symbols are looked up, so that it goes down one body only;
-// rounds that are remembered are not asked again.
+// rounds that are remembered are not asked again, and one that its first byte decides is not evaluated.
 pub fn eval_with(
     t: &[u32],
     s: &[u8],
@@ -105,17 +108,16 @@ pub fn eval_with(
     x: usize,
     p: usize,
 ) -> usize
-    requires { ⌜ ((n ≤ 64) × (x ≤ 4294967296) × (length (now s) ≤ 65535) × (p ≤ length (now s))) × Knows (now t) (now s) (now cells) n (now mem) 0 ⌝ }
+    requires { ⌜ ((n ≤ 64) × (x ≤ 4294967296) × (length (now s) ≤ 65535) × (p ≤ length (now s))) × Knows (now t) (now s) (now cells) n (now mem) 0 p ⌝ }
     ensures { λ r. ⌜ r ≡ ev (now (s .entry)) (now (cells .entry)) n (treeOf (now (t .entry)) x) p ⌝ }
 {
     if x == 0 {
         return any_at(s, p);
     }
     let e = x - 1;
-    let i = grammar_table::EXPRESSIONS_AT + grammar_table::EXPRESSION_WORDS * e;
-    let l = base_words::word(t, i + 1);
+    let l = records::left(t, e);
     let y = grammar_table::part(l, e);
-    let op = base_words::word(t, i);
+    let op = records::op(t, e);
     match op {
         grammar_table::TERMINAL => leaf_at(t, s, l, p),
         grammar_table::SYMBOL => cell_at(s, cells, n, l, p),
@@ -124,7 +126,7 @@ pub fn eval_with(
             if a == 0 {
                 return 0;
             }
-            let r = base_words::word(t, i + 2);
+            let r = records::right(t, e);
             let z = grammar_table::part(r, e);
             let b = eval_with(t, s, cells, mem, n, z, p + (a - 1));
             if b == 0 {
@@ -137,7 +139,7 @@ pub fn eval_with(
             if a != 0 {
                 return a;
             }
-            let r = base_words::word(t, i + 2);
+            let r = records::right(t, e);
             let z = grammar_table::part(r, e);
             eval_with(t, s, cells, mem, n, z, p)
         }
@@ -175,7 +177,7 @@ pub fn eval_with(
 
 // The bytes that rounds of expression x - 1 take from p on: up to the first that fails or takes nothing, or to a place from which they are known.
 pub fn many(t: &[u32], s: &[u8], cells: &[u32], mem: &[u32], n: usize, x: usize, p: usize) -> usize
-    requires { ⌜ ((n ≤ 64) × (x ≤ 4294967296) × (length (now s) ≤ 65535) × (p ≤ length (now s))) × Knows (now t) (now s) (now cells) n (now mem) 0 ⌝ }
+    requires { ⌜ ((n ≤ 64) × (x ≤ 4294967296) × (length (now s) ≤ 65535) × (p ≤ length (now s))) × Knows (now t) (now s) (now cells) n (now mem) 0 p ⌝ }
     ensures { λ r. ⌜ r ≡ roundsOf (now (t .entry)) (now (s .entry)) (now (cells .entry)) n x p ⌝ }
 {
     let mut k = s.len();
@@ -185,7 +187,7 @@ pub fn many(t: &[u32], s: &[u8], cells: &[u32], mem: &[u32], n: usize, x: usize,
         if c < memory::UNKNOWN {
             return q - p + c;
         }
-        let a = eval_with(t, s, cells, mem, n, x, q);
+        let a = round(t, s, cells, mem, n, x, q);
         if a <= 1 {
             return q - p;
         }
@@ -195,7 +197,20 @@ pub fn many(t: &[u32], s: &[u8], cells: &[u32], mem: &[u32], n: usize, x: usize,
     q - p
 }
 
-// The same with nothing remembered.
+// What one round of expression x - 1 takes at p.
+fn round(t: &[u32], s: &[u8], cells: &[u32], mem: &[u32], n: usize, x: usize, p: usize) -> usize
+    requires { ⌜ ((n ≤ 64) × (x ≤ 4294967296) × (length (now s) ≤ 65535) × (p ≤ length (now s))) × Knows (now t) (now s) (now cells) n (now mem) 0 p ⌝ }
+    ensures { λ r. ⌜ r ≡ ev (now (s .entry)) (now (cells .entry)) n (treeOf (now (t .entry)) x) p ⌝ }
+{
+    let b = firsts::byte_at(s, p);
+    let w = memory::word_of(mem, x, b);
+    if w != 0 {
+        return w - 1;
+    }
+    eval_with(t, s, cells, mem, n, x, p)
+}
+
+// What an expression takes with nothing remembered.
 pub fn eval(t: &[u32], s: &[u8], cells: &[u32], n: usize, x: usize, p: usize) -> usize
     requires { ⌜ (n ≤ 64) × (x ≤ 4294967296) × (length (now s) ≤ 65535) × (p ≤ length (now s)) ⌝ }
     ensures { λ r. ⌜ r ≡ ev (now (s .entry)) (now (cells .entry)) n (treeOf (now (t .entry)) x) p ⌝ }

@@ -1,15 +1,16 @@
 // Rounds that are remembered: a repeat at a place ends with what was known at a later one, so that a run of single bytes takes time linear in the text
 // (01, Meaning of a match). Repeated parts with the same tree share what is remembered: each of them has a key, the same for all. The memory is one run of
-// words: how many places of each key it keeps, how many keys there are, the key of each part (0: none), a part of each key, the bars (firsts.rt), then
-// entries.
+// words: how many places of each key it keeps, how many keys there are, the key of each part (0: none), a part of each key, what bytes decide (firsts.rt),
+// then entries.
 ghost use Prim.Native.Nat.{ℕ, _<_, _≤_};
 ghost use mathlib.Core.Path.{_≡_};
 ghost use mathlib.Core.Bool.{true};
 ghost use lib.ListN.{length};
 ghost use Rattle.grammar_table.specs.Trees.{treeOf};
-ghost use Rattle.match_cells.specs.steps.Memory.{Key, Found, Fresh, Told, Knows, Noted};
+ghost use Rattle.match_cells.specs.steps.Memory.{Key, Found, Fresh, Told, Worded, Knows, Front, Noted};
 use base_words::put;
 use base_words::word;
+use grammar_table::records;
 
 pub const PLACES: usize = 0;
 
@@ -22,12 +23,17 @@ pub const PARTS: usize = 1025;
 
 pub const PARTS_AT: usize = 1027;
 
-// Whether a byte has been seen, then 64 words a byte: which symbols are barred where it stands.
+// Whether a byte has been seen, then 64 words a byte for symbols and 64 for keys: 1 + what their bodies and parts take where it stands, 0 where it does not
+// decide that.
 pub const SEEN_AT: usize = 2052;
 
-pub const BARS_AT: usize = 2309;
+pub const BODIES_AT: usize = 2309;
 
-pub const ENTRIES_AT: usize = 18757;
+pub const ROUNDS_AT: usize = 18757;
+
+pub const BYTE_WORDS: usize = 64;
+
+pub const ENTRIES_AT: usize = 35205;
 
 // What an entry is about, in one word, and the bytes that rounds take: key · 65,536 + place.
 pub const ENTRY_WORDS: usize = 2;
@@ -37,7 +43,7 @@ pub const TEXT: usize = 65536;
 // No key has more places than there are entries.
 pub const ENTRIES: usize = 4096;
 
-pub const WORDS: usize = 26949;
+pub const WORDS: usize = 43397;
 
 pub type Memory = [u32; WORDS];
 
@@ -45,7 +51,7 @@ pub type Memory = [u32; WORDS];
 pub const UNKNOWN: usize = 65536;
 
 // The key of part x; 0 where there is none.
-fn key(mem: &[u32], x: usize) -> usize
+pub fn key(mem: &[u32], x: usize) -> usize
     ensures { λ r. ⌜ (0 < r → Key (now (mem .entry)) x r) × (r ≤ 1025) ⌝ }
 {
     if x < PARTS {
@@ -55,6 +61,21 @@ fn key(mem: &[u32], x: usize) -> usize
         }
     }
     0
+}
+
+// The word of part x where byte b stands: 1 + what a round of it takes there; 0 where nothing is said.
+pub fn word_of(mem: &[u32], x: usize, b: usize) -> usize
+    requires { ⌜ b ≤ 256 ⌝ }
+    ensures { λ w. ⌜ (0 < w → Worded (now (mem .entry)) x b w) ⌝ }
+{
+    let k = key(mem, x);
+    if k == 0 {
+        return 0;
+    }
+    if BYTE_WORDS <= k {
+        return 0;
+    }
+    word(mem, ROUNDS_AT + BYTE_WORDS * b + k)
 }
 
 // The number of the entry for key k at place q: some places of each key, the nearest ones. Any answer would do, for an entry says what it is about.
@@ -105,8 +126,8 @@ fn remember(mem: &mut [u32], k: usize, p: usize, c: usize)
 
 // The rounds of part y from p on, if it has a key.
 fn learn(t: &[u32], s: &[u8], cells: &[u32], mem: &mut [u32], n: usize, y: usize, p: usize)
-    requires { ⌜ ((n ≤ 64) × (y < 4294967296) × (length (now s) ≤ 65535) × (p ≤ length (now s))) × Knows (now t) (now s) (now cells) n (now mem) p ⌝ }
-    ensures { λ _. ⌜ Knows (now (t .entry)) (now (s .entry)) (now (cells .entry)) n (now (mem .exit)) p ⌝ }
+    requires { ⌜ ((n ≤ 64) × (y < 4294967296) × (length (now s) ≤ 65535) × (p ≤ length (now s))) × Knows (now t) (now s) (now cells) n (now mem) p p ⌝ }
+    ensures { λ _. ⌜ Knows (now (t .entry)) (now (s .entry)) (now (cells .entry)) n (now (mem .exit)) p p × Front (now (mem .entry)) (now (mem .exit)) ⌝ }
 {
     let k = key(mem, y);
     if k != 0 {
@@ -117,8 +138,8 @@ fn learn(t: &[u32], s: &[u8], cells: &[u32], mem: &mut [u32], n: usize, y: usize
 
 // The same for a part of each key.
 pub fn learn_all(t: &[u32], s: &[u8], cells: &[u32], mem: &mut [u32], n: usize, p: usize)
-    requires { ⌜ ((n ≤ 64) × (length (now s) ≤ 65535) × (p ≤ length (now s))) × Knows (now t) (now s) (now cells) n (now mem) p ⌝ }
-    ensures { λ _. ⌜ Knows (now (t .entry)) (now (s .entry)) (now (cells .entry)) n (now (mem .exit)) p ⌝ }
+    requires { ⌜ ((n ≤ 64) × (length (now s) ≤ 65535) × (p ≤ length (now s))) × Knows (now t) (now s) (now cells) n (now mem) p p ⌝ }
+    ensures { λ _. ⌜ Knows (now (t .entry)) (now (s .entry)) (now (cells .entry)) n (now (mem .exit)) p p × Front (now (mem .entry)) (now (mem .exit)) ⌝ }
 {
     let d = word(mem, COUNT);
     let mut k: usize = 0;
@@ -145,15 +166,13 @@ fn same(t: &[u32], x: usize, y: usize) -> bool
     }
     let e = x - 1;
     let f = y - 1;
-    let i = grammar_table::EXPRESSIONS_AT + grammar_table::EXPRESSION_WORDS * e;
-    let j = grammar_table::EXPRESSIONS_AT + grammar_table::EXPRESSION_WORDS * f;
-    let op = word(t, i);
-    let other = word(t, j);
+    let op = records::op(t, e);
+    let other = records::op(t, f);
     if op != other {
         return false;
     }
-    let l = word(t, i + 1);
-    let m = word(t, j + 1);
+    let l = records::left(t, e);
+    let m = records::left(t, f);
     if op <= grammar_table::SYMBOL {
         if l != m {
             return false;
@@ -168,8 +187,8 @@ fn same(t: &[u32], x: usize, y: usize) -> bool
     if grammar_table::CHOICE < op {
         return true;
     }
-    let r = word(t, i + 2);
-    let u = word(t, j + 2);
+    let r = records::right(t, e);
+    let u = records::right(t, f);
     let g = grammar_table::part(r, e);
     let h = grammar_table::part(u, f);
     same(t, g, h)
@@ -215,10 +234,9 @@ fn enter_repeat(t: &[u32], mem: &mut [u32], e: usize)
     requires { ⌜ (e < 1024) × Fresh (now t) (now mem) ⌝ }
     ensures { λ _. ⌜ Fresh (now (t .entry)) (now (mem .exit)) ⌝ }
 {
-    let i = grammar_table::EXPRESSIONS_AT + grammar_table::EXPRESSION_WORDS * e;
-    let op = word(t, i);
+    let op = records::op(t, e);
     if op == grammar_table::STAR || op == grammar_table::PLUS {
-        let l = word(t, i + 1);
+        let l = records::left(t, e);
         let y = grammar_table::part(l, e);
         enter(t, mem, y);
     }
@@ -228,9 +246,9 @@ fn enter_repeat(t: &[u32], mem: &mut [u32], e: usize)
 fn count(t: &[u32]) -> usize
     ensures { λ r. ⌜ r ≤ 1024 ⌝ }
 {
-    let m = word(t, 2);
-    if 1024 < m {
-        return 1024;
+    let m = records::expressions(t);
+    if PARTS <= m {
+        return PARTS - 1;
     }
     m
 }

@@ -2,10 +2,7 @@
 use Prim.Native.Nat.{ℕ, _+_, _*_, _≤_, _<_}
 use mathlib.Core.Path.{_≡_, refl, sym, ap, _∙_}
 use native.Mathlib.Omega.{arith}
-use mathlib.Core.List.{List}
-use lib.ListN.{getD, length}
 use Rattle.read_tokens.specs.Token.{Leaf}
-use Rattle.grammar_table.specs.Table.{terminalsAt, terminalWords, terminalWord}
 use Rattle.match_cells.specs.Eval.{leafAt}
 use Rattle.grammar_table.specs.laws.Leaves.{is-any, is-literal, is-class}
 use borrow.Author.Needs.{needs}
@@ -13,13 +10,11 @@ use Rattle.match_cells.proofs.leaf_at.Statement.{statement}
 use Rattle.match_cells.proofs.leaf_at.Tie as tie
 use Rattle.match_cells.proofs.leaf_at.Reads as reads
 use Rattle.match_cells.proofs.leaf_at.Lts as lts
+use Rattle.grammar_table.proofs.records.leaf_kind.Reads as leaf-kind-reads
+use Rattle.grammar_table.proofs.records.leaf_length.Reads as leaf-length-reads
 use Rattle.match_cells.proofs.any_at.Reads as any-at-reads
 use Rattle.match_cells.proofs.class_at.Reads as class-at-reads
 use Rattle.match_cells.proofs.literal_at.Reads as literal-at-reads
-use Rattle.base_words.proofs.word.Reads as word-reads
-
-zero-off : (t : List ℕ) (x : ℕ) → getD t (terminalsAt + terminalWords * x) 0 ≡ terminalWord t x 0
-zero-off t x = let e : terminalsAt + terminalWords * x ≡ terminalsAt + terminalWords * x + 0 = omega arith in ap (λ (j : ℕ). getD t j 0) e
 
 mul-i : tie.Need-mul-i
 mul-i c = omega (arith, c .before .before .pre .0)
@@ -27,38 +22,32 @@ mul-i c = omega (arith, c .before .before .pre .0)
 add-i : tie.Need-add-i
 add-i c = omega (arith, c .before .before .pre .0)
 
-word-requires : tie.Need-word-requires
-word-requires c κs = search needs
+add-i-2 : tie.Need-add-i-2
+add-i-2 c = omega (arith, c .before .before .pre .0)
+
+leaf-kind-requires : tie.Need-leaf-kind-requires
+leaf-kind-requires c κs = omega (arith, c .before .before .pre .0)
 
 any-at-requires : tie.Need-any-at-requires
 any-at-requires c κs = search needs
 
 returns : tie.Need-returns
-returns c = c .any-at .ensures ∙ ap (λ (l : Leaf). leafAt (c .before .before .before .before .before .args .s .now) l (c .before .before .before .before .before .args .p)) (is-any (c .before .before .before .before .before .args .t .now) (c .before .before .before .before .before .args .x) (c .before .before .word .result) (c .before .before .word .ensures .0 ∙ zero-off (c .before .before .before .before .before .args .t .now) (c .before .before .before .before .before .args .x)) (c .before .if1 .taken))
+returns c = c .any-at .ensures ∙ ap (λ (l : Leaf). leafAt (c .before .before .before .before .before .args .s .now) l (c .before .before .before .before .before .args .p)) (is-any (c .before .before .before .before .before .args .t .now) (c .before .before .before .before .before .args .x) (c .before .before .leaf-kind .result) (c .before .before .leaf-kind .ensures .0) (c .before .if1 .taken))
 
-add-word : tie.Need-add-word
-add-word c = omega (arith, c .before .before .before .before .before .pre .0)
-
-word-requires-2 : tie.Need-word-requires-2
-word-requires-2 c κs = search needs
-
-add-literal-at : tie.Need-add-literal-at
-add-literal-at c = omega (arith, c .before .before .before .before .before .before .pre .0)
+leaf-length-requires : tie.Need-leaf-length-requires
+leaf-length-requires c κs = omega (arith, c .before .before .before .before .before .pre .0)
 
 literal-at-requires : tie.Need-literal-at-requires
-literal-at-requires c κs = (omega (arith, c .before .before .before .before .before .before .pre .0), c .word2 .ensures .1, c .before .before .before .before .before .before .pre .1, c .before .before .before .before .before .before .pre .2)
+literal-at-requires c κs = (omega (arith, c .before .before .before .before .before .before .pre .0), c .leaf-length .ensures .1, c .before .before .before .before .before .before .pre .1, c .before .before .before .before .before .before .pre .2)
 
 returns-2 : tie.Need-returns-2
-returns-2 c = c .literal-at .ensures ∙ ap (λ (l : Leaf). leafAt (c .before .before .before .before .before .before .before .args .s .now) l (c .before .before .before .before .before .before .before .args .p)) (is-literal (c .before .before .before .before .before .before .before .args .t .now) (c .before .before .before .before .before .before .before .args .x) (c .before .before .before .before .word .result) (c .before .before .before .before .word .ensures .0 ∙ zero-off (c .before .before .before .before .before .before .before .args .t .now) (c .before .before .before .before .before .before .before .args .x)) (c .before .word2 .result) (c .before .word2 .ensures .0) (c .before .before .if2 .taken))
-
-add-class-at : tie.Need-add-class-at
-add-class-at c = omega (arith, c .before .before .before .before .before .pre .0)
+returns-2 c = c .literal-at .ensures ∙ ap (λ (l : Leaf). leafAt (c .before .before .before .before .before .before .before .args .s .now) l (c .before .before .before .before .before .before .before .args .p)) (is-literal (c .before .before .before .before .before .before .before .args .t .now) (c .before .before .before .before .before .before .before .args .x) (c .before .before .before .before .leaf-kind .result) (c .before .before .before .before .leaf-kind .ensures .0) (c .before .leaf-length .result) (c .before .leaf-length .ensures .0) (c .before .before .if2 .taken))
 
 class-at-requires : tie.Need-class-at-requires
 class-at-requires c κs = omega (arith, c .before .before .before .before .before .pre .0)
 
 returns-3 : tie.Need-returns-3
-returns-3 c = c .class-at .ensures ∙ ap (λ (l : Leaf). leafAt (c .before .before .before .before .before .before .args .s .now) l (c .before .before .before .before .before .before .args .p)) (is-class (c .before .before .before .before .before .before .args .t .now) (c .before .before .before .before .before .before .args .x) (c .before .before .before .word .result) (c .before .before .before .word .ensures .0 ∙ zero-off (c .before .before .before .before .before .before .args .t .now) (c .before .before .before .before .before .before .args .x)) (c .before .before .if1 .left) (c .before .if2 .left))
+returns-3 c = c .class-at .ensures ∙ ap (λ (l : Leaf). leafAt (c .before .before .before .before .before .before .args .s .now) l (c .before .before .before .before .before .before .args .p)) (is-class (c .before .before .before .before .before .before .args .t .now) (c .before .before .before .before .before .before .args .x) (c .before .before .before .leaf-kind .result) (c .before .before .before .leaf-kind .ensures .0) (c .before .before .if1 .left) (c .before .if2 .left))
 
 pub leaf-at-spec : {M : Type 1} → statement M
 leaf-at-spec =
@@ -66,14 +55,12 @@ leaf-at-spec =
     (tie.spec
     mul-i
     add-i
-    word-requires
+    add-i-2
+    leaf-kind-requires
     any-at-requires
     returns
-    add-word
-    word-requires-2
-    add-literal-at
+    leaf-length-requires
     literal-at-requires
     returns-2
-    add-class-at
     class-at-requires
     returns-3)

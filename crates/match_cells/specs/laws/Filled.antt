@@ -50,7 +50,7 @@ module _ (bodies : List (Exp ℕ)) (s : List ℕ) where
     unfolding bodyAt
     body-right cs p r h a f = sym-is bodies s r p _ (ev-right bodies s m marked cs (bodyOf bodies r) p h a f)
 
-    row-right : (order done : List ℕ) (p : ℕ) (cs : List ℕ) → p ≤ length s → Room cs → After bodies s cs p
+    pub row-right : (order done : List ℕ) (p : ℕ) (cs : List ℕ) → p ≤ length s → Room cs → After bodies s cs p
         → ((x : ℕ) → In x done → x < length bodies → Known bodies s cs p x) → Ordered m bodies done order
         → After bodies s (rowOf bodies s p order cs) p × ((x : ℕ) → x < length bodies → Known bodies s (rowOf bodies s p order cs) p x)
     unfolding rowOf
@@ -95,7 +95,7 @@ module _ (bodies : List (Exp ℕ)) (s : List ℕ) where
     unfolding cells
     filled-right order old o room = fill-right order o (length s + 1) old (omega arith) room (λ k y j w. absurd (omega arith))
 
-    row-frame : (order done : List ℕ) (p : ℕ) (cs : List ℕ) (i : ℕ) → p ≤ length s → (length s + 1) * length bodies ≤ i → Ordered m bodies done order
+    pub row-frame : (order done : List ℕ) (p : ℕ) (cs : List ℕ) (i : ℕ) → p ≤ length s → (length s + 1) * length bodies ≤ i → Ordered m bodies done order
         → getD (rowOf bodies s p order cs) i 0 ≡ getD cs i 0
     unfolding rowOf
     row-frame [] done p cs i h l o = refl

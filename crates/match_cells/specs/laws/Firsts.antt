@@ -1,83 +1,205 @@
--- What cannot match where a byte stands, operator by operator. Assumes nothing.
+-- What the byte at a place decides, operator by operator. Assumes nothing.
 use Prim.Native.Nat.{ℕ, zero, suc, _+_, _-_, _*_, _≤_, _<_}
 use mathlib.Core.Path.{_≡_, refl, ap, _∙_, subst}
 use mathlib.Core.Path.{sym as flip}
 use mathlib.Core.Bool.{Bool, true, false, not}
 use mathlib.Core.List.{List}
+use mathlib.Core.Logic.{_⊎_, ⊎-elim}
 use native.Mathlib.Omega.{arith}
 use lib.Dec.{eqb, ltb}
-use lib.ListN.{length, getD}
-use borrow.Author.Tests.{ltb-true, ltb-false, eq-eqb}
-use Rattle.read_tokens.specs.Token.{Leaf, literal, class}
-use Rattle.grammar.specs.Exp.{Exp, ter, seq, alt, plus, ahead, never}
-use Rattle.grammar_table.specs.Table.{terminalsAt, terminalWords, terminalWord, expressionsAt, expressionWords, leafIn, nodeBy, wordsFrom, marksFrom}
+use lib.ListN.{length, getD, List·getD-eq-default}
+use borrow.Author.Tests.{ltb-true, ltb-false, eq-eqb, ne-eqb}
+use Rattle.base_facts.specs.laws.Numbers.{lt-or-ge}
+use Rattle.read_tokens.specs.Token.{Leaf, any, literal, class}
+use Rattle.grammar.specs.Exp.{Exp, sym, ter, seq, alt, opt, star, plus, ahead, never}
+use Rattle.grammar_table.specs.Table.{opOf, leftOf, rightOf, leafIn, nodeBy, wordsFrom, marksFrom}
 use Rattle.grammar_table.specs.Trees.{treeOf, below}
-use Rattle.grammar_table.specs.laws.Trees.{node-at}
+use Rattle.grammar_table.specs.laws.Trees.{node-at, node-never}
 use Rattle.grammar_table.specs.laws.Places.{getD-any}
-use Rattle.grammar_table.specs.laws.Leaves.{marks-at}
-use Rattle.match_cells.specs.Eval.{joinOf, seqOf, altOf, rep, plusOf, aheadOf, neverOf, ev, leafAt}
-use Rattle.match_cells.specs.laws.EvalSteps.{literal-fails, class-ends, class-fails}
-use Rattle.match_cells.specs.laws.Leaves.{lit-ends, lit-differs}
-use Rattle.match_cells.specs.steps.Firsts.{byteAt, LeafOff, Off, Guards}
+use Rattle.grammar_table.specs.laws.Leaves.{marks-at, words-length}
+use Rattle.match_cells.specs.Eval.{joinOf, seqOf, altOf, rep, plusOf, optOf, aheadOf, neverOf, ev, leafAt}
+use Rattle.match_cells.specs.laws.EvalSteps.{any-takes, literal-takes, literal-fails, class-takes, class-fails, cell-is, rep-ends, plus-ends}
+use Rattle.match_cells.specs.laws.Leaves.{lit-ends, lit-differs, lit-goes, lit-done}
+use Rattle.match_cells.specs.steps.Firsts.{byteAt, wordOf, Heard, LeafSure, Sure, Guards}
+
+-- a byte stands within the text
+inside : (s : List ℕ) (p b : ℕ) → byteAt s p ≡ b → b < 256 → p < length s
+inside s p b e l = ⊎-elim (λ h. h) (λ h. absurd (omega (arith, e, l, List·getD-eq-default s 256 {n = p} h))) (lt-or-ge p (length s))
+
+byte-is : (s : List ℕ) (p b : ℕ) → byteAt s p ≡ b → p < length s → getD s p 0 ≡ b
+byte-is s p b e l = getD-any s p 0 256 l ∙ e
 
 -- ── terminals ──
-pub kind-word : (t : List ℕ) (x : ℕ) → getD t (terminalsAt + terminalWords * x) 0 ≡ terminalWord t x 0
-kind-word t x = let e : terminalsAt + terminalWords * x ≡ terminalsAt + terminalWords * x + 0 = omega arith in ap (λ (j : ℕ). getD t j 0) e
+pub any-sure : (b : ℕ) → b < 256 → LeafSure b any 2
+any-sure b l s p e = flip (any-takes s p (inside s p b e l))
+
+pub empty-sure : (t : List ℕ) (i n b : ℕ) → n ≡ 0 → LeafSure b (literal (wordsFrom t i n)) 1
+empty-sure t i n b z s p e =
+    let k : length (wordsFrom t i n) + 1 ≡ 1 = omega (arith, words-length t i n, z) in
+    flip (literal-takes s p (wordsFrom t i n) (lit-done s t p i n (omega (arith, z)))) ∙ k
 
 -- a literal that begins with another byte
-pub literal-off : (t : List ℕ) (i n b c : ℕ) → 0 < n → c ≡ getD t i 0 → (b ≡ c → ⊥) → LeafOff b (literal (wordsFrom t i n))
+pub literal-off : (t : List ℕ) (i n b c : ℕ) → 0 < n → c ≡ getD t i 0 → (b ≡ c → ⊥) → LeafSure b (literal (wordsFrom t i n)) 0
 literal-off t i n b c m h f s p e = go (ltb p (length s)) refl
   where
     go : (d : Bool) → ltb p (length s) ≡ d → leafAt s (literal (wordsFrom t i n)) p ≡ 0
     go true g =
         let l : p < length s = ltb-true p (length s) g in
-        flip (literal-fails s p (wordsFrom t i n) (lit-differs s t p i n m b c l (flip e ∙ getD-any s p 256 0 l) h f))
+        flip (literal-fails s p (wordsFrom t i n) (lit-differs s t p i n m b c l (flip (byte-is s p b e l)) h f))
     go false g = flip (literal-fails s p (wordsFrom t i n) (lit-ends s t p i n m (ltb-false p (length s) g)))
 
--- a class without the byte
-pub class-off : (t : List ℕ) (i b : ℕ) → b < 256 → getD t (i + b) 0 ≡ 0 → LeafOff b (class (marksFrom t i 256))
-class-off t i b l z s p e = go (ltb p (length s)) refl
-  where
-    go : (d : Bool) → ltb p (length s) ≡ d → leafAt s (class (marksFrom t i 256)) p ≡ 0
-    go true g =
-        let m : p < length s = ltb-true p (length s) g in
-        let q : getD s p 0 ≡ b = getD-any s p 0 256 m ∙ e in
-        flip (class-fails s p (marksFrom t i 256) m (ap (λ (v : ℕ). getD (marksFrom t i 256) v false) q ∙ marks-at t i 256 b l ∙ ap not (eq-eqb (getD t (i + b) 0) 0 z)))
-    go false g = flip (class-ends s p (marksFrom t i 256) (ltb-false p (length s) g))
+-- a literal that is the byte
+pub literal-sure : (t : List ℕ) (i n b c : ℕ) → n ≡ 1 → c ≡ getD t i 0 → b ≡ c → b < 256 → LeafSure b (literal (wordsFrom t i n)) 2
+literal-sure t i n b c m h f g s p e =
+    let l : p < length s = inside s p b e g in
+    let k : length (wordsFrom t i n) + 1 ≡ 2 = omega (arith, words-length t i n, m) in
+    flip (literal-takes s p (wordsFrom t i n) (lit-done s t (p + 1) (i + 1) (n - 1) (omega (arith, m)) ∙ lit-goes s t p i n (omega (arith, m)) b c l (flip (byte-is s p b e l)) h f)) ∙ k
+
+module _ (t : List ℕ) (i b : ℕ) (l : b < 256) (s : List ℕ) (p : ℕ) (e : byteAt s p ≡ b) where
+  mark-is : (c : Bool) → eqb (getD t (i + b) 0) 0 ≡ c → getD (marksFrom t i 256) (getD s p 0) false ≡ not c
+  mark-is c h = ap (λ (v : ℕ). getD (marksFrom t i 256) v false) (byte-is s p b e (inside s p b e l)) ∙ marks-at t i 256 b l ∙ ap not h
+
+pub class-off : (t : List ℕ) (i b : ℕ) → b < 256 → getD t (i + b) 0 ≡ 0 → LeafSure b (class (marksFrom t i 256)) 0
+class-off t i b l z s p e =
+    flip (class-fails s p (marksFrom t i 256) (inside s p b e l) (mark-is t i b l s p e true (eq-eqb (getD t (i + b) 0) 0 z)))
+
+pub class-sure : (t : List ℕ) (i b : ℕ) → b < 256 → (getD t (i + b) 0 ≡ 0 → ⊥) → LeafSure b (class (marksFrom t i 256)) 2
+class-sure t i b l z s p e =
+    flip (class-takes s p (marksFrom t i 256) (inside s p b e l) (mark-is t i b l s p e false (ne-eqb (getD t (i + b) 0) 0 z)))
 
 -- ── operators ──
-leaf-off : (b : ℕ) (x : Leaf) → LeafOff b x → Off b (ter x)
-unfolding ev
-leaf-off b x h s cs n p e = h s p e
+module _ (mem : List ℕ) (n b : ℕ) where
+  leaf-sure : (x : Leaf) (v : ℕ) → LeafSure b x v → Sure mem n b (ter x) v
+  unfolding ev
+  leaf-sure x v h s cs p e w = h s p e
 
-seq-off : (b : ℕ) (a d : Exp ℕ) → Off b a → Off b (seq a d)
-unfolding ev seqOf
-seq-off b a d h s cs n p e = ap (λ (x : ℕ). seqOf x (λ m. ev s cs n d (p + m))) (h s cs n p e)
+  pub symbol-sure : (r v : ℕ) → r < n → n ≤ 64 → b < 256 → v < 3 → wordOf mem b r ≡ suc v → Sure mem n b (sym r) v
+  unfolding ev
+  symbol-sure r v l m h z u s cs p e w =
+      let q : wordOf mem (byteAt s p) r ≡ suc v = ap (λ (j : ℕ). wordOf mem j r) e ∙ u in
+      flip (cell-is s cs n r p v l (flip (w r v l (omega (arith, l, m)) (omega (arith, e, h)) q)) (omega (arith, inside s p b e h, z)))
 
-after-guard : (x : ℕ) (k : ℕ → ℕ) → x ≤ 1 → k 0 ≡ 0 → seqOf x k ≡ 0
-unfolding seqOf joinOf
-after-guard zero k h w = refl
-after-guard (suc zero) k h w = ap (joinOf 0) w
-after-guard (suc (suc x)) k h w = absurd (omega arith)
+  seq-off : (a d : Exp ℕ) → Sure mem n b a 0 → Sure mem n b (seq a d) 0
+  unfolding ev seqOf
+  seq-off a d h s cs p e w = ap (λ (x : ℕ). seqOf x (λ m. ev s cs n d (p + m))) (h s cs p e w)
 
-guard-off : (b : ℕ) (a d : Exp ℕ) → Guards a → Off b d → Off b (seq a d)
-unfolding ev
-guard-off b a d g h s cs n p e =
-    let z : p + 0 ≡ p = omega arith in
-    after-guard (ev s cs n a p) (λ m. ev s cs n d (p + m)) (g s cs n p) (ap (λ (q : ℕ). ev s cs n d q) z ∙ h s cs n p e)
+  join-none : (v : ℕ) → joinOf 0 v ≡ v
+  unfolding joinOf
+  join-none zero = refl
+  join-none (suc v) = omega arith
 
-alt-off : (b : ℕ) (a d : Exp ℕ) → Off b a → Off b d → Off b (alt a d)
-unfolding ev altOf
-alt-off b a d h g s cs n p e = ap (λ (x : ℕ). altOf x (λ m. ev s cs n d p)) (h s cs n p e) ∙ g s cs n p e
+  seq-next : (a d : Exp ℕ) (v : ℕ) → Sure mem n b a 1 → Sure mem n b d v → Sure mem n b (seq a d) v
+  unfolding ev seqOf
+  seq-next a d v h g s cs p e w =
+      let z : p + 0 ≡ p = omega arith in
+      ap (λ (x : ℕ). seqOf x (λ m. ev s cs n d (p + m))) (h s cs p e w) ∙ join-none (ev s cs n d (p + 0)) ∙ ap (λ (q : ℕ). ev s cs n d q) z ∙ g s cs p e w
 
-plus-off : (b : ℕ) (a : Exp ℕ) → Off b a → Off b (plus a)
-unfolding ev plusOf
-plus-off b a h s cs n p e = ap (λ (x : ℕ). plusOf x (λ m. rep (length s) (λ q. ev s cs n a q) (p + m))) (h s cs n p e)
+  after-guard : (x : ℕ) (k : ℕ → ℕ) → x ≤ 1 → k 0 ≡ 0 → seqOf x k ≡ 0
+  unfolding seqOf joinOf
+  after-guard zero k h w = refl
+  after-guard (suc zero) k h w = ap (joinOf 0) w
+  after-guard (suc (suc x)) k h w = absurd (omega arith)
 
-ahead-off : (b : ℕ) (a : Exp ℕ) → Off b a → Off b (ahead a)
-unfolding ev aheadOf
-ahead-off b a h s cs n p e = ap aheadOf (h s cs n p e)
+  guard-off : (a d : Exp ℕ) → Guards a → Sure mem n b d 0 → Sure mem n b (seq a d) 0
+  unfolding ev
+  guard-off a d g h s cs p e w =
+      let z : p + 0 ≡ p = omega arith in
+      after-guard (ev s cs n a p) (λ m. ev s cs n d (p + m)) (g s cs n p) (ap (λ (q : ℕ). ev s cs n d q) z ∙ h s cs p e w)
 
+  alt-both : (a d : Exp ℕ) (v : ℕ) → Sure mem n b a 0 → Sure mem n b d v → Sure mem n b (alt a d) v
+  unfolding ev altOf
+  alt-both a d v h g s cs p e w = ap (λ (x : ℕ). altOf x (λ m. ev s cs n d p)) (h s cs p e w) ∙ g s cs p e w
+
+  alt-one : (a d : Exp ℕ) (v : ℕ) → (v ≡ 0 → ⊥) → Sure mem n b a v → Sure mem n b (alt a d) v
+  unfolding ev altOf
+  alt-one a d zero f h s cs p e w = absurd (f refl)
+  alt-one a d (suc v) f h s cs p e w = ap (λ (x : ℕ). altOf x (λ m. ev s cs n d p)) (h s cs p e w)
+
+  opt-sure : (a : Exp ℕ) (v r : ℕ) → r ≡ optOf v → Sure mem n b a v → Sure mem n b (opt a) r
+  unfolding ev
+  opt-sure a v r q h s cs p e w = ap optOf (h s cs p e w) ∙ flip q
+
+  star-sure : (a : Exp ℕ) (v : ℕ) → v ≤ 1 → Sure mem n b a v → Sure mem n b (star a) 1
+  unfolding ev
+  star-sure a v l h s cs p e w = ap suc (flip (rep-ends (λ q. ev s cs n a q) (length s) p v (flip (h s cs p e w)) l))
+
+  plus-sure : (a : Exp ℕ) (v : ℕ) → v ≤ 1 → Sure mem n b a v → Sure mem n b (plus a) v
+  unfolding ev
+  plus-sure a v l h s cs p e w = flip (plus-ends (λ q. ev s cs n a q) (length s) p v (flip (h s cs p e w)) l)
+
+  ahead-sure : (a : Exp ℕ) (v r : ℕ) → r ≡ aheadOf v → Sure mem n b a v → Sure mem n b (ahead a) r
+  unfolding ev
+  ahead-sure a v r q h s cs p e w = ap aheadOf (h s cs p e w) ∙ flip q
+
+  never-sure : (a : Exp ℕ) (v r : ℕ) → r ≡ neverOf v → Sure mem n b a v → Sure mem n b (never a) r
+  unfolding ev
+  never-sure a v r q h s cs p e w = ap neverOf (h s cs p e w) ∙ flip q
+
+  pub dot-sure : (t : List ℕ) (x : ℕ) → x ≡ 0 → b < 256 → Sure mem n b (treeOf t x) 2
+  dot-sure t x z l = subst (λ (j : ℕ). Sure mem n b (treeOf t j) 2) (flip z) (leaf-sure any 2 (any-sure b l))
+
+-- ── by the words of a table: k the kind, l the left ──
+module _ (t mem : List ℕ) (n b x k l : ℕ) (f : x ≡ 0 → ⊥) (ka : k ≡ opOf t (x - 1)) (la : l ≡ leftOf t (x - 1)) where
+  abbrev right-of : ℕ
+  right-of = rightOf t (x - 1)
+
+  abbrev part-of : ℕ → Exp ℕ
+  part-of i = treeOf t (below i (x - 1))
+
+  by-node : (j v : ℕ) → k ≡ j → Sure mem n b (nodeBy j l right-of (leafIn t) part-of) v → Sure mem n b (treeOf t x) v
+  by-node j v e h =
+      subst (λ (y : Exp ℕ). Sure mem n b y v) (ap (λ (i : ℕ). nodeBy i l right-of (leafIn t) part-of) (flip e) ∙ node-at t x k l right-of f ka la refl) h
+
+  pub sure-leaf : (v : ℕ) → k ≡ 0 → LeafSure b (leafIn t l) v → Sure mem n b (treeOf t x) v
+  unfolding nodeBy
+  sure-leaf v e h = by-node 0 v e (leaf-sure mem n b (leafIn t l) v h)
+
+  pub sure-symbol : (v : ℕ) → k ≡ 1 → Sure mem n b (sym l) v → Sure mem n b (treeOf t x) v
+  unfolding nodeBy
+  sure-symbol v e h = by-node 1 v e h
+
+  pub sure-left : k ≡ 2 → Sure mem n b (part-of l) 0 → Sure mem n b (treeOf t x) 0
+  unfolding nodeBy
+  sure-left e h = by-node 2 0 e (seq-off mem n b (part-of l) (part-of right-of) h)
+
+  pub sure-next : (v : ℕ) → k ≡ 2 → Sure mem n b (part-of l) 1 → Sure mem n b (part-of right-of) v → Sure mem n b (treeOf t x) v
+  unfolding nodeBy
+  sure-next v e h g = by-node 2 v e (seq-next mem n b (part-of l) (part-of right-of) v h g)
+
+  pub sure-guard : k ≡ 2 → Guards (part-of l) → Sure mem n b (part-of right-of) 0 → Sure mem n b (treeOf t x) 0
+  unfolding nodeBy
+  sure-guard e g h = by-node 2 0 e (guard-off mem n b (part-of l) (part-of right-of) g h)
+
+  pub sure-one : (v : ℕ) → k ≡ 3 → (v ≡ 0 → ⊥) → Sure mem n b (part-of l) v → Sure mem n b (treeOf t x) v
+  unfolding nodeBy
+  sure-one v e z h = by-node 3 v e (alt-one mem n b (part-of l) (part-of right-of) v z h)
+
+  pub sure-both : (v : ℕ) → k ≡ 3 → Sure mem n b (part-of l) 0 → Sure mem n b (part-of right-of) v → Sure mem n b (treeOf t x) v
+  unfolding nodeBy
+  sure-both v e g h = by-node 3 v e (alt-both mem n b (part-of l) (part-of right-of) v g h)
+
+  pub sure-option : (v r : ℕ) → k ≡ 4 → r ≡ optOf v → Sure mem n b (part-of l) v → Sure mem n b (treeOf t x) r
+  unfolding nodeBy
+  sure-option v r e q h = by-node 4 r e (opt-sure mem n b (part-of l) v r q h)
+
+  pub sure-star : (v : ℕ) → k ≡ 5 → v ≤ 1 → Sure mem n b (part-of l) v → Sure mem n b (treeOf t x) 1
+  unfolding nodeBy
+  sure-star v e z h = by-node 5 1 e (star-sure mem n b (part-of l) v z h)
+
+  pub sure-plus : (v : ℕ) → k ≡ 6 → v ≤ 1 → Sure mem n b (part-of l) v → Sure mem n b (treeOf t x) v
+  unfolding nodeBy
+  sure-plus v e z h = by-node 6 v e (plus-sure mem n b (part-of l) v z h)
+
+  pub sure-ahead : (v r : ℕ) → k ≡ 7 → r ≡ aheadOf v → Sure mem n b (part-of l) v → Sure mem n b (treeOf t x) r
+  unfolding nodeBy
+  sure-ahead v r e q h = by-node 7 r e (ahead-sure mem n b (part-of l) v r q h)
+
+  pub sure-never : (v r : ℕ) → (k ≡ 0 → ⊥) → (k ≡ 1 → ⊥) → (k ≡ 2 → ⊥) → (k ≡ 3 → ⊥) → (k ≡ 4 → ⊥) → (k ≡ 5 → ⊥) → (k ≡ 6 → ⊥) → (k ≡ 7 → ⊥)
+      → r ≡ neverOf v → Sure mem n b (part-of l) v → Sure mem n b (treeOf t x) r
+  sure-never v r a c d g i j m o q h =
+      by-node k r refl (subst (λ (y : Exp ℕ). Sure mem n b y r) (node-never k l right-of (leafIn t) part-of a c d g i j m o) (never-sure mem n b (part-of l) v r q h))
+
+-- ── guards ──
 ahead-small : (x : ℕ) → aheadOf x ≤ 1
 unfolding aheadOf
 ahead-small zero = omega arith
@@ -87,46 +209,6 @@ never-small : (x : ℕ) → neverOf x ≤ 1
 unfolding neverOf
 never-small zero = omega arith
 never-small (suc x) = omega arith
-
--- ── by the words of a table: k the kind, l the left, r the right ──
-module _ (t : List ℕ) (b x k l : ℕ) (f : x ≡ 0 → ⊥) (ka : k ≡ getD t (expressionsAt + expressionWords * (x - 1)) 0) (la : l ≡ getD t (expressionsAt + expressionWords * (x - 1) + 1) 0) where
-  abbrev right-of : ℕ
-  right-of = getD t (expressionsAt + expressionWords * (x - 1) + 2) 0
-
-  abbrev part-of : ℕ → Exp ℕ
-  part-of i = treeOf t (below i (x - 1))
-
-  node-is : nodeBy k l right-of (leafIn t) part-of ≡ treeOf t x
-  node-is =
-      let z : expressionsAt + expressionWords * (x - 1) ≡ expressionsAt + expressionWords * (x - 1) + 0 = omega arith in
-      node-at t x k l right-of f (ka ∙ ap (λ (j : ℕ). getD t j 0) z) la refl
-
-  by-node : (j : ℕ) → k ≡ j → Off b (nodeBy j l right-of (leafIn t) part-of) → Off b (treeOf t x)
-  by-node j e h = subst (Off b) (ap (λ (i : ℕ). nodeBy i l right-of (leafIn t) part-of) (flip e) ∙ node-is) h
-
-  pub off-leaf : k ≡ 0 → LeafOff b (leafIn t l) → Off b (treeOf t x)
-  unfolding nodeBy
-  off-leaf e h = by-node 0 e (leaf-off b (leafIn t l) h)
-
-  pub off-left : k ≡ 2 → Off b (part-of l) → Off b (treeOf t x)
-  unfolding nodeBy
-  off-left e h = by-node 2 e (seq-off b (part-of l) (part-of right-of) h)
-
-  pub off-right : k ≡ 2 → Guards (part-of l) → Off b (part-of right-of) → Off b (treeOf t x)
-  unfolding nodeBy
-  off-right e g h = by-node 2 e (guard-off b (part-of l) (part-of right-of) g h)
-
-  pub off-both : k ≡ 3 → Off b (part-of l) → Off b (part-of right-of) → Off b (treeOf t x)
-  unfolding nodeBy
-  off-both e g h = by-node 3 e (alt-off b (part-of l) (part-of right-of) g h)
-
-  pub off-plus : k ≡ 6 → Off b (part-of l) → Off b (treeOf t x)
-  unfolding nodeBy
-  off-plus e h = by-node 6 e (plus-off b (part-of l) h)
-
-  pub off-ahead : k ≡ 7 → Off b (part-of l) → Off b (treeOf t x)
-  unfolding nodeBy
-  off-ahead e h = by-node 7 e (ahead-off b (part-of l) h)
 
 -- every kind from 7 on is a guard
 guards-by : (k l r : ℕ) (leaf : ℕ → Leaf) (part : ℕ → Exp ℕ) → 7 ≤ k → Guards (nodeBy k l r leaf part)
@@ -141,7 +223,7 @@ guards-by (suc (suc (suc (suc (suc (suc zero)))))) l r leaf part h s cs n p = ab
 guards-by (suc (suc (suc (suc (suc (suc (suc zero))))))) l r leaf part h s cs n p = ahead-small (ev s cs n (part l) p)
 guards-by (suc (suc (suc (suc (suc (suc (suc (suc k)))))))) l r leaf part h s cs n p = never-small (ev s cs n (part l) p)
 
-pub guards-node : (t : List ℕ) (x k : ℕ) → (x ≡ 0 → ⊥) → k ≡ getD t (expressionsAt + expressionWords * (x - 1)) 0 → 7 ≤ k → Guards (treeOf t x)
+pub guards-node : (t : List ℕ) (x k : ℕ) → (x ≡ 0 → ⊥) → k ≡ opOf t (x - 1) → 7 ≤ k → Guards (treeOf t x)
 guards-node t x k f ka h =
-    subst Guards (node-is t 0 x k (getD t (expressionsAt + expressionWords * (x - 1) + 1) 0) f ka refl)
-    (guards-by k (getD t (expressionsAt + expressionWords * (x - 1) + 1) 0) (getD t (expressionsAt + expressionWords * (x - 1) + 2) 0) (leafIn t) (λ i. treeOf t (below i (x - 1))) h)
+    subst Guards (node-at t x k (leftOf t (x - 1)) (rightOf t (x - 1)) f ka refl refl)
+    (guards-by k (leftOf t (x - 1)) (rightOf t (x - 1)) (leafIn t) (λ i. treeOf t (below i (x - 1))) h)

@@ -10,11 +10,10 @@ use lib.ListN.{getD, length, set, length-set, replicate, length-replicate}
 use lib.Seq.{getD-set-same, getD-set-other}
 use Rattle.read_tokens.specs.Token.{Leaf}
 use Rattle.grammar.specs.Exp.{Exp, sym, ter, seq, alt, opt, star, plus, ahead, never}
-use Rattle.grammar_table.specs.Table.{expressionsAt, expressionWords, leafIn, nodeBy, symbolWord}
+use Rattle.grammar_table.specs.Table.{opOf, leftOf, rightOf, leafIn, nodeBy}
 use Rattle.grammar_table.specs.Trees.{treeOf, below}
 use Rattle.grammar_table.specs.laws.Trees.{node-at}
-use Rattle.match_cells.specs.steps.Memory.{countAt, keysAt, partsAt, seenAt, barsAt, entriesAt, parts, Bars, Key, Found, Fresh}
-use Rattle.match_cells.specs.steps.Firsts.{Off}
+use Rattle.match_cells.specs.steps.Memory.{countAt, keysAt, partsAt, seenAt, entriesAt, parts, Key, Found, Fresh}
 use Rattle.match_cells.specs.laws.Memory.{zeros, alike-none}
 
 -- ── the same words, the same tree ──
@@ -31,22 +30,19 @@ nodes-same (suc (suc (suc (suc (suc (suc (suc zero))))))) l r m u leaf f g a b c
 nodes-same (suc (suc (suc (suc (suc (suc (suc (suc k)))))))) l r m u leaf f g a b c = ap never (b (omega arith))
 
 module _ (t : List ℕ) (x y k h l m : ℕ) (fx : x ≡ 0 → ⊥) (fy : y ≡ 0 → ⊥)
-    (ka : k ≡ getD t (expressionsAt + expressionWords * (x - 1)) 0) (ha : h ≡ getD t (expressionsAt + expressionWords * (y - 1)) 0) (kh : k ≡ h)
-    (la : l ≡ getD t (expressionsAt + expressionWords * (x - 1) + 1) 0) (ma : m ≡ getD t (expressionsAt + expressionWords * (y - 1) + 1) 0) where
+    (ka : k ≡ opOf t (x - 1)) (ha : h ≡ opOf t (y - 1)) (kh : k ≡ h) (la : l ≡ leftOf t (x - 1)) (ma : m ≡ leftOf t (y - 1)) where
   abbrev right-x : ℕ
-  right-x = getD t (expressionsAt + expressionWords * (x - 1) + 2) 0
+  right-x = rightOf t (x - 1)
 
   abbrev right-y : ℕ
-  right-y = getD t (expressionsAt + expressionWords * (y - 1) + 2) 0
+  right-y = rightOf t (y - 1)
 
   pub trees-same : (k ≤ 1 → l ≡ m) → (2 ≤ k → treeOf t (below l (x - 1)) ≡ treeOf t (below m (y - 1)))
       → (2 ≤ k → k ≤ 3 → treeOf t (below right-x (x - 1)) ≡ treeOf t (below right-y (y - 1))) → treeOf t x ≡ treeOf t y
   trees-same a b c =
-      let z : expressionsAt + expressionWords * (x - 1) ≡ expressionsAt + expressionWords * (x - 1) + 0 = omega arith in
-      let v : expressionsAt + expressionWords * (y - 1) ≡ expressionsAt + expressionWords * (y - 1) + 0 = omega arith in
-      flip (node-at t x k l right-x fx (ka ∙ ap (λ (j : ℕ). getD t j 0) z) la refl)
+      flip (node-at t x k l right-x fx ka la refl)
       ∙ nodes-same k l right-x m right-y (leafIn t) (λ i. treeOf t (below i (x - 1))) (λ i. treeOf t (below i (y - 1))) a b c
-      ∙ node-at t y k m right-y fy (kh ∙ ha ∙ ap (λ (j : ℕ). getD t j 0) v) ma refl
+      ∙ node-at t y k m right-y fy (kh ∙ ha) ma refl
 
 -- ── keys ──
 -- a part gets a key: x is it, or has the key that it had
@@ -57,10 +53,6 @@ module _ (mem new : List ℕ) (y k : ℕ) (here : getD new (keysAt + y) 0 ≡ k)
       go : Dec (x ≡ y) → ((x ≡ y) × (j ≡ k)) ⊎ Key mem x j
       go (yes e) = inl (e, flip (a .2) ∙ ap (λ (z : ℕ). getD new (keysAt + z) 0) e ∙ here)
       go (no f) = inr (a .0, a .1, flip (there x f (a .0)) ∙ a .2)
-
--- bars stand behind the keys
-bars-kept : (t mem new : List ℕ) → ((j : ℕ) → barsAt ≤ j → getD new j 0 ≡ getD mem j 0) → Bars t mem → Bars t new
-bars-kept t mem new f w b r i j h = w b r i j (subst (λ (z : ℕ). 0 < z) (f (barsAt + 64 * b + r) (omega arith)) h)
 
 module _ (t mem : List ℕ) (w : Fresh t mem) where
   module _ (y : ℕ) (small : y < parts) where
@@ -91,7 +83,6 @@ module _ (t mem : List ℕ) (w : Fresh t mem) where
               λ x j h. subst (λ (i : ℕ). j ≤ i) (flip (getD-set-other mem (keysAt + y) countAt k 0 (λ e. omega (arith, e)))) (like-most x j (like-split x j h));
           like = λ x z j h g. like-same x z j (like-split x j h) (like-split z j g);
         };
-        bars = bars-kept t mem given (λ j l. getD-set-other mem (keysAt + y) j k 0 (λ e. omega (arith, e, l, small))) (w .bars);
         room = subst (λ (i : ℕ). entriesAt ≤ i) (flip (length-set mem (keysAt + y) k)) (w .room);
         blank = λ j l. getD-set-other mem (keysAt + y) j k 0 (λ e. omega (arith, e, l, small)) ∙ w .blank j l;
       }
@@ -141,7 +132,6 @@ module _ (t mem : List ℕ) (w : Fresh t mem) where
           most = λ x j h. subst (λ (i : ℕ). j ≤ i) (flip counted) (own-most x j (own-split x j h));
           like = λ x z j h g. own-same x z j (own-split x j h) (own-split z j g);
         };
-        bars = bars-kept t mem three (λ j l. other j (λ e. omega (arith, e, l, less)) (λ e. omega (arith, e, l)) (λ e. omega (arith, e, l, small))) (w .bars);
         room = omega (arith, length-set two (keysAt + y) (d + 1), long-two, w .room);
         blank = λ j l. other j (λ e. omega (arith, e, l, less)) (λ e. omega (arith, e, l)) (λ e. omega (arith, e, l, small)) ∙ w .blank j l;
       }
@@ -153,7 +143,6 @@ module _ (t mem : List ℕ) (w : Fresh t mem) where
       most = λ x j h. subst (λ (i : ℕ). j ≤ i) (flip (getD-set-other mem 0 countAt v 0 (λ e. omega (arith, e)))) (w .shared .most x j (back x j h));
       like = λ x z j h g. w .shared .like x z j (back x j h) (back z j g);
     };
-    bars = bars-kept t mem (set mem 0 v) (λ j l. getD-set-other mem 0 j v 0 (λ e. omega (arith, e, l))) (w .bars);
     room = subst (λ (i : ℕ). entriesAt ≤ i) (flip (length-set mem 0 v)) (w .room);
     blank = λ j l. getD-set-other mem 0 j v 0 (λ e. omega (arith, e, l)) ∙ w .blank j l;
   }
@@ -161,45 +150,10 @@ module _ (t mem : List ℕ) (w : Fresh t mem) where
       back : (x j : ℕ) → Key (set mem 0 v) x j → Key mem x j
       back x j h = (h .0, h .1, flip (getD-set-other mem 0 (keysAt + x) v 0 (λ e. omega (arith, e))) ∙ h .2)
 
--- a word behind the keys and before the entries
-module _ (t mem : List ℕ) (w : Fresh t mem) (i v : ℕ) (low : seenAt ≤ i) (high : i < entriesAt) where
-  back-key : (x j : ℕ) → Key (set mem i v) x j → Key mem x j
-  back-key x j h = (h .0, h .1, flip (getD-set-other mem i (keysAt + x) v 0 (λ e. omega (arith, e, low, h .0))) ∙ h .2)
-
-  fresh-set : Bars t (set mem i v) → Fresh t (set mem i v)
-  fresh-set bs = record {
-    shared = record {
-      most = λ x j h. subst (λ (z : ℕ). j ≤ z) (flip (getD-set-other mem i countAt v 0 (λ e. omega (arith, e, low)))) (w .shared .most x j (back-key x j h));
-      like = λ x z j h g. w .shared .like x z j (back-key x j h) (back-key z j g);
-    };
-    bars = bs;
-    room = subst (λ (z : ℕ). entriesAt ≤ z) (flip (length-set mem i v)) (w .room);
-    blank = λ j l. getD-set-other mem i j v 0 (λ e. omega (arith, e, l, high)) ∙ w .blank j l;
-  }
-
--- a byte is seen
-pub fresh-seen : (t mem : List ℕ) → Fresh t mem → (b : ℕ) → b ≤ 256 → (v : ℕ) → Fresh t (set mem (seenAt + b) v)
-fresh-seen t mem w b l v =
-    fresh-set t mem w (seenAt + b) v (omega arith) (omega arith)
-    (bars-kept t mem (set mem (seenAt + b) v) (λ j h. getD-set-other mem (seenAt + b) j v 0 (λ e. omega (arith, e, h, l))) (w .bars))
-
--- a symbol is barred
-pub fresh-bar : (t mem : List ℕ) → Fresh t mem → (b r : ℕ) → b ≤ 256 → r < 64 → Off b (treeOf t (symbolWord t r 1)) → Fresh t (set mem (barsAt + 64 * b + r) 1)
-fresh-bar t mem w b r lb lr off =
-    fresh-set t mem w (barsAt + 64 * b + r) 1 (omega arith) (omega arith) (λ d q i j h. go d q i j h (ℕ-discrete (barsAt + 64 * d + q) (barsAt + 64 * b + r)))
-  where
-    go : (d q : ℕ) → d ≤ 256 → q < 64 → 0 < getD (set mem (barsAt + 64 * b + r) 1) (barsAt + 64 * d + q) 0 → Dec (barsAt + 64 * d + q ≡ barsAt + 64 * b + r) → Off d (treeOf t (symbolWord t q 1))
-    go d q i j h (yes e) =
-        let u : b ≡ d = omega (arith, e, lr, j) in
-        let v : r ≡ q = omega (arith, e, lr, j) in
-        subst (λ (z : ℕ). Off z (treeOf t (symbolWord t q 1))) u (subst (λ (z : ℕ). Off b (treeOf t (symbolWord t z 1))) v off)
-    go d q i j h (no f) = w .bars d q i j (subst (λ (z : ℕ). 0 < z) (getD-set-other mem (barsAt + 64 * b + r) (barsAt + 64 * d + q) 1 0 f) h)
-
 -- nothing but 0
 pub fresh-none : (t : List ℕ) (m : ℕ) → entriesAt ≤ m → Fresh t (replicate {A = ℕ} m 0)
 fresh-none t m l = record {
   shared = alike-none t (replicate {A = ℕ} m 0) (zeros m);
-  bars = λ b r i j h. absurd (omega (arith, zeros m (barsAt + 64 * b + r), h));
   room = subst (λ (i : ℕ). entriesAt ≤ i) (flip (length-replicate {A = ℕ} m 0)) l;
   blank = λ j g. zeros m j;
 }

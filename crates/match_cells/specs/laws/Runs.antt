@@ -24,11 +24,12 @@ use Rattle.lake_calls.specs.steps.Marks.{AllMarks}
 use Rattle.lake_calls.specs.laws.Trees.{bodies-are, trees-are}
 use Rattle.lake_calls.specs.laws.LoopsLoops.{calls-are}
 use Rattle.match_cells.specs.Eval.{nowhere}
-use Rattle.match_cells.specs.Cells.{cells, fillOf}
+use Rattle.match_cells.specs.Cells.{cells}
 use Rattle.match_cells.specs.First.{Markings, Ordered}
 use Rattle.match_cells.specs.laws.Agrees.{Right}
 use Rattle.match_cells.specs.laws.Filled.{filled-right}
-use Rattle.match_cells.specs.steps.Runs.{Plain, OrderedIn, Fills}
+use Rattle.match_cells.specs.laws.Preset.{filled-same}
+use Rattle.match_cells.specs.steps.Runs.{Plain, OrderedIn, FilledBy, Fills}
 use Rattle.match_cells.specs.laws.Order.{ordered}
 use Rattle.match_cells.specs.laws.Full.{All, order-all, order-full, calls-small}
 
@@ -100,13 +101,14 @@ module _ (t : List ℕ) (g : Grammar) (bodies : List (Exp ℕ)) (p : Plain t g b
     pub cells-right : (s old : List ℕ) → (length s + 1) * length bodies ≤ length old → Right bodies s (cells bodies (order bodies) s old)
     cells-right s old room = filled-right bodies s (marked (marksOf bodies)) markings (order bodies) old in-order room
 
-pub fills : (t s old new order₀ front : List ℕ) (n : ℕ) → n ≡ symbolCount t → OrderedIn t n order₀ front → new ≡ fillOf (bodiesOf t) s (length s + 1) (wordsFrom front 0 n) old → Fills t s old new
-unfolding cells
+pub fills : (t s old new order₀ front : List ℕ) (n : ℕ) → n ≡ symbolCount t → OrderedIn t n order₀ front → FilledBy (bodiesOf t) s n (wordsFrom front 0 n) old new → Fills t s old new
 fills t s old new order₀ front n q o e = record {
   are =
       λ g bodies p clear.
       let b : n ≡ length bodies = q ∙ bodies-are t g bodies (p .holds) in
       let f : wordsFrom front 0 n ≡ order bodies =
       ap₂ (λ (l : List ℕ) (k : ℕ). wordsFrom l 0 k) (o .are g bodies p b) (b ∙ sym (full t g bodies p clear)) ∙ words-front (order bodies) (drop (length (order bodies)) order₀) in
-      e ∙ ap₂ (λ (bs : List (Exp ℕ)) (l : List ℕ). fillOf bs s (length s + 1) l old) (bodies-of t g bodies p) f;
+      filled-same bodies s (marked (marksOf bodies)) (markings t g bodies p clear) (order bodies) old new (in-order t g bodies p clear)
+      (subst (λ (k : ℕ). FilledBy bodies s k (order bodies) old new) b
+      (subst (λ (l : List ℕ). FilledBy bodies s n l old new) f (subst (λ (bs : List (Exp ℕ)). FilledBy bs s n (wordsFrom front 0 n) old new) (bodies-of t g bodies p) e)));
 }

@@ -1,5 +1,5 @@
 -- The order of a table's symbols and its filled cells, as code says them. Assumes nothing: these are definitions.
-use Prim.Native.Nat.{ℕ, _<_}
+use Prim.Native.Nat.{ℕ, zero, suc, _+_, _*_, _<_}
 use mathlib.Core.Path.{_≡_}
 use mathlib.Core.List.{List, _++_}
 use mathlib.Core.Option.{none}
@@ -11,7 +11,9 @@ use Rattle.grammar.specs.Numbers.{terminalIn}
 use Rattle.lake_step_one.specs.Proper.{SoundAll}
 use Rattle.lake_step_one.specs.steps.Made.{withBodies}
 use Rattle.lake_calls.specs.Calls.{loop, order}
-use Rattle.match_cells.specs.Cells.{cells}
+use Rattle.match_cells.specs.Cells.{rowOf, cells}
+use Rattle.match_cells.specs.steps.Firsts.{byteAt, presetOf}
+use Rattle.match_cells.specs.steps.Memory.{Roomy}
 
 -- a table that holds a plain grammar with a body for each symbol, whose symbols and terminals are all there
 pub record Plain (t : List ℕ) (g : Grammar) (bodies : List (Exp ℕ)) : Type 0 where
@@ -22,6 +24,15 @@ pub record Plain (t : List ℕ) (g : Grammar) (bodies : List (Exp ℕ)) : Type 0
 pub record OrderedIn (t : List ℕ) (n : ℕ) (old new : List ℕ) : Type 0 where
   pub entries : ((j : ℕ) → getD old j 0 ≡ 0) → (j : ℕ) → j < n → getD new j 0 < n
   pub are : (g : Grammar) (bodies : List (Exp ℕ)) → Plain t g bodies → n ≡ length bodies → new ≡ order bodies ++ drop (length (order bodies)) old
+
+-- the cells after the places below the first number have been stored, the last first, each after its cells were set to what the words say by its byte
+unfoldable pub fillBy : List ℕ → List (Exp ℕ) → List ℕ → ℕ → ℕ → List ℕ → List ℕ → List ℕ
+fillBy mem bodies s n zero order cs = cs
+fillBy mem bodies s n (suc p) order cs = fillBy mem bodies s n p order (rowOf bodies s p order (presetOf mem (byteAt s p) (p * n) n cs))
+
+-- the same by some words, for every place
+abbrev pub FilledBy : List (Exp ℕ) → List ℕ → ℕ → List ℕ → List ℕ → List ℕ → Type 0
+FilledBy bodies s n order old new = (mem : List ℕ) × Roomy mem s n (length old) × (new ≡ fillBy mem bodies s n (length s + 1) order old)
 
 -- the cells of a plain grammar without a loop
 pub record Fills (t s old new : List ℕ) : Type 0 where

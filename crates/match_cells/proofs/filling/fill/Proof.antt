@@ -8,12 +8,12 @@ use Rattle.match_cells.proofs.filling.fill.Statement.{statement}
 use Rattle.match_cells.proofs.filling.fill.Tie as tie
 use Rattle.match_cells.proofs.filling.fill.Reads as reads
 use Rattle.match_cells.proofs.filling.fill.Lts as lts
-use Rattle.match_cells.proofs.filling.rows_in.Reads as rows-in-reads
+use Rattle.grammar_table.proofs.records.symbols.Reads as symbols-reads
 use Rattle.match_cells.proofs.filling.order_front.Reads as order-front-reads
-use Rattle.base_words.proofs.word.Reads as word-reads
+use Rattle.match_cells.proofs.filling.rows_in.Reads as rows-in-reads
 
-word-requires : tie.Need-word-requires
-word-requires c κs = search needs
+symbols-requires : tie.Need-symbols-requires
+symbols-requires c κs = search needs
 
 slice-aggregate-order-front : tie.Need-slice-aggregate-order-front
 slice-aggregate-order-front c = search needs
@@ -37,19 +37,19 @@ slice-aggregate-rows-in : tie.Need-slice-aggregate-rows-in
 slice-aggregate-rows-in c = search needs
 
 rows-in-requires : tie.Need-rows-in-requires
-rows-in-requires c κs = (c .before .before .before .before .before .before .before .before .before .before .before .before .before .word .ensures .0, omega (arith, c .before .before .before .before .before .before .before .before .before .before .before .before .before .word .ensures .0, c .before .before .before .before .before .before .before .before .before .before .before .before .before .before .before .before .before .pre .0), c .before .before .before .before .before .before .before .order-front .ensures .entries (zeros 64), c .before .before .before .before .before .before .before .before .before .before .before .before .before .before .before .before .before .pre .1)
+rows-in-requires c κs = (c .before .before .before .before .before .before .before .before .before .before .before .before .before .symbols .ensures .0, omega (arith, c .before .before .before .before .before .before .before .before .before .before .before .before .before .symbols .ensures .0, c .before .before .before .before .before .before .before .before .before .before .before .before .before .before .before .before .before .pre .0), c .before .before .before .before .before .before .before .order-front .ensures .entries (zeros 64), c .before .before .before .before .before .before .before .before .before .before .before .before .before .before .before .before .before .pre .1)
 
 same-length : tie.Need-same-length
 same-length c = search needs
 
 returns : tie.Need-returns
-returns c = fills (c .before .before .before .before .before .before .before .before .before .before .before .before .before .before .before .before .before .before .before .before .args .t .now) (c .before .before .before .before .before .before .before .before .before .before .before .before .before .before .before .before .before .before .before .before .args .s .now) (c .before .before .before .before .before .before .before .before .before .before .before .before .before .before .before .before .before .before .before .before .args .cells .now) _ _ _ (c .before .before .before .before .before .before .before .before .before .before .before .before .before .before .before .before .word .result) (c .before .before .before .before .before .before .before .before .before .before .before .before .before .before .before .before .word .ensures .0) (c .before .before .before .before .before .before .before .before .before .before .order-front .ensures) (c .before .before .rows-in .ensures)
+returns c = fills (c .before .before .before .before .before .before .before .before .before .before .before .before .before .before .before .before .before .before .before .before .args .t .now) (c .before .before .before .before .before .before .before .before .before .before .before .before .before .before .before .before .before .before .before .before .args .s .now) (c .before .before .before .before .before .before .before .before .before .before .before .before .before .before .before .before .before .before .before .before .args .cells .now) _ _ _ (c .before .before .before .before .before .before .before .before .before .before .before .before .before .before .before .before .symbols .result) (c .before .before .before .before .before .before .before .before .before .before .before .before .before .before .before .before .symbols .ensures .0) (c .before .before .before .before .before .before .before .before .before .before .order-front .ensures) (c .before .before .rows-in .ensures)
 
 pub fill-spec : {M : Type 1} → statement M
 fill-spec =
     tie.close
     (tie.spec
-    word-requires
+    symbols-requires
     slice-aggregate-order-front
     slice-aggregate-order-front-2
     slice-aggregate-order-front-3

@@ -7,29 +7,22 @@ use Rattle.match_cells.proofs.firsts.guards.Statement.{statement}
 use Rattle.match_cells.proofs.firsts.guards.Tie as tie
 use Rattle.match_cells.proofs.firsts.guards.Reads as reads
 use Rattle.match_cells.proofs.firsts.guards.Lts as lts
-use Rattle.base_words.proofs.word.Reads as word-reads
+use Rattle.grammar_table.proofs.records.op.Reads as op-reads
 
 returns : tie.Need-returns
 returns c = λ e. absurd (false≢true e)
 
-sub-e : tie.Need-sub-e
-sub-e c = omega (arith, c .if1 .left)
+sub-op : tie.Need-sub-op
+sub-op c = omega (arith, c .if1 .left)
 
-mul-word : tie.Need-mul-word
-mul-word c = omega (arith, c .before .before .pre)
-
-add-word : tie.Need-add-word
-add-word c = omega (arith, c .before .before .pre)
-
-word-requires : tie.Need-word-requires
-word-requires c κs = search needs
+op-requires : tie.Need-op-requires
+op-requires c κs = omega (arith, c .before .before .pre)
 
 returns-2 : tie.Need-returns-2
 returns-2 c = λ e. absurd (false≢true e)
 
 returns-3 : tie.Need-returns-3
-returns-3 c = λ e. guards-node (c .before .before .before .before .args .t .now) (c .before .before .before .before .args .x) (c .before .word .result) (c .before .before .if1 .left) (c .before .word .ensures .0) (omega (arith, c .if2 .left))
+returns-3 c = λ e. guards-node (c .before .before .before .before .args .t .now) (c .before .before .before .before .args .x) (c .before .op .result) (c .before .before .if1 .left) (c .before .op .ensures .0) (omega (arith, c .if2 .left))
 
 pub guards-spec : {M : Type 1} → statement M
-guards-spec =
-    tie.close (tie.spec returns sub-e mul-word add-word word-requires returns-2 returns-3)
+guards-spec = tie.close (tie.spec returns sub-op op-requires returns-2 returns-3)

@@ -3,7 +3,7 @@ use native.Mathlib.Omega.{arith}
 use mathlib.Core.Path.{_≡_, refl, _∙_}
 use Prim.Native.Nat.{_-_}
 use lib.ListN.{length}
-use Rattle.match_cells.specs.steps.Memory.{Knows}
+use Rattle.match_cells.specs.steps.Memory.{Knows, Front}
 use borrow.Author.Needs.{needs}
 use Rattle.match_cells.proofs.memory.learn_all.Statement.{statement}
 use Rattle.match_cells.proofs.memory.learn_all.Tie as tie
@@ -13,7 +13,7 @@ use Rattle.base_words.proofs.word.Reads as word-reads
 use Rattle.match_cells.proofs.memory.learn.Reads as learn-reads
 
 abbrev Inv-loop : tie.InvT-loop
-Inv-loop t s cells mem₀ n p d k₀ mem k = (length mem ≡ length mem₀) × Knows t s cells n mem p
+Inv-loop t s cells mem₀ n p d k₀ mem k = (length mem ≡ length mem₀) × Knows t s cells n mem p p × Front mem₀ mem
 
 abbrev μ-loop : tie.MeasureT-loop
 μ-loop t s cells mem₀ n p d k₀ mem k = d - k
@@ -22,7 +22,7 @@ word-requires : tie.Need-word-requires Inv-loop μ-loop
 word-requires c κs = search needs
 
 loop-holds : tie.Need-loop-holds Inv-loop μ-loop
-loop-holds c = (refl, c .before .before .before .before .before .before .pre .1)
+loop-holds c = (refl, c .before .before .before .before .before .before .pre .1, λ j l. refl)
 
 add-word : tie.Need-add-word Inv-loop μ-loop
 add-word c = omega (arith, c .before .loop-test .taken, c .before .before .before .word .ensures .1)
@@ -40,13 +40,13 @@ loop-less : tie.Need-loop-less Inv-loop μ-loop
 loop-less c = omega (arith, c .before .before .before .before .before .before .loop-test .taken)
 
 loop-again : tie.Need-loop-again Inv-loop μ-loop
-loop-again c = (c .before .before .learn .kept .1 .1 .1 .0 ∙ c .before .before .before .before .before .before .before .loop .inv .0, c .before .before .learn .ensures)
+loop-again c = (c .before .before .learn .kept .1 .1 .1 .0 ∙ c .before .before .before .before .before .before .before .loop .inv .0, c .before .before .learn .ensures .0, λ j l. c .before .before .learn .ensures .1 j l ∙ c .before .before .before .before .before .before .before .loop .inv .2 j l)
 
 same-length : tie.Need-same-length Inv-loop μ-loop
 same-length c = c .before .loop .inv .0
 
 returns : tie.Need-returns Inv-loop μ-loop
-returns c = c .before .loop .inv .1
+returns c = (c .before .loop .inv .1, c .before .loop .inv .2)
 
 pub learn-all-spec : {M : Type 1} → statement M
 learn-all-spec =
