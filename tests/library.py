@@ -179,6 +179,14 @@ def lines(questions):
     return "".join(line + "\n" for line in questions).encode()
 
 
+def check_made():
+    """The stored questions on names and nodes are those that questions.py makes."""
+    stored = set(zip(known.stored("stdin"), known.stored("stdout")))
+    missing = [question for question, answer in known.to_store() if (question, answer) not in stored]
+    if missing:
+        wrong(f"{len(missing)} questions of questions.py are not stored with their answers, the first: {missing[0][:200]}")
+
+
 def check_stored(target):
     questions, answers = lines(known.stored("stdin")), known.stored("stdout")
     asked = sum(answer != "unreadable" for answer in answers)
@@ -476,6 +484,7 @@ def main():
     if install() and build():
         with tempfile.TemporaryDirectory() as folder:
             check_header()
+            check_made()
             found = targets(folder)
             if not problems:
                 others = []

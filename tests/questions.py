@@ -1,15 +1,22 @@
+#!/usr/bin/env python3
 """Questions on a symbol's name and on node words, as lines of `replay`, each with the answer that document 01 and the independent reader give.
 
-Nothing here comes from the code under test: names are those of the grammar as `matcher.py` reads it, and refusals 1 to 8 those of the stored questions.
+Nothing here comes from the code under test: names are those of the grammar as `matcher.py` reads it, refusals 1 to 8 those of the stored questions.
+
+questions.py   prints those that `replay` has stored, `QUESTION => ANSWER` a line
 """
 import os
 import re
 
-from matcher import Reader, symbols_of
+from matcher import Grammar, Matcher, Reader, symbols_of
 from programs import TOP
 
 # more than any name needs: 32 bytes and the brackets of a lake, in plain mode 38 bytes
 NAME_ROOM = 40
+# the largest word, and the largest number that `replay` reads
+LAST_WORD = 2**32 - 1
+# of the stored grammars every so manieth is asked for its names in `replay` too
+EVERY = 10
 
 
 def field(given):
@@ -43,7 +50,7 @@ def stored_grammars():
     """Each mode and grammar of the stored questions once, with its refusal by 1 to 8, None where it is accepted."""
     known = {}
     for question, answer in zip(stored("stdin"), stored("stdout")):
-        mode = re.match(r"\w+ (lake|plain) ([0-9a-f]+|-)( |$)", question)
+        mode = re.match(r"(?!name)\w+ (lake|plain) ([0-9a-f]+|-)( |$)", question)
         if mode and answer != "unreadable":
             refusal = re.match(r"refused [1-8] \d+", answer)
             known[mode[1], bytes.fromhex(mode[2].strip("-"))] = refusal and refusal[0]
@@ -93,8 +100,47 @@ def span(words, k, n):
 
 
 def node_questions(text, words, k):
-    """Whether a node is sound, its text, and where in the input it is."""
+    """Whether a node is sound, its text, and where in the input it is; of an unsound node the empty part at 0."""
     listed, found = ",".join(map(str, words)) or "-", span(words, k, len(text))
     start, end = found or (0, 0)
     return [(f"sound {listed} {k} {len(text)}", f"sound {int(found is not None)}"),
+            (f"text {field(text)} {listed} {k}", f"text {field(text[start:end])}"),
             (f"span {field(text)} {listed} {k}", f"span {start} {end - start}")]
+
+
+# A text, words and a node each: sound ones with all of the text, a part and none of it; ends before starts, ends past the text, words that are too few, a
+# node past them, words as large as may be.
+NODE_CASES = [(text, words, k) for text, words in [
+    (b"{a;}", [0, 0, 4, 0, 1, 1, 3, 1, 2, 1, 3, 2, 3, 1, 2, 3]),
+    (b"abc", [7, 0, 0, 0, 7, 1, 1, 9, 7, 3, 3, 0, 7, 2, 1, 0, 7, 3, 4, 0, 7, 4, 4, 0]),
+    (b"abc", [LAST_WORD, 1, 2, LAST_WORD, 0, 0, LAST_WORD, 0, 0, LAST_WORD, LAST_WORD, 0, 0, LAST_WORD, 1, 0]),
+    (b"abc", [0, 0, 3, 0, 0, 1, 2]), (b"abc", [0, 0, 3]), (b"abc", []), (b"", []), (b"", [0, 0, 0, 0, 0, 0, 1, 0, 0, 1, 1, 0]), (b"\x00\xff\n ", [1, 1, 4, 1]),
+] for k in [*range(len(words) // 4 + 2), LAST_WORD // 4, LAST_WORD // 4 + 1, LAST_WORD]]
+
+# Lines that begin as questions on names and nodes, and are none.
+UNREADABLE = [
+    "name lake 61 x 3", "name lake 61", "name water 61 0 3", "name plain 6g 0 3", "sound", "sound - 0", "sound - x 1", "sound x 0 1", "sound -1 0 1",
+    "sound ,1 0 1", "sound 1, 0 1", "sound 1,,2 0 1", "sound 4294967296,0,0,0 0 1", "text", "text 6 - 0", "text zz - 0", "text - - x", "text - 1;2 0",
+    "text - 42949672950 0",
+]
+
+
+def first_nodes():
+    """The match of the first grammar of the documents on its text."""
+    parts = [open(os.path.join(TOP, "docs", name), "rb").read() for name in ("first.peg", "first.txt")]
+    words = [word for node in Matcher(Grammar(parts[0]), parts[1].strip()).nodes() for word in node]
+    return [(parts[1].strip(), words, k) for k in range(len(words) // 4 + 1)]
+
+
+def to_store():
+    """What `replay` has stored of all this. A text of 1 MiB is left to the library."""
+    grammars = [(mode, grammar, refusal) for (mode, grammar), refusal in stored_grammars().items()]
+    cases = [case for case in [*grammars[::EVERY], *NAME_CASES] if len(case[1]) < 2**16]
+    names = [asked for case in cases for asked in name_questions(*case, LAST_WORD)]
+    nodes = [asked for case in [*first_nodes(), *NODE_CASES] for asked in node_questions(*case)[:2]]
+    return [*dict.fromkeys([*names, *nodes]), *((line, "unreadable") for line in UNREADABLE)]
+
+
+if __name__ == "__main__":
+    for question, answer in to_store():
+        print(f"{question} => {answer}")

@@ -1,8 +1,6 @@
 /* harness [THREADS] < QUESTIONS: answers replay's lines (crates/replay/src/main.rt) through the library, one line each; `unreadable` for what is no question.
-   MODE may be a byte's number too, and there are three questions more, WORDS being numbers with `,` between or `-`:
-     name MODE GRAMMAR SYMBOL ROOM    text BYTES
-     sound WORDS K N                  sound 0 or 1
-     span INPUT WORDS K               span START LENGTH
+   MODE may be a byte's number too, and there is one question more, of where the text of a node is:
+     span INPUT WORDS NODE    span START LENGTH
    Guard bytes stand on both sides of everything lent and read; a call that changes one, or more of a room than it may, is answered by `broken`.
    With THREADS so many threads answer all the questions at once, each on STACK bytes; their answers must be the same. */
 #include <pthread.h>
@@ -63,14 +61,19 @@ static bool decimal(const char *f, uint64_t *n) {
 }
 static bool mode_of(const char *f, uint8_t *mode) {
     uint64_t n = 256;
-    if (!strcmp(f, "lake")) n = GM_LAKE; else if (!strcmp(f, "plain")) n = GM_PLAIN; else decimal(f, &n);
+    if (!strcmp(f, "lake")) n = GM_LAKE; else if (!strcmp(f, "plain")) n = GM_PLAIN; else if (!decimal(f, &n)) n = 256;
     return *mode = (uint8_t)n, n < 256;
 }
 static bool words(const char *f, Lent *l) {
     size_t n = strcmp(f, "-") != 0;
     for (const char *c = f; *c; c++) n += *c == ',';
     *l = lend_words(n);
-    for (size_t i = 0; i < n; i++) { ((uint32_t *)l->at)[i] = (uint32_t)strtoul(f, (char **)&f, 10); f++; }
+    for (size_t i = 0; i < n; i++) {
+        char *end;
+        unsigned long long word = strtoull(f, &end, 10);
+        if (digit(*f) < 0 || digit(*f) > 9 || word > UINT32_MAX || *end != (i + 1 < n ? ',' : 0)) return take_back(*l), false;
+        ((uint32_t *)l->at)[i] = (uint32_t)word, f = end + 1;
+    }
     return true;
 }
 
@@ -116,13 +119,15 @@ static void refused(Text *t, const uint64_t *out) { say(t, "refused"), number(t,
 #define BYTES(i) q->lent[i].at, q->lent[i].bytes
 #define WORDS(i) (uint32_t *)q->lent[i].at, q->lent[i].bytes / 4
 
+static void say_bytes(Text *t, const uint8_t *bytes, size_t n) {
+    say(t, n ? "text " : "text -");
+    for (size_t i = 0; i < n; i++) { char s[3]; sprintf(s, "%02x", bytes[i]), put(t, s, 2); }
+}
 static bool written(Text *t, Question *q, uint64_t code) {
     Lent room = q->lent[1];
     size_t n = code ? 0 : q->out[1];
     for (size_t i = n; i < room.bytes; i++) if (room.at[i] != ROOM_BYTE) return false;
-    if (code) return refused(t, q->out), true;
-    say(t, "text ");
-    for (size_t i = 0; i < n; i++) { char s[3]; sprintf(s, "%02x", room.at[i]), put(t, s, 2); }
+    if (code) refused(t, q->out); else say_bytes(t, room.at, n);
     return true;
 }
 /* Whether the line is a question; its answer is put behind the text. `same` is false where a call returned something else than out[0], or touched too much. */
@@ -158,6 +163,9 @@ static bool ask(Text *t, Question *q, bool *same) {
     } else if (!strcmp(kind, "sound") && fields(q, "wnn")) {
         code = gm_node_sound(WORDS(0), q->number[0], q->number[1], out);
         say(t, "sound"), number(t, out[1]);
+    } else if (!strcmp(kind, "text") && fields(q, "bwn")) {
+        code = gm_node_text(BYTES(0), WORDS(1), q->number[0], out);
+        if (out[1] > q->lent[0].bytes || out[2] > q->lent[0].bytes - out[1]) *same = false; else say_bytes(t, q->lent[0].at + out[1], out[2]);
     } else if (!strcmp(kind, "span") && fields(q, "bwn")) {
         code = gm_node_text(BYTES(0), WORDS(1), q->number[0], out);
         say(t, "span"), number(t, out[1]), number(t, out[2]);

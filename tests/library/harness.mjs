@@ -41,6 +41,7 @@ const readers = {
     return lent;
   },
   w: field => {
+    if (field !== '-' && !(/^\d+(,\d+)*$/.test(field) && field.split(',').every(word => Number(word) < 2 ** 32))) return undefined;
     const lent = lendWords(field === '-' ? [] : field.split(',').map(Number));
     lent.before = Buffer.from(view(lent));
     return lent;
@@ -73,6 +74,7 @@ const kinds = {
   plain: ['mbr', 'gm_write_plain', written],
   name: ['mbnr', 'gm_symbol_name', written],
   sound: ['wnn', 'gm_node_sound', out => `sound ${out[1]}`],
+  text: ['bwn', 'gm_node_text', (out, v) => `text ${Buffer.from(view(v[0]).subarray(Number(out[1]), Number(out[1] + out[2]))).toString('hex') || '-'}`],
   span: ['bwn', 'gm_node_text', out => `span ${out[1]} ${out[2]}`],
 };
 const counted = { b: 1n, r: 1n, w: 4n, c: 4n };

@@ -7,142 +7,60 @@
 //   lake MODE GRAMMAR INPUT CELLS LAKE PLACE  value 0 to 3; then every lent cell
 //   own MODE GRAMMAR ROOM                     text BYTES
 //   plain MODE GRAMMAR ROOM                   text BYTES
-// or `refused NUMBER PLACE`. MODE is `lake` or `plain`; bytes are in hexadecimal, `-` is the empty text. Every lent word holds 3,735,928,559 before the call.
+//   name MODE GRAMMAR SYMBOL ROOM             text BYTES
+// or `refused NUMBER PLACE`; and on node words, with no refusal,
+//   sound WORDS NODE LENGTH                   sound 0 or 1
+//   text INPUT WORDS NODE                     text BYTES
+// MODE is `lake` or `plain`; bytes are in hexadecimal, `-` is the empty text; WORDS are numbers with `,` between, `-` none. Every lent word holds
+// 3,735,928,559 before the call.
 ghost use Prim.Native.Nat.{_+_, _≤_, _<_};
 ghost use mathlib.Core.Path.{_≡_};
 ghost use lib.ListN.{length};
-
-mod says;
-
 use gurkenmond::Mode;
-use gurkenmond::Verdict;
-
-fn answer_read(mode: Mode, text: &[u8]) {
-    let r = gurkenmond::read(mode, text);
-    let v = r.verdict;
-    match v {
-        Verdict::Accepted => {
-            io::write_all(1, b"read");
-            console::number(r.symbols);
-            console::number(r.terminals);
-            console::number(r.expressions);
-        }
-        Verdict::Refused {
-            number: n,
-            place: p,
-        } => console::refusal(n, p),
-    }
-    console::line_end();
-}
-
-fn answer_sets(mode: Mode, text: &[u8], e: usize) {
-    let r = gurkenmond::sets(mode, text, e);
-    let v = r.verdict;
-    match v {
-        Verdict::Accepted => {
-            io::write_all(1, b"sets");
-            says::sets(r.sets);
-            console::number(r.rounds);
-        }
-        Verdict::Refused {
-            number: n,
-            place: p,
-        } => console::refusal(n, p),
-    }
-    console::line_end();
-}
-
-fn answer_skip(mode: Mode, text: &[u8]) {
-    let r = gurkenmond::cannot_skip(mode, text);
-    let v = r.verdict;
-    match v {
-        Verdict::Accepted => {
-            io::write_all(1, b"skip");
-            says::bits(r.word);
-        }
-        Verdict::Refused {
-            number: n,
-            place: p,
-        } => console::refusal(n, p),
-    }
-    console::line_end();
-}
-
-fn answer_match(mode: Mode, text: &[u8], input: &[u8], cells: &mut [u32], nodes: &mut [u32]) {
-    let r = gurkenmond::match_input(mode, text, input, cells, nodes);
-    let o = r.outcome;
-    says::outcome(o);
-    says::words(b" ; cells", cells);
-    says::words(b" ; nodes", nodes);
-    console::line_end();
-}
-
-fn answer_lake(
-    mode: Mode,
-    text: &[u8],
-    input: &[u8],
-    cells: &mut [u32],
-    lake: usize,
-    place: usize,
-) {
-    let w = gurkenmond::lake_at(mode, text, input, cells, lake, place);
-    says::lake(w);
-    says::words(b" ; cells", cells);
-    console::line_end();
-}
-
-fn answer_own(mode: Mode, text: &[u8], out: &mut [u8]) {
-    let w = gurkenmond::write_own(mode, text, out);
-    says::written(w, out);
-    console::line_end();
-}
-
-fn answer_plain(mode: Mode, text: &[u8], out: &mut [u8]) {
-    let w = gurkenmond::write_plain(mode, text, out);
-    says::written(w, out);
-    console::line_end();
-}
-
-// The number field at `at`, at most so large; above that `most + 1`, which is no number.
-fn number_at(line: &[u8], at: usize, most: usize) -> usize
-    requires { ⌜ most < 4294967296 ⌝ }
-    ensures { λ r. ⌜ r ≤ most + 1 ⌝ }
-{
-    let to = replay_lines::until(line, at);
-    let n = replay_lines::decimal(line, at, to);
-    if most < n {
-        return most + 1;
-    }
-    n
-}
 
 fn ask_sets(mode: Mode, text: &[u8], line: &[u8], at: usize) {
-    let e = number_at(line, at, 4294967295);
+    let e = replay_lines::number_at(line, at, 4294967295);
     if e == 4294967296 {
         console::unreadable();
         return;
     }
-    answer_sets(mode, text, e);
+    replay_answers::sets(mode, text, e);
 }
 
-fn ask_text(kind: u8, mode: Mode, text: &[u8], line: &[u8], at: usize) {
-    let n = number_at(line, at, 262144);
+fn ask_written(kind: u8, mode: Mode, text: &[u8], line: &[u8], at: usize) {
+    let n = replay_lines::number_at(line, at, 262144);
     if n == 262145 {
         console::unreadable();
         return;
     }
     let mut out = replay_lines::buffers::room();
     if kind == 5 {
-        answer_own(mode, text, &mut out[..n]);
+        replay_answers::write_own(mode, text, &mut out[..n]);
     } else {
-        answer_plain(mode, text, &mut out[..n]);
+        replay_answers::write_plain(mode, text, &mut out[..n]);
     }
 }
 
-fn ask_match(mode: Mode, text: &[u8], input: &[u8], line: &[u8], at: usize) {
-    let c = number_at(line, at, 131072);
+fn ask_name(mode: Mode, text: &[u8], line: &[u8], at: usize) {
+    let symbol = replay_lines::number_at(line, at, 4294967295);
     let then = replay_lines::after(line, at);
-    let k = number_at(line, then, 65536);
+    let n = replay_lines::number_at(line, then, 262144);
+    if symbol == 4294967296 {
+        console::unreadable();
+        return;
+    }
+    if n == 262145 {
+        console::unreadable();
+        return;
+    }
+    let mut out = replay_lines::buffers::room();
+    replay_answers::symbol_name(mode, text, symbol, &mut out[..n]);
+}
+
+fn ask_match(mode: Mode, text: &[u8], input: &[u8], line: &[u8], at: usize) {
+    let c = replay_lines::number_at(line, at, 131072);
+    let then = replay_lines::after(line, at);
+    let k = replay_lines::number_at(line, then, 65536);
     if c == 131073 {
         console::unreadable();
         return;
@@ -153,15 +71,15 @@ fn ask_match(mode: Mode, text: &[u8], input: &[u8], line: &[u8], at: usize) {
     }
     let mut cells = replay_lines::buffers::cells();
     let mut nodes = replay_lines::buffers::nodes();
-    answer_match(mode, text, input, &mut cells[..c], &mut nodes[..k]);
+    replay_answers::match_input(mode, text, input, &mut cells[..c], &mut nodes[..k]);
 }
 
 fn ask_lake(mode: Mode, text: &[u8], input: &[u8], line: &[u8], at: usize) {
-    let c = number_at(line, at, 131072);
+    let c = replay_lines::number_at(line, at, 131072);
     let then = replay_lines::after(line, at);
-    let lake = number_at(line, then, 4294967295);
+    let lake = replay_lines::number_at(line, then, 4294967295);
     let last = replay_lines::after(line, then);
-    let place = number_at(line, last, 4294967295);
+    let place = replay_lines::number_at(line, last, 4294967295);
     if c == 131073 {
         console::unreadable();
         return;
@@ -175,7 +93,7 @@ fn ask_lake(mode: Mode, text: &[u8], input: &[u8], line: &[u8], at: usize) {
         return;
     }
     let mut cells = replay_lines::buffers::cells();
-    answer_lake(mode, text, input, &mut cells[..c], lake, place);
+    replay_answers::lake_at(mode, text, input, &mut cells[..c], lake, place);
 }
 
 // A question with an input, whose field begins at `at`.
@@ -198,12 +116,13 @@ fn ask_input(kind: u8, mode: Mode, text: &[u8], line: &[u8], at: usize) {
 // A question of the kind on a grammar; what follows the grammar stands in the line from `at` on.
 fn ask(kind: u8, mode: Mode, text: &[u8], line: &[u8], at: usize) {
     match kind {
-        0 => answer_read(mode, text),
+        0 => replay_answers::read(mode, text),
         1 => ask_sets(mode, text, line, at),
-        2 => answer_skip(mode, text),
+        2 => replay_answers::cannot_skip(mode, text),
         3 => ask_input(kind, mode, text, line, at),
         4 => ask_input(kind, mode, text, line, at),
-        _ => ask_text(kind, mode, text, line, at),
+        7 => ask_name(mode, text, line, at),
+        _ => ask_written(kind, mode, text, line, at),
     }
 }
 
@@ -235,6 +154,61 @@ fn mode_at(kind: u8, line: &[u8], at: usize)
     console::unreadable();
 }
 
+// The words' field begins at `at`, and behind it stand a node's number and the length of its input.
+fn ask_sound(line: &[u8], at: usize) {
+    let mut nodes = replay_lines::buffers::nodes();
+    let to = replay_lines::until(line, at);
+    let n = replay_lines::words(line, at, to, &mut nodes);
+    let then = replay_lines::after(line, at);
+    let k = replay_lines::number_at(line, then, 4294967295);
+    let last = replay_lines::after(line, then);
+    let length = replay_lines::number_at(line, last, 4294967295);
+    if n == 65537 {
+        console::unreadable();
+        return;
+    }
+    if k == 4294967296 {
+        console::unreadable();
+        return;
+    }
+    if length == 4294967296 {
+        console::unreadable();
+        return;
+    }
+    replay_answers::node_sound(&nodes[..n], k, length);
+}
+
+// The words' field begins at `at`, and behind it stands a node's number.
+fn ask_text(input: &[u8], line: &[u8], at: usize) {
+    let mut nodes = replay_lines::buffers::nodes();
+    let to = replay_lines::until(line, at);
+    let n = replay_lines::words(line, at, to, &mut nodes);
+    let then = replay_lines::after(line, at);
+    let k = replay_lines::number_at(line, then, 4294967295);
+    if n == 65537 {
+        console::unreadable();
+        return;
+    }
+    if k == 4294967296 {
+        console::unreadable();
+        return;
+    }
+    replay_answers::node_text(input, &nodes[..n], k);
+}
+
+// The input's field begins at `at`.
+fn text_at(line: &[u8], at: usize) {
+    let to = replay_lines::until(line, at);
+    if !replay_lines::is_bytes(line, at, to, 65600) {
+        console::unreadable();
+        return;
+    }
+    let mut input = replay_lines::buffers::input();
+    let n = replay_lines::decode(line, at, to, &mut input);
+    let then = replay_lines::after(line, at);
+    ask_text(&input[..n], line, then);
+}
+
 fn answer(line: &[u8]) {
     if replay_lines::stands(line, 0, b"read ") {
         mode_at(0, line, 5);
@@ -262,6 +236,22 @@ fn answer(line: &[u8]) {
     }
     if replay_lines::stands(line, 0, b"plain ") {
         mode_at(6, line, 6);
+        return;
+    }
+    if replay_lines::stands(line, 0, b"name ") {
+        mode_at(7, line, 5);
+        return;
+    }
+    answer_on_nodes(line);
+}
+
+fn answer_on_nodes(line: &[u8]) {
+    if replay_lines::stands(line, 0, b"sound ") {
+        ask_sound(line, 6);
+        return;
+    }
+    if replay_lines::stands(line, 0, b"text ") {
+        text_at(line, 5);
         return;
     }
     console::unreadable();

@@ -181,8 +181,65 @@ fn shifted(v: usize, b: u8) -> usize
     if 57 < b {
         return 4294967296;
     }
-    if 429496729 <= v {
+    if 429496729 < v {
         return 4294967296;
     }
-    v * 10 + (b - 48) as usize
+    let n = v * 10 + (b - 48) as usize;
+    if 4294967295 < n {
+        return 4294967296;
+    }
+    n
+}
+
+// The number field at `at`, at most so large; above that `most + 1`, which is no number.
+pub fn number_at(line: &[u8], at: usize, most: usize) -> usize
+    requires { ⌜ most < 4294967296 ⌝ }
+    ensures { λ r. ⌜ r ≤ most + 1 ⌝ }
+{
+    let to = until(line, at);
+    let n = decimal(line, at, to);
+    if most < n {
+        return most + 1;
+    }
+    n
+}
+
+// Where the number that begins at `at` in a field up to `to` ends: at the next `,` or the field's end.
+fn comma(s: &[u8], at: usize, to: usize) -> usize {
+    let mut i = at;
+    while i < to {
+        if s.len() <= i {
+            return to;
+        }
+        if s[i] == 44 {
+            return i;
+        }
+        i += 1;
+    }
+    to
+}
+
+// The words of a field, numbers with `,` between, or `-` for none; one more than there is room for where it is something else, or has more.
+pub fn words(s: &[u8], from: usize, to: usize, out: &mut [u32]) -> usize
+    ensures { λ r. ⌜ r ≤ length (now (out .exit)) + 1 ⌝ }
+{
+    if is_bytes(s, from, to, 0) {
+        return 0;
+    }
+    let mut i = from;
+    let mut n: usize = 0;
+    while n < out.len() {
+        let end = comma(s, i, to);
+        let w = decimal(s, i, end);
+        if 4294967295 < w {
+            return out.len() + 1;
+        }
+        out[n] = w as u32;
+        n += 1;
+        if to <= end {
+            return n;
+        }
+        i = end + 1;
+    }
+    out.len() + 1
 }

@@ -7,10 +7,10 @@ use Rattle.replay.proofs.ask_lake.Statement.{statement}
 use Rattle.replay.proofs.ask_lake.Tie as tie
 use Rattle.replay.proofs.ask_lake.Reads as reads
 use Rattle.replay.proofs.ask_lake.Lts as lts
-use Rattle.replay.proofs.answer_lake.Reads as answer-lake-reads
+use Rattle.replay_answers.proofs.lake_at.Reads as lake-at-reads
 use Rattle.replay_lines.proofs.buffers.cells.Reads as cells-reads
 use Rattle.replay_lines.proofs.after.Reads as after-reads
-use Rattle.replay.proofs.number_at.Reads as number-at-reads
+use Rattle.replay_lines.proofs.number_at.Reads as number-at-reads
 use Rattle.console.proofs.unreadable.Reads as unreadable-reads
 
 number-at-requires : tie.Need-number-at-requires
@@ -52,11 +52,19 @@ cells-requires c κs = search needs
 array-borrow-prefix-cells : tie.Need-array-borrow-prefix-cells
 array-borrow-prefix-cells c = search needs
 
-slice-aggregate-answer-lake : tie.Need-slice-aggregate-answer-lake
-slice-aggregate-answer-lake c = sym (length-take-le (c .before .before .before .before .before .before .before .before .before .number-at .result) (c .before .cells .result) (omega (arith, c .before .before .before .before .before .before .before .before .before .number-at .ensures, c .before .cells .ensures, c .before .before .before .before .if1 .left)))
+slice-aggregate-lake-at : tie.Need-slice-aggregate-lake-at
+slice-aggregate-lake-at c =
+    sym (length-take-le (c .before .before .before .before .before .before .before .before .before .number-at .result)
+    (c .before .cells .result)
+    (omega (
+      arith,
+      c .before .before .before .before .before .before .before .before .before .number-at .ensures,
+      c .before .cells .ensures,
+      c .before .before .before .before .if1 .left,
+    )))
 
-answer-lake-requires : tie.Need-answer-lake-requires
-answer-lake-requires c κs = search needs
+lake-at-requires : tie.Need-lake-at-requires
+lake-at-requires c κs = search needs
 
 returns-4 : tie.Need-returns-4
 returns-4 c = search needs
@@ -78,6 +86,6 @@ ask-lake-spec =
     returns-3
     cells-requires
     array-borrow-prefix-cells
-    slice-aggregate-answer-lake
-    answer-lake-requires
+    slice-aggregate-lake-at
+    lake-at-requires
     returns-4)

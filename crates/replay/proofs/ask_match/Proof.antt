@@ -7,11 +7,11 @@ use Rattle.replay.proofs.ask_match.Statement.{statement}
 use Rattle.replay.proofs.ask_match.Tie as tie
 use Rattle.replay.proofs.ask_match.Reads as reads
 use Rattle.replay.proofs.ask_match.Lts as lts
-use Rattle.replay.proofs.answer_match.Reads as answer-match-reads
+use Rattle.replay_answers.proofs.match_input.Reads as match-input-reads
 use Rattle.replay_lines.proofs.buffers.cells.Reads as cells-reads
 use Rattle.replay_lines.proofs.buffers.nodes.Reads as nodes-reads
 use Rattle.replay_lines.proofs.after.Reads as after-reads
-use Rattle.replay.proofs.number_at.Reads as number-at-reads
+use Rattle.replay_lines.proofs.number_at.Reads as number-at-reads
 use Rattle.console.proofs.unreadable.Reads as unreadable-reads
 
 number-at-requires : tie.Need-number-at-requires
@@ -44,17 +44,33 @@ nodes-requires c κs = search needs
 array-borrow-prefix-cells : tie.Need-array-borrow-prefix-cells
 array-borrow-prefix-cells c = search needs
 
-slice-aggregate-answer-match : tie.Need-slice-aggregate-answer-match
-slice-aggregate-answer-match c = sym (length-take-le (c .before .before .before .before .before .before .before .number-at .result) (c .before .before .cells .result) (omega (arith, c .before .before .before .before .before .before .before .number-at .ensures, c .before .before .cells .ensures, c .before .before .before .before .if1 .left)))
+slice-aggregate-match-input : tie.Need-slice-aggregate-match-input
+slice-aggregate-match-input c =
+    sym (length-take-le (c .before .before .before .before .before .before .before .number-at .result)
+    (c .before .before .cells .result)
+    (omega (
+      arith,
+      c .before .before .before .before .before .before .before .number-at .ensures,
+      c .before .before .cells .ensures,
+      c .before .before .before .before .if1 .left,
+    )))
 
 array-borrow-prefix-nodes : tie.Need-array-borrow-prefix-nodes
 array-borrow-prefix-nodes c = search needs
 
-slice-aggregate-answer-match-2 : tie.Need-slice-aggregate-answer-match-2
-slice-aggregate-answer-match-2 c = sym (length-take-le (c .before .before .before .before .before .before .number-at2 .result) (c .before .before .nodes .result) (omega (arith, c .before .before .before .before .before .before .number-at2 .ensures, c .before .before .nodes .ensures, c .before .before .before .before .if2 .left)))
+slice-aggregate-match-input-2 : tie.Need-slice-aggregate-match-input-2
+slice-aggregate-match-input-2 c =
+    sym (length-take-le (c .before .before .before .before .before .before .number-at2 .result)
+    (c .before .before .nodes .result)
+    (omega (
+      arith,
+      c .before .before .before .before .before .before .number-at2 .ensures,
+      c .before .before .nodes .ensures,
+      c .before .before .before .before .if2 .left,
+    )))
 
-answer-match-requires : tie.Need-answer-match-requires
-answer-match-requires c κs = search needs
+match-input-requires : tie.Need-match-input-requires
+match-input-requires c κs = search needs
 
 returns-3 : tie.Need-returns-3
 returns-3 c = search needs
@@ -73,8 +89,8 @@ ask-match-spec =
     cells-requires
     nodes-requires
     array-borrow-prefix-cells
-    slice-aggregate-answer-match
+    slice-aggregate-match-input
     array-borrow-prefix-nodes
-    slice-aggregate-answer-match-2
-    answer-match-requires
+    slice-aggregate-match-input-2
+    match-input-requires
     returns-3)

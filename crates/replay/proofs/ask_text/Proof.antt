@@ -7,11 +7,28 @@ use Rattle.replay.proofs.ask_text.Statement.{statement}
 use Rattle.replay.proofs.ask_text.Tie as tie
 use Rattle.replay.proofs.ask_text.Reads as reads
 use Rattle.replay.proofs.ask_text.Lts as lts
-use Rattle.replay.proofs.answer_own.Reads as answer-own-reads
-use Rattle.replay.proofs.answer_plain.Reads as answer-plain-reads
-use Rattle.replay_lines.proofs.buffers.room.Reads as room-reads
-use Rattle.replay.proofs.number_at.Reads as number-at-reads
 use Rattle.console.proofs.unreadable.Reads as unreadable-reads
+use Rattle.replay_answers.proofs.node_text.Reads as node-text-reads
+use Rattle.replay_lines.proofs.after.Reads as after-reads
+use Rattle.replay_lines.proofs.buffers.nodes.Reads as nodes-reads
+use Rattle.replay_lines.proofs.number_at.Reads as number-at-reads
+use Rattle.replay_lines.proofs.until.Reads as until-reads
+use Rattle.replay_lines.proofs.words.Reads as words-reads
+
+nodes-requires : tie.Need-nodes-requires
+nodes-requires c κs = search needs
+
+until-requires : tie.Need-until-requires
+until-requires c κs = search needs
+
+slice-aggregate-words : tie.Need-slice-aggregate-words
+slice-aggregate-words c = search needs
+
+words-requires : tie.Need-words-requires
+words-requires c κs = search needs
+
+after-requires : tie.Need-after-requires
+after-requires c κs = search needs
 
 number-at-requires : tie.Need-number-at-requires
 number-at-requires c κs = search needs
@@ -22,29 +39,28 @@ unreadable-requires c κs = search needs
 returns : tie.Need-returns
 returns c = search needs
 
-room-requires : tie.Need-room-requires
-room-requires c κs = search needs
-
-array-borrow-prefix-out : tie.Need-array-borrow-prefix-out
-array-borrow-prefix-out c = search needs
-
-slice-aggregate-answer-own : tie.Need-slice-aggregate-answer-own
-slice-aggregate-answer-own c = sym (length-take-le (c .before .before .before .before .number-at .result) (c .before .before .room .result) (omega (arith, c .before .before .before .before .number-at .ensures, c .before .before .room .ensures, c .before .before .before .if1 .left)))
-
-answer-own-requires : tie.Need-answer-own-requires
-answer-own-requires c κs = search needs
-
-array-borrow-prefix-out-2 : tie.Need-array-borrow-prefix-out-2
-array-borrow-prefix-out-2 c = search needs
-
-slice-aggregate-answer-plain : tie.Need-slice-aggregate-answer-plain
-slice-aggregate-answer-plain c = sym (length-take-le (c .before .before .before .before .number-at .result) (c .before .before .room .result) (omega (arith, c .before .before .before .before .number-at .ensures, c .before .before .room .ensures, c .before .before .before .if1 .left)))
-
-answer-plain-requires : tie.Need-answer-plain-requires
-answer-plain-requires c κs = search needs
+unreadable-requires-2 : tie.Need-unreadable-requires-2
+unreadable-requires-2 c κs = search needs
 
 returns-2 : tie.Need-returns-2
 returns-2 c = search needs
+
+array-share-prefix-nodes : tie.Need-array-share-prefix-nodes
+array-share-prefix-nodes c = search needs
+
+slice-aggregate-node-text : tie.Need-slice-aggregate-node-text
+slice-aggregate-node-text c =
+    sym (length-take-le (c .before .before .before .before .before .before .words .result)
+    (c .before .before .before .before .before .before .words .last .1 .1 .1 .0)
+    (omega (
+      arith,
+      c .before .before .before .before .before .before .words .ensures,
+      c .before .before .if1 .left,
+      c .before .before .before .before .before .before .words .kept,
+    )))
+
+node-text-requires : tie.Need-node-text-requires
+node-text-requires c κs = search needs
 
 returns-3 : tie.Need-returns-3
 returns-3 c = search needs
@@ -53,15 +69,17 @@ pub ask-text-spec : {M : Type 1} → statement M
 ask-text-spec =
     tie.close
     (tie.spec
+    nodes-requires
+    until-requires
+    slice-aggregate-words
+    words-requires
+    after-requires
     number-at-requires
     unreadable-requires
     returns
-    room-requires
-    array-borrow-prefix-out
-    slice-aggregate-answer-own
-    answer-own-requires
-    array-borrow-prefix-out-2
-    slice-aggregate-answer-plain
-    answer-plain-requires
+    unreadable-requires-2
     returns-2
+    array-share-prefix-nodes
+    slice-aggregate-node-text
+    node-text-requires
     returns-3)

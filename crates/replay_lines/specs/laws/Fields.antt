@@ -119,13 +119,13 @@ module _ (v b : ℕ) where
   unfolding shiftedBy
   shift-high h l = rw (le-ltb b 48 h, lt-ltb 57 b l)
 
-  pub shift-large : 48 ≤ b → b ≤ 57 → 429496729 ≤ v → beyond ≡ shiftedBy v b
+  pub shift-large : 48 ≤ b → b ≤ 57 → beyond ≤ v * 10 + (b - 48) → beyond ≡ shiftedBy v b
   unfolding shiftedBy
-  shift-large h l k = rw (le-ltb b 48 h, le-ltb 57 b l, le-leb 429496729 v k)
+  shift-large h l k = rw (le-ltb b 48 h, le-ltb 57 b l, le-leb beyond (v * 10 + (b - 48)) k)
 
-  pub shift-on : 48 ≤ b → b ≤ 57 → v < 429496729 → v * 10 + (b - 48) ≡ shiftedBy v b
+  pub shift-on : 48 ≤ b → b ≤ 57 → v * 10 + (b - 48) < beyond → v * 10 + (b - 48) ≡ shiftedBy v b
   unfolding shiftedBy
-  shift-on h l k = rw (le-ltb b 48 h, le-ltb 57 b l, lt-leb 429496729 v k)
+  shift-on h l k = rw (le-ltb b 48 h, le-ltb 57 b l, lt-leb beyond (v * 10 + (b - 48)) k)
 
 -- ── the whole field ──
 module _ (s : List ℕ) (at : ℕ) where

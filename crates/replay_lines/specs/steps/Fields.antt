@@ -34,7 +34,9 @@ beyond = 4294967296
 
 -- one digit more
 unfoldable pub shiftedBy : ℕ → ℕ → ℕ
-shiftedBy v b = cond (ltb b 48) beyond (cond (ltb 57 b) beyond (cond (leb 429496729 v) beyond (v * 10 + (b - 48))))
+shiftedBy v b =
+    let w : ℕ = v * 10 + (b - 48) in
+    cond (ltb b 48) beyond (cond (ltb 57 b) beyond (cond (leb beyond w) beyond w))
 
 unfoldable pub numberFrom : ℕ → List ℕ → ℕ
 numberFrom v [] = v

@@ -1,13 +1,13 @@
--- `replay::says::words` meets its contract. Assumes nothing.
+-- `replay_answers::says::words` meets its contract. Assumes nothing.
 use Prim.Native.Nat.{ℕ, _+_, _-_, _≤_, _<_}
 use lib.ListN.{length}
 use borrow.Author.Needs.{needs}
-use Rattle.replay.proofs.says.words.Statement.{statement}
-use Rattle.replay.proofs.says.words.Tie as tie
-use Rattle.replay.proofs.says.words.Reads as reads
-use Rattle.replay.proofs.says.words.Lts as lts
+use Rattle.replay_answers.proofs.says.words.Statement.{statement}
+use Rattle.replay_answers.proofs.says.words.Tie as tie
+use Rattle.replay_answers.proofs.says.words.Reads as reads
+use Rattle.replay_answers.proofs.says.words.Lts as lts
 use Rattle.io.proofs.write_all.Reads as write-all-reads
-use Rattle.replay.proofs.says.word.Reads as word-reads
+use Rattle.replay_answers.proofs.says.word.Reads as word-reads
 
 abbrev Inv-loop : tie.InvT-loop
 Inv-loop label ws i₀ i = i ≤ length ws

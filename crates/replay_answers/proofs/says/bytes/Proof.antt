@@ -1,13 +1,13 @@
--- `replay::says::bytes` meets its contract. Assumes nothing.
+-- `replay_answers::says::bytes` meets its contract. Assumes nothing.
 use Prim.Native.Nat.{ℕ, _+_, _-_, _≤_, _<_}
 use lib.ListN.{length}
 use borrow.Author.Needs.{needs}
-use Rattle.replay.proofs.says.bytes.Statement.{statement}
-use Rattle.replay.proofs.says.bytes.Tie as tie
-use Rattle.replay.proofs.says.bytes.Reads as reads
-use Rattle.replay.proofs.says.bytes.Lts as lts
+use Rattle.replay_answers.proofs.says.bytes.Statement.{statement}
+use Rattle.replay_answers.proofs.says.bytes.Tie as tie
+use Rattle.replay_answers.proofs.says.bytes.Reads as reads
+use Rattle.replay_answers.proofs.says.bytes.Lts as lts
 use Rattle.io.proofs.write_all.Reads as write-all-reads
-use Rattle.replay.proofs.says.hex.Reads as hex-reads
+use Rattle.replay_answers.proofs.says.hex.Reads as hex-reads
 
 abbrev Inv-loop : tie.InvT-loop
 Inv-loop out n i₀ i = i ≤ n

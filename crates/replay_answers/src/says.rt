@@ -53,6 +53,15 @@ pub fn bytes(out: &[u8], n: usize) {
     }
 }
 
+// A part of an input, which may be empty.
+pub fn part(given: &[u8]) {
+    if given.len() == 0 {
+        io::write_all(1, b"text -");
+    } else {
+        bytes(given, given.len());
+    }
+}
+
 pub fn sets(s: Sets) {
     number(s.begin[0]);
     number(s.begin[1]);

@@ -1,15 +1,15 @@
--- `replay::says::bits` meets its contract. Assumes nothing.
+-- `replay_answers::says::bits` meets its contract. Assumes nothing.
 use Prim.Native.Nat.{ℕ, _+_, _-_, _*_, _≤_, _<_}
 use mathlib.Core.Path.{_≡_, refl, sym, ap, _∙_}
 use native.Mathlib.Omega.{arith}
 use lib.ListN.{length, length-set}
 use lib.Seq.{length-take-le}
 use borrow.Author.Needs.{needs}
-use Rattle.replay.proofs.says.bits.Statement.{statement}
-use Rattle.replay.proofs.says.bits.Tie as tie
-use Rattle.replay.proofs.says.bits.Reads as reads
-use Rattle.replay.proofs.says.bits.Lts as lts
-use Rattle.replay.proofs.says.number.Reads as number-reads
+use Rattle.replay_answers.proofs.says.bits.Statement.{statement}
+use Rattle.replay_answers.proofs.says.bits.Tie as tie
+use Rattle.replay_answers.proofs.says.bits.Reads as reads
+use Rattle.replay_answers.proofs.says.bits.Lts as lts
+use Rattle.replay_answers.proofs.says.number.Reads as number-reads
 
 abbrev Inv-loop : tie.InvT-loop
 Inv-loop w i₀ i = i ≤ 64
