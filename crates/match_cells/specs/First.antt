@@ -2,18 +2,31 @@
 -- Assumes nothing: these are definitions.
 use Prim.Native.Nat.{ℕ, _<_}
 use mathlib.Core.Path.{_≡_}
-use mathlib.Core.Bool.{Bool, true}
+use mathlib.Core.Bool.{Bool, true, false}
 use mathlib.Core.List.{List, [], _∷_}
 use mathlib.Core.Logic.{_⊎_}
 use lib.ListN.{length}
-use Rattle.grammar.specs.Exp.{Exp}
-use Rattle.grammar.specs.Empty.{hasEmpty}
+use Rattle.grammar.specs.Exp.{Exp, sym, ter, seq, alt, opt, star, plus, ahead, never}
+use Rattle.grammar.specs.Empty.{emptyLeaf, hasEmpty}
 use Rattle.lake_calls.specs.Loops.{Calls}
 use Rattle.match_cells.specs.Eval.{bodyOf}
 
+-- no literal in it is empty, so that a terminal that matches takes something
+abbrev pub Terse : Exp ℕ → Type 0
+Terse (sym r) = Unit {0}
+Terse (ter x) = emptyLeaf x ≡ false
+Terse (seq a b) = Terse a × Terse b
+Terse (alt a b) = Terse a × Terse b
+Terse (opt a) = Terse a
+Terse (star a) = Terse a
+Terse (plus a) = Terse a
+Terse (ahead a) = Terse a
+Terse (never a) = Terse a
+
 -- m marks every symbol whose body has ε
-abbrev pub Markings : (ℕ → Bool) → List (Exp ℕ) → Type 0
-Markings m bodies = (r : ℕ) → r < length bodies → hasEmpty m (bodyOf bodies r) ≡ true → m r ≡ true
+pub record Markings (m : ℕ → Bool) (bodies : List (Exp ℕ)) : Type 0 where
+  pub marks : (r : ℕ) → r < length bodies → hasEmpty m (bodyOf bodies r) ≡ true → m r ≡ true
+  pub terse : (r : ℕ) → Terse (bodyOf bodies r)
 
 abbrev pub In : ℕ → List ℕ → Type 0
 In x [] = ⊥

@@ -12,26 +12,21 @@ use lib.ListN.{length, getD}
 use borrow.Author.Tests.{le-ltb}
 use Rattle.read_tokens.specs.Bounds.{inputBound}
 use Rattle.read_tokens.specs.declared.Mode.{Mode}
-use Rattle.grammar.specs.Exp.{Exp, sym, ter}
-use Rattle.read_tokens.specs.Token.{any}
-use Rattle.grammar.specs.Empty.{hasEmpty}
+use Rattle.grammar.specs.Exp.{Exp, sym}
 use Rattle.grammar.specs.Numbers.{Grammar, numbered}
 use Rattle.grammar.specs.Refusal.{Refusal, refuseIf, _▸_}
 use Rattle.read_syntax.specs.Reading.{rulesOf}
 use Rattle.grammar.specs.Numbers.{terminalIn}
 use Rattle.lake_sets.specs.Beginning.{marked, marksOf}
 use Rattle.lake_step_one.specs.Proper.{SoundAll}
-use Rattle.grammar_table.specs.laws.Places.{getD-any}
-use Rattle.lake_analysis.specs.laws.Marks.{marks-least}
 use Rattle.lake_calls.specs.Calls.{order, loop}
 use Rattle.match_meaning.specs.Meaning.{Node, Derives}
 use Rattle.match_meaning.specs.laws.One.{one}
-use Rattle.match_cells.specs.Eval.{nowhere}
 use Rattle.match_cells.specs.First.{Markings, Ordered}
 use Rattle.match_cells.specs.laws.Agrees.{Right}
 use Rattle.match_cells.specs.laws.Filled.{filled-right, filled-behind, filled-length}
 use Rattle.match_cells.specs.laws.Order.{ordered}
-use Rattle.match_cells.specs.laws.Full.{calls-small}
+use Rattle.match_cells.specs.laws.Full.{calls-small, markings}
 use Rattle.prepare.specs.Prepare.{prepared, preparedBy, refuses}
 use Rattle.prepare.specs.laws.Reads.{clear-sound, clear-loop}
 use Rattle.gurkenmond.specs.Calls.{Matching, cellsNeeded, refusesInput, listingBy, matchBy, filled, matchAfter, matchOf}
@@ -58,17 +53,17 @@ module _ (m : Mode) (t : List ℕ) (ok : refuses m t ≡ none) where
   pub in-order : Ordered (marked (marksOf bodies)) bodies [] (order bodies)
   in-order = ordered bodies (calls-small (terminalIn (prepared m t .grammar)) (length (prepared m t .grammar .terminals)) bodies sound) loopless
 
-  markings : Markings (marked (marksOf bodies)) bodies
-  markings r l h = marks-least bodies .exact r l ∙ ap (hasEmpty (marked (marksOf bodies))) (getD-any bodies r (ter any) nowhere l) ∙ h
+  marking : Markings (marked (marksOf bodies)) bodies
+  marking = markings (terminalIn (prepared m t .grammar)) (length (prepared m t .grammar .terminals)) bodies sound
 
   -- ── on an input, with cells enough ──
   module _ (s cs : List ℕ) where
     pub filled-as-meant : cellsNeeded (prepared m t) s ≤ length cs → Right bodies s (filled (prepared m t) s cs)
     filled-as-meant room =
-        filled-right bodies s (marked (marksOf bodies)) markings (order bodies) cs in-order (omega (arith, room, mul-comm (length bodies) (length s + 1)))
+        filled-right bodies s (marked (marksOf bodies)) marking (order bodies) cs in-order (omega (arith, room, mul-comm (length bodies) (length s + 1)))
 
     pub filled-later : (i : ℕ) → cellsNeeded (prepared m t) s ≤ i → getD (filled (prepared m t) s cs) i 0 ≡ getD cs i 0
-    filled-later i h = filled-behind bodies s (marked (marksOf bodies)) markings (order bodies) cs in-order i (omega (arith, h, mul-comm (length bodies) (length s + 1)))
+    filled-later i h = filled-behind bodies s (marked (marksOf bodies)) marking (order bodies) cs in-order i (omega (arith, h, mul-comm (length bodies) (length s + 1)))
 
 -- ── a match that is not refused by 1 to 10 ──
 listed-cells : (k : ℕ) (l : Listing) (cs ws : List ℕ) → listingBy k l cs ws .cells ≡ cs

@@ -10,7 +10,7 @@ use lib.ListN.{length, getD, length-append, List·getD-append}
 use lib.Seq.{getD-append-add}
 use Rattle.read_tokens.specs.Token.{Leaf}
 use Rattle.grammar.specs.Exp.{Exp, sym as uses, ter, seq, alt, opt, star, plus, ahead, never, size}
-use Rattle.grammar.specs.Empty.{hasEmpty, emptyLeaf}
+use Rattle.grammar.specs.Empty.{hasEmpty}
 use Rattle.grammar.specs.Parts.{Part, terminal, occurs, sequence, choice, option, repeat, repeat1, affirms, denies, last, partsOf, partsAll, rootsOf}
 use Rattle.grammar_table.specs.Holds.{present, rootsFrom}
 use Rattle.lake_sets.specs.Beginning.{Beginning, beginBy}
@@ -68,7 +68,7 @@ module _ (t : Leaf → ℕ) where
       pub eps-of : (e : Exp ℕ) (o : ℕ) → Sound t r x e → Seg t at d o (partsOf t o e) → o + size e ≤ n → bs (last o e) .eps ≡ hasEmpty m e
       unfolding partsOf size hasEmpty
       eps-of (uses s) o h g l = by-rule (o + 1 - 1) (occurs s) (omega arith) (seg-one t at d o (o + 1 - 1) (occurs s) g (omega arith))
-      eps-of (ter y) o h g l = by-rule (o + 1 - 1) (terminal (t y)) (omega arith) (seg-one t at d o (o + 1 - 1) (terminal (t y)) g (omega arith)) ∙ sym (h .1)
+      eps-of (ter y) o h g l = by-rule (o + 1 - 1) (terminal (t y)) (omega arith) (seg-one t at d o (o + 1 - 1) (terminal (t y)) g (omega arith))
       eps-of (seq a b) o h g l =
           let A = partsOf t o a in let B = partsOf t (o + size a) b in let p = sequence (last o a) (last (o + size a) b) in
           let gb : Seg t at d (o + size a) (B ++ (p ∷ [])) = seg-right t at d o (size a) A (B ++ (p ∷ [])) (parts-long t a o) g in

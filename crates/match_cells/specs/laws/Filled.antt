@@ -48,7 +48,7 @@ module _ (bodies : List (Exp ℕ)) (s : List ℕ) where
   module _ (m : ℕ → Bool) (marked : Markings m bodies) where
     body-right : (cs : List ℕ) (p r : ℕ) → p ≤ length s → After bodies s cs p → FirstAt bodies s m cs (bodyOf bodies r) p → Means bodies s (sym r) p (bodyAt bodies s cs r p)
     unfolding bodyAt
-    body-right cs p r h a f = sym-is bodies s r p _ (ev-right bodies s m marked cs (bodyOf bodies r) p h a f)
+    body-right cs p r h a f = sym-is bodies s r p _ (ev-right bodies s m marked cs r p h a f)
 
     pub row-right : (order done : List ℕ) (p : ℕ) (cs : List ℕ) → p ≤ length s → Room cs → After bodies s cs p
         → ((x : ℕ) → In x done → x < length bodies → Known bodies s cs p x) → Ordered m bodies done order

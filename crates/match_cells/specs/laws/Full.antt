@@ -12,17 +12,21 @@ use lib.Bits.{or-lt}
 use lib.Dec.{eqb, ltb}
 use lib.Pow.{pow-pos}
 use borrow.Author.Tests.{eqb-true, eqb-false, ltb-true, ltb-false, lt-ltb, le-ltb}
-use Rattle.read_tokens.specs.Token.{Leaf}
+use Rattle.read_tokens.specs.Token.{Leaf, any}
 use Rattle.grammar.specs.Exp.{Exp, seq, alt, opt, star, plus, ahead, never}
 use Rattle.grammar.specs.Exp.{sym as uses, ter}
-use Rattle.grammar.specs.Empty.{hasEmpty}
+use Rattle.grammar.specs.Empty.{emptyLeaf, hasEmpty}
 use Rattle.grammar_table.specs.laws.Lists.{up-length, up-at}
+use Rattle.grammar_table.specs.laws.Places.{getD-any}
 use Rattle.base_words.specs.Set.{ones}
 use Rattle.lake_sets.specs.Beginning.{marked, marksOf}
 use Rattle.lake_step_one.specs.Proper.{Sound, SoundAll}
+use Rattle.lake_analysis.specs.laws.Marks.{marks-least}
 use Rattle.lake_calls.specs.Calls.{firstCalls, callsOf, reach, loop, ranksOf, ofRank, orderFrom, order}
 use Rattle.lake_calls.specs.laws.Reaches.{pow-below}
 use Rattle.lake_calls.specs.laws.Exact.{calls-long}
+use Rattle.match_cells.specs.Eval.{nowhere, bodyOf}
+use Rattle.match_cells.specs.First.{Terse, Markings}
 use Rattle.match_cells.specs.laws.Order.{rank-small}
 
 -- ── how many of a list are below a number ──
@@ -123,7 +127,32 @@ map-small number r x m [] h i = pow-pos r
 map-small number r x m (e ∷ es) h zero = first-small number r x m e (h .0)
 map-small number r x m (e ∷ es) h (suc i) = map-small number r x m es (h .1) i
 
+-- ── no literal of a sound body is empty, nor is `.`, which stands where there is no body ──
+terse-of : (number : Leaf → ℕ) (r x : ℕ) (e : Exp ℕ) → Sound number r x e → Terse e
+terse-of number r x (uses s) h = tt
+terse-of number r x (ter l) h = h .1
+terse-of number r x (seq a b) h = (terse-of number r x a (h .0), terse-of number r x b (h .1))
+terse-of number r x (alt a b) h = (terse-of number r x a (h .0), terse-of number r x b (h .1))
+terse-of number r x (opt a) h = terse-of number r x a h
+terse-of number r x (star a) h = terse-of number r x a h
+terse-of number r x (plus a) h = terse-of number r x a h
+terse-of number r x (ahead a) h = terse-of number r x a h
+terse-of number r x (never a) h = terse-of number r x a h
+
+terse-at : (number : Leaf → ℕ) (r x : ℕ) (es : List (Exp ℕ)) → SoundAll number r x es → (i : ℕ) → Terse (bodyOf es i)
+unfolding emptyLeaf
+terse-at number r x [] h i = refl
+terse-at number r x (e ∷ es) h zero = terse-of number r x e (h .0)
+terse-at number r x (e ∷ es) h (suc i) = terse-at number r x es (h .1) i
+
 module _ (number : Leaf → ℕ) (x : ℕ) (bodies : List (Exp ℕ)) (sound : SoundAll number (length bodies) x bodies) where
+  -- the least marks mark every symbol whose body has ε
+  pub markings : Markings (marked (marksOf bodies)) bodies
+  markings = record {
+    marks = λ r l h. marks-least bodies .exact r l ∙ ap (hasEmpty (marked (marksOf bodies))) (getD-any bodies r (ter any) nowhere l) ∙ h;
+    terse = terse-at number (length bodies) x bodies sound;
+  }
+
   pub calls-small : (r : ℕ) → getD (callsOf bodies) r 0 < 2 ^ length (callsOf bodies)
   unfolding callsOf
   calls-small r = subst (λ (n : ℕ). getD (callsOf bodies) r 0 < 2 ^ n) (sym (calls-long bodies)) (map-small number (length bodies) x (marked (marksOf bodies)) bodies sound r)

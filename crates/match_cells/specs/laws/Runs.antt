@@ -10,28 +10,25 @@ use lib.Seq.{getD-drop}
 use Rattle.read_tokens.specs.Token.{any}
 use Rattle.grammar.specs.Exp.{Exp, ter}
 use Rattle.grammar.specs.Numbers.{Grammar}
-use Rattle.grammar.specs.Empty.{hasEmpty}
 use Rattle.grammar_table.specs.Table.{wordsFrom, symbolCount, symbolWord, nameIn}
 use Rattle.grammar.specs.Numbers.{terminalIn}
 use Rattle.lake_sets.specs.Beginning.{marked, marksOf}
 use Rattle.lake_step_one.specs.Proper.{SoundAll}
-use Rattle.grammar_table.specs.laws.Places.{is-upTo, upTo-long, getD-any}
-use Rattle.lake_analysis.specs.laws.Marks.{marks-least}
+use Rattle.grammar_table.specs.laws.Places.{is-upTo, upTo-long}
 use Rattle.lake_calls.specs.Calls.{callsOf, loop, ranksOf, orderFrom, order}
 use Rattle.grammar_table.specs.Trees.{treeOf, bodiesOf}
 use Rattle.lake_calls.specs.steps.Firsts.{AllFirsts}
 use Rattle.lake_calls.specs.steps.Marks.{AllMarks}
 use Rattle.lake_calls.specs.laws.Trees.{bodies-are, trees-are}
 use Rattle.lake_calls.specs.laws.LoopsLoops.{calls-are}
-use Rattle.match_cells.specs.Eval.{nowhere}
 use Rattle.match_cells.specs.Cells.{cells}
-use Rattle.match_cells.specs.First.{Markings, Ordered}
+use Rattle.match_cells.specs.First.{Ordered}
 use Rattle.match_cells.specs.laws.Agrees.{Right}
 use Rattle.match_cells.specs.laws.Filled.{filled-right}
 use Rattle.match_cells.specs.laws.Preset.{filled-same}
 use Rattle.match_cells.specs.steps.Runs.{Plain, OrderedIn, FilledBy, Fills}
 use Rattle.match_cells.specs.laws.Order.{ordered}
-use Rattle.match_cells.specs.laws.Full.{All, order-all, order-full, calls-small}
+use Rattle.match_cells.specs.laws.Full.{All, order-all, order-full, calls-small, markings}
 
 -- ── the order ──
 -- entries of a list in front of nothing but 0
@@ -94,12 +91,9 @@ module _ (t : List ℕ) (g : Grammar) (bodies : List (Exp ℕ)) (p : Plain t g b
     pub in-order : Ordered (marked (marksOf bodies)) bodies [] (order bodies)
     in-order = ordered bodies (calls-small (terminalIn g) (length (g .terminals)) bodies sound-in) clear
 
-    markings : Markings (marked (marksOf bodies)) bodies
-    markings r l h = marks-least bodies .exact r l ∙ ap (hasEmpty (marked (marksOf bodies))) (getD-any bodies r (ter any) nowhere l) ∙ h
-
     -- the filled cells say what each symbol means at each place
     pub cells-right : (s old : List ℕ) → (length s + 1) * length bodies ≤ length old → Right bodies s (cells bodies (order bodies) s old)
-    cells-right s old room = filled-right bodies s (marked (marksOf bodies)) markings (order bodies) old in-order room
+    cells-right s old room = filled-right bodies s (marked (marksOf bodies)) (markings (terminalIn g) (length (g .terminals)) bodies sound-in) (order bodies) old in-order room
 
 pub fills : (t s old new order₀ front : List ℕ) (n : ℕ) → n ≡ symbolCount t → OrderedIn t n order₀ front → FilledBy (bodiesOf t) s n (wordsFrom front 0 n) old new → Fills t s old new
 fills t s old new order₀ front n q o e = record {
@@ -108,7 +102,7 @@ fills t s old new order₀ front n q o e = record {
       let b : n ≡ length bodies = q ∙ bodies-are t g bodies (p .holds) in
       let f : wordsFrom front 0 n ≡ order bodies =
       ap₂ (λ (l : List ℕ) (k : ℕ). wordsFrom l 0 k) (o .are g bodies p b) (b ∙ sym (full t g bodies p clear)) ∙ words-front (order bodies) (drop (length (order bodies)) order₀) in
-      filled-same bodies s (marked (marksOf bodies)) (markings t g bodies p clear) (order bodies) old new (in-order t g bodies p clear)
+      filled-same bodies s (marked (marksOf bodies)) (markings (terminalIn g) (length (g .terminals)) bodies (sound-in t g bodies p)) (order bodies) old new (in-order t g bodies p clear)
       (subst (λ (k : ℕ). FilledBy bodies s k (order bodies) old new) b
       (subst (λ (l : List ℕ). FilledBy bodies s n l old new) f (subst (λ (bs : List (Exp ℕ)). FilledBy bs s n (wordsFrom front 0 n) old new) (bodies-of t g bodies p) e)));
 }

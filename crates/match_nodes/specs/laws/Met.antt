@@ -2,7 +2,7 @@
 -- nodes are those of 01's lines. Assumes nothing.
 use Prim.Native.Nat.{ℕ, zero, suc, _<_}
 use mathlib.Core.Path.{_≡_, refl, subst}
-use mathlib.Core.Bool.{Bool, false≢true}
+use mathlib.Core.Bool.{Bool, true, false≢true}
 use mathlib.Core.Option.{none}
 use mathlib.Core.List.{List, [], _∷_}
 use mathlib.Core.Logic.{inl, inr}
@@ -14,11 +14,11 @@ use Rattle.read_tokens.specs.Bounds.{depthBound, nodeWords}
 use Rattle.grammar.specs.Exp.{Exp, sym, ter, seq, alt, star, never}
 use Rattle.grammar.specs.Lakes.{waterOf, stepOne, choiceOf, skipOf, stepTwo}
 use Rattle.match_meaning.specs.Meaning.{nd}
-use Rattle.match_cells.specs.Eval.{stands, leafAt, cellAt, joinOf, seqOf, altOf, stepOf, rep, plusOf, optOf, aheadOf, neverOf, ev}
+use Rattle.match_cells.specs.Eval.{bodyOf, stands, leafAt, cellAt, joinOf, seqOf, altOf, stepOf, rep, plusOf, optOf, aheadOf, neverOf, ev}
 use Rattle.match_cells.specs.Cells.{bodyAt, rowOf, fillOf, cells}
 use Rattle.grammar.specs.Empty.{emptyLeaf, hasEmpty}
 use Rattle.lake_calls.specs.Loops.{Calls}
-use Rattle.match_cells.specs.First.{Markings, In, Ordered}
+use Rattle.match_cells.specs.First.{Terse, Markings, In, Ordered}
 use Rattle.match_nodes.specs.Nodes.{seqN, altN, optN, stepN, repN, walkOf, nodeIf, nodesOf, levels, listOf, listingOf, inWords, putNode, written, wordsOf, nodeAt, soundAt, nodeText}
 use Rattle.match_cells.specs.laws.Agrees.{Right}
 use Rattle.match_cells.specs.laws.Filled.{filled-right}
@@ -58,11 +58,21 @@ marks r = eqb r 3
 
 marked : Markings marks G
 unfolding hasEmpty emptyLeaf
-marked zero l h = absurd (false≢true h)
-marked (suc zero) l h = absurd (false≢true h)
-marked (suc (suc zero)) l h = absurd (false≢true h)
-marked (suc (suc (suc zero))) l h = refl
-marked (suc (suc (suc (suc r)))) l h = absurd (omega arith)
+marked = record { marks = has; terse = full }
+  where
+    has : (r : ℕ) → r < 4 → hasEmpty marks (bodyOf G r) ≡ true → marks r ≡ true
+    has zero l h = absurd (false≢true h)
+    has (suc zero) l h = absurd (false≢true h)
+    has (suc (suc zero)) l h = absurd (false≢true h)
+    has (suc (suc (suc zero))) l h = refl
+    has (suc (suc (suc (suc r)))) l h = absurd (omega arith)
+
+    full : (r : ℕ) → Terse (bodyOf G r)
+    full zero = ((refl, tt), refl)
+    full (suc zero) = (tt, tt)
+    full (suc (suc zero)) = (tt, refl)
+    full (suc (suc (suc zero))) = (refl, (((tt, refl), refl), refl))
+    full (suc (suc (suc (suc r)))) = refl
 
 block-first : (x : ℕ) → Calls marks block x → x < 4 → ⊥
 unfolding hasEmpty emptyLeaf
