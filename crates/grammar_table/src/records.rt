@@ -3,7 +3,8 @@
 ghost use Prim.Native.Nat.{_+_, _*_, _<_};
 ghost use mathlib.Core.Path.{_≡_};
 ghost use lib.ListN.{getD, set};
-ghost use Rattle.grammar_table.specs.Table.{symbolCount, terminalCount, expressionCount, symbolWord, terminalWord, opOf, leftOf, rightOf, symbolsAt, symbolWords, expressionsAt, expressionWords};
+ghost use Rattle.grammar_table.specs.Table.{symbolCount, terminalCount, expressionCount, symbolWord, terminalWord};
+ghost use Rattle.grammar_table.specs.Table.{opOf, leftOf, rightOf, symbolsAt, symbolWords, expressionsAt, expressionWords};
 use crate::BODY;
 use crate::EXPRESSION_WORDS;
 use crate::EXPRESSIONS_AT;

@@ -1,5 +1,5 @@
--- What an expression takes where a byte stands, if the byte alone decides it: it need not be evaluated there. Words of the memory say it of the symbols' bodies,
--- and a place's cells are set to what they say before its other cells are filled. Assumes nothing: these are definitions.
+-- What an expression takes where a byte stands, if the byte alone decides it: it need not be evaluated there. Words of the memory say it of the symbols'
+-- bodies, and a place's cells are set to what they say before its other cells are filled. Assumes nothing: these are definitions.
 use Prim.Native.Nat.{ℕ, zero, suc, _+_, _*_, _≤_, _<_}
 use mathlib.Core.Path.{_≡_}
 use mathlib.Core.List.{List}
