@@ -7,7 +7,7 @@ use Rattle.replay.proofs.finish.Statement.{statement}
 use Rattle.replay.proofs.finish.Tie as tie
 use Rattle.replay.proofs.finish.Reads as reads
 use Rattle.replay.proofs.finish.Lts as lts
-use Rattle.replay.proofs.answer.Reads as answer-reads
+use Rattle.replay_asks.proofs.answer.Reads as answer-reads
 use Rattle.console.proofs.unreadable.Reads as unreadable-reads
 
 unreadable-requires : tie.Need-unreadable-requires

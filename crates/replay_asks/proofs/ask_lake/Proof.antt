@@ -1,12 +1,12 @@
--- `replay::ask_lake` meets its contract. Assumes nothing.
+-- `replay_asks::ask_lake` meets its contract. Assumes nothing.
 use mathlib.Core.Path.{_≡_, sym}
 use native.Mathlib.Omega.{arith}
 use lib.Seq.{length-take-le}
 use borrow.Author.Needs.{needs}
-use Rattle.replay.proofs.ask_lake.Statement.{statement}
-use Rattle.replay.proofs.ask_lake.Tie as tie
-use Rattle.replay.proofs.ask_lake.Reads as reads
-use Rattle.replay.proofs.ask_lake.Lts as lts
+use Rattle.replay_asks.proofs.ask_lake.Statement.{statement}
+use Rattle.replay_asks.proofs.ask_lake.Tie as tie
+use Rattle.replay_asks.proofs.ask_lake.Reads as reads
+use Rattle.replay_asks.proofs.ask_lake.Lts as lts
 use Rattle.replay_answers.proofs.lake_at.Reads as lake-at-reads
 use Rattle.replay_lines.proofs.buffers.cells.Reads as cells-reads
 use Rattle.replay_lines.proofs.after.Reads as after-reads

@@ -1,12 +1,12 @@
--- `replay::ask_sound` meets its contract. Assumes nothing.
+-- `replay_asks::ask_sound` meets its contract. Assumes nothing.
 use mathlib.Core.Path.{_≡_, sym}
 use native.Mathlib.Omega.{arith}
 use lib.Seq.{length-take-le}
 use borrow.Author.Needs.{needs}
-use Rattle.replay.proofs.ask_sound.Statement.{statement}
-use Rattle.replay.proofs.ask_sound.Tie as tie
-use Rattle.replay.proofs.ask_sound.Reads as reads
-use Rattle.replay.proofs.ask_sound.Lts as lts
+use Rattle.replay_asks.proofs.ask_sound.Statement.{statement}
+use Rattle.replay_asks.proofs.ask_sound.Tie as tie
+use Rattle.replay_asks.proofs.ask_sound.Reads as reads
+use Rattle.replay_asks.proofs.ask_sound.Lts as lts
 use Rattle.console.proofs.unreadable.Reads as unreadable-reads
 use Rattle.replay_answers.proofs.node_sound.Reads as node-sound-reads
 use Rattle.replay_lines.proofs.after.Reads as after-reads

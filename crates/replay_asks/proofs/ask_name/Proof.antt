@@ -1,12 +1,12 @@
--- `replay::ask_name` meets its contract. Assumes nothing.
+-- `replay_asks::ask_name` meets its contract. Assumes nothing.
 use mathlib.Core.Path.{_≡_, sym}
 use native.Mathlib.Omega.{arith}
 use lib.Seq.{length-take-le}
 use borrow.Author.Needs.{needs}
-use Rattle.replay.proofs.ask_name.Statement.{statement}
-use Rattle.replay.proofs.ask_name.Tie as tie
-use Rattle.replay.proofs.ask_name.Reads as reads
-use Rattle.replay.proofs.ask_name.Lts as lts
+use Rattle.replay_asks.proofs.ask_name.Statement.{statement}
+use Rattle.replay_asks.proofs.ask_name.Tie as tie
+use Rattle.replay_asks.proofs.ask_name.Reads as reads
+use Rattle.replay_asks.proofs.ask_name.Lts as lts
 use Rattle.console.proofs.unreadable.Reads as unreadable-reads
 use Rattle.replay_answers.proofs.symbol_name.Reads as symbol-name-reads
 use Rattle.replay_lines.proofs.after.Reads as after-reads

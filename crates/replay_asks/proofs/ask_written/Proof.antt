@@ -1,12 +1,12 @@
--- `replay::ask_written` meets its contract. Assumes nothing.
+-- `replay_asks::ask_written` meets its contract. Assumes nothing.
 use mathlib.Core.Path.{_≡_, sym}
 use native.Mathlib.Omega.{arith}
 use lib.Seq.{length-take-le}
 use borrow.Author.Needs.{needs}
-use Rattle.replay.proofs.ask_written.Statement.{statement}
-use Rattle.replay.proofs.ask_written.Tie as tie
-use Rattle.replay.proofs.ask_written.Reads as reads
-use Rattle.replay.proofs.ask_written.Lts as lts
+use Rattle.replay_asks.proofs.ask_written.Statement.{statement}
+use Rattle.replay_asks.proofs.ask_written.Tie as tie
+use Rattle.replay_asks.proofs.ask_written.Reads as reads
+use Rattle.replay_asks.proofs.ask_written.Lts as lts
 use Rattle.replay_answers.proofs.write_own.Reads as write-own-reads
 use Rattle.replay_answers.proofs.write_plain.Reads as write-plain-reads
 use Rattle.replay_lines.proofs.buffers.room.Reads as room-reads

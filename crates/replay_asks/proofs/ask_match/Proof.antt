@@ -1,12 +1,12 @@
--- `replay::ask_match` meets its contract. Assumes nothing.
+-- `replay_asks::ask_match` meets its contract. Assumes nothing.
 use mathlib.Core.Path.{_≡_, sym}
 use native.Mathlib.Omega.{arith}
 use lib.Seq.{length-take-le}
 use borrow.Author.Needs.{needs}
-use Rattle.replay.proofs.ask_match.Statement.{statement}
-use Rattle.replay.proofs.ask_match.Tie as tie
-use Rattle.replay.proofs.ask_match.Reads as reads
-use Rattle.replay.proofs.ask_match.Lts as lts
+use Rattle.replay_asks.proofs.ask_match.Statement.{statement}
+use Rattle.replay_asks.proofs.ask_match.Tie as tie
+use Rattle.replay_asks.proofs.ask_match.Reads as reads
+use Rattle.replay_asks.proofs.ask_match.Lts as lts
 use Rattle.replay_answers.proofs.match_input.Reads as match-input-reads
 use Rattle.replay_lines.proofs.buffers.cells.Reads as cells-reads
 use Rattle.replay_lines.proofs.buffers.nodes.Reads as nodes-reads
