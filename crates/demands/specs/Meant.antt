@@ -14,7 +14,7 @@ use Rattle.lake_step_one.specs.Intermediate.{waterIn, rightOr}
 use Rattle.lake_sets.specs.Analysis.{Analysis, altOf}
 use Rattle.lake_step_two.specs.Plain.{alternatives}
 use Rattle.match_meaning.specs.Meaning.{Body, rule, lake, Meant}
-use Rattle.match_cells.specs.Eval.{nowhere}
+use Rattle.match_eval.specs.Eval.{nowhere}
 use Rattle.prepare.specs.Prepare.{prepared}
 
 -- a lake is its own right side, if it has a rule, and its alternative symbols; a nonterminal is its right side: it has one (laws/Ruled.antt)

@@ -5,7 +5,7 @@ use Prim.Native.Nat.{ℕ, zero, suc, _+_, _*_}
 use mathlib.Core.List.{List, [], _∷_}
 use lib.ListN.{length, set}
 use Rattle.grammar.specs.Exp.{Exp}
-use Rattle.match_cells.specs.Eval.{bodyOf, ev}
+use Rattle.match_eval.specs.Eval.{bodyOf, ev}
 
 module _ (bodies : List (Exp ℕ)) (s : List ℕ) where
   -- what symbol r takes at p, by the cells cs

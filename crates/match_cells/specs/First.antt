@@ -9,7 +9,7 @@ use lib.ListN.{length}
 use Rattle.grammar.specs.Exp.{Exp, sym, ter, seq, alt, opt, star, plus, ahead, never}
 use Rattle.grammar.specs.Empty.{emptyLeaf, hasEmpty}
 use Rattle.lake_calls.specs.Loops.{Calls}
-use Rattle.match_cells.specs.Eval.{bodyOf}
+use Rattle.match_eval.specs.Eval.{bodyOf}
 
 -- no literal in it is empty, so that a terminal that matches takes something
 abbrev pub Terse : Exp ℕ → Type 0

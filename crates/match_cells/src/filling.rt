@@ -5,15 +5,15 @@ ghost use lib.ListN.{getD, length, set};
 ghost use Rattle.grammar_table.specs.Table.{wordsFrom, symbolCount};
 ghost use Rattle.grammar_table.specs.Trees.{bodiesOf};
 ghost use Rattle.match_cells.specs.Cells.{bodyAt, rowOf};
-ghost use Rattle.match_cells.specs.steps.Firsts.{byteAt, presetOf};
-ghost use Rattle.match_cells.specs.steps.Memory.{Knows, Calm};
+ghost use Rattle.match_eval.specs.steps.Firsts.{byteAt, presetOf};
+ghost use Rattle.match_eval.specs.steps.Memory.{Knows, Calm};
 ghost use Rattle.match_cells.specs.steps.Runs.{OrderedIn, fillBy, FilledBy, Fills};
-use crate::memory::BODIES_AT;
-use crate::memory::BYTE_WORDS;
-use crate::memory::Memory;
-use crate::memory::WORDS;
 use base_words::put;
 use base_words::word;
+use match_eval::memory::BODIES_AT;
+use match_eval::memory::BYTE_WORDS;
+use match_eval::memory::Memory;
+use match_eval::memory::WORDS;
 
 // The symbols of a table by rank, then by number, at the front of `order`: how many.
 pub fn order_in(
@@ -94,7 +94,7 @@ fn store(
     let w = word(mem, BODIES_AT + BYTE_WORDS * b + r);
     if w == 0 {
         let x = grammar_table::records::body(t, r);
-        let v = crate::eval_with(t, s, cells, mem, n, x, p);
+        let v = match_eval::eval_with(t, s, cells, mem, n, x, p);
         put(cells, p * n + r, v);
     }
 }
@@ -133,7 +133,7 @@ fn place(t: &[u32], s: &[u8], cells: &mut [u32], mem: &[u32], order: &[u32], n: 
         (presetOf (now (mem .entry)) (byteAt (now (s .entry)) p) (p * n) n (now (cells .entry))))
         × Knows (now (t .entry)) (now (s .entry)) (now (cells .exit)) n (now (mem .entry)) (p + 1) p × (byteAt (now (s .entry)) p ≤ 256) ⌝ }
 {
-    let b = crate::firsts::byte_at(s, p);
+    let b = match_eval::byte_at(s, p);
     preset(cells, mem, n, b, p * n);
     row(t, s, cells, mem, order, n, p, b);
 }

@@ -8,19 +8,17 @@ ghost use lib.ListN.{getD, length};
 ghost use Rattle.grammar.specs.Exp.{sym};
 ghost use Rattle.grammar_table.specs.Table.{leafIn};
 ghost use Rattle.grammar_table.specs.Trees.{treeOf};
-ghost use Rattle.match_cells.specs.steps.Firsts.{byteAt, LeafSure, Sure, Guards};
-ghost use Rattle.match_cells.specs.steps.Memory.{Fresh, Ready, Roomy};
-use crate::memory::BODIES_AT;
-use crate::memory::BYTE_WORDS;
-use crate::memory::COUNT;
-use crate::memory::PARTS_AT;
-use crate::memory::ROUNDS_AT;
-use crate::memory::SEEN_AT;
+ghost use Rattle.match_eval.specs.steps.Firsts.{byteAt, LeafSure, Sure, Guards};
+ghost use Rattle.match_eval.specs.steps.Memory.{Fresh, Ready, Roomy};
 use base_words::put;
 use base_words::word;
 use grammar_table::records;
-
-pub const END: usize = 256;
+use match_eval::memory::BODIES_AT;
+use match_eval::memory::BYTE_WORDS;
+use match_eval::memory::COUNT;
+use match_eval::memory::PARTS_AT;
+use match_eval::memory::ROUNDS_AT;
+use match_eval::memory::SEEN_AT;
 
 // What is decided: 0 it fails, 1 it takes nothing, 2 it takes the byte; or nothing is.
 pub const FAILS: usize = 0;
@@ -30,16 +28,6 @@ pub const EMPTY: usize = 1;
 pub const TAKES: usize = 2;
 
 pub const OPEN: usize = 3;
-
-pub fn byte_at(s: &[u8], p: usize) -> usize
-    ensures { λ r. ⌜ (r ≡ byteAt (now (s .entry)) p) × (r ≤ 256) ⌝ }
-{
-    if p < s.len() {
-        let b = s[p] as usize;
-        return b;
-    }
-    END
-}
 
 // What terminal x takes where byte b stands.
 fn leaf_first(t: &[u32], x: usize, b: usize) -> usize
@@ -62,12 +50,12 @@ fn leaf_first(t: &[u32], x: usize, b: usize) -> usize
         if 1 < n {
             return OPEN;
         }
-        if END <= b {
+        if match_eval::END <= b {
             return OPEN;
         }
         return TAKES;
     }
-    if END <= b {
+    if match_eval::END <= b {
         return OPEN;
     }
     if k == grammar_table::ANY {
@@ -88,7 +76,7 @@ fn symbol_first(mem: &[u32], n: usize, r: usize, b: usize) -> usize
     if n <= r {
         return OPEN;
     }
-    if END <= b {
+    if match_eval::END <= b {
         return OPEN;
     }
     let w = word(mem, BODIES_AT + BYTE_WORDS * b + r);
@@ -119,7 +107,7 @@ fn decide(t: &[u32], mem: &[u32], n: usize, x: usize, b: usize) -> usize
     ensures { λ r. ⌜ (r < 3 → Sure (now (mem .entry)) n b (treeOf (now (t .entry)) x) r) ⌝ }
 {
     if x == 0 {
-        if END <= b {
+        if match_eval::END <= b {
             return OPEN;
         }
         return TAKES;
@@ -227,7 +215,7 @@ fn decide_part(t: &[u32], mem: &mut [u32], n: usize, b: usize, y: usize)
     requires { ⌜ ((n ≤ 64) × (b ≤ 256) × (y < 4294967296)) × Ready (now t) n (now mem) ⌝ }
     ensures { λ _. ⌜ Ready (now (t .entry)) n (now (mem .exit)) ⌝ }
 {
-    let k = crate::memory::key(mem, y);
+    let k = match_eval::memory::key(mem, y);
     if 0 < k {
         if k < BYTE_WORDS {
             let v = decide(t, mem, n, y, b);
@@ -272,7 +260,7 @@ fn decide_text(t: &[u32], s: &[u8], mem: &mut [u32], order: &[u32], n: usize)
 {
     let mut p: usize = 0;
     while p <= s.len() {
-        let b = byte_at(s, p);
+        let b = match_eval::byte_at(s, p);
         decide_once(t, mem, order, n, b);
         p += 1;
     }

@@ -12,7 +12,7 @@ use Rattle.grammar.specs.Numbers.{Grammar, isLake}
 use Rattle.base_words.specs.Set.{memberOf}
 use Rattle.lake_step_one.specs.Intermediate.{waterIn}
 use Rattle.lake_step_two.specs.Plain.{alternatives}
-use Rattle.match_cells.specs.Eval.{ev}
+use Rattle.match_eval.specs.Eval.{ev}
 
 -- none of the alternative symbols matches at p
 unfoldable pub noneMatches : List ℕ → List ℕ → ℕ → List (Exp ℕ) → ℕ → Bool

@@ -22,7 +22,7 @@ fn takes(t: &[u32], s: &[u8], cells: &[u32], n: usize, b: usize, p: usize) -> bo
     if b == 0 {
         return false;
     }
-    let v = match_cells::eval(t, s, cells, n, b, p);
+    let v = match_eval::eval(t, s, cells, n, b, p);
     if v == 0 {
         return false;
     }
@@ -91,7 +91,7 @@ fn symbol_fails(
     if k != 0 {
         return true;
     }
-    let v = match_cells::cell_at(s, cells, n, i, p);
+    let v = match_eval::cell_at(s, cells, n, i, p);
     v == 0
 }
 
@@ -117,7 +117,7 @@ fn terminal_fails(t: &[u32], s: &[u8], alt: [u64; 2], i: usize, p: usize) -> boo
     if !base_words::member(alt, 64 + i) {
         return true;
     }
-    let v = match_cells::leaf_at(t, s, i, p);
+    let v = match_eval::leaf_at(t, s, i, p);
     v == 0
 }
 

@@ -10,7 +10,7 @@ use lib.Seq.{sets}
 use Rattle.read_tokens.specs.Bounds.{depthBound, nodeWords}
 use Rattle.grammar.specs.Exp.{Exp, sym, ter, seq, alt, opt, star, plus, ahead, never}
 use Rattle.match_meaning.specs.Meaning.{Node, nd}
-use Rattle.match_cells.specs.Eval.{bodyOf, cellAt, ev}
+use Rattle.match_eval.specs.Eval.{bodyOf, cellAt, ev}
 
 -- ── the list: by what a part takes, its nodes and those of what follows ──
 unfoldable pub seqN : ℕ → List Node → (ℕ → List Node) → List Node

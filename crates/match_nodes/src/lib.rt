@@ -111,7 +111,7 @@ fn whole(t: &[u32], s: &[u8], cells: &[u32], n: usize, x: usize, p: usize) -> us
     requires { ⌜ (n ≤ 64) × (x < 2048) × (length (now s) ≤ 65535) × (p ≤ length (now s)) ⌝ }
     ensures { λ r. ⌜ Picked (now (t .entry)) (now (s .entry)) (now (cells .entry)) n x p r ⌝ }
 {
-    let v = match_cells::eval(t, s, cells, n, x, p);
+    let v = match_eval::eval(t, s, cells, n, x, p);
     if v == 0 {
         return FAILS;
     }
@@ -172,7 +172,7 @@ fn walk_plan(t: &[u32], s: &[u8], cells: &[u32], n: usize, x: usize, d: usize, p
     let z = g.z;
     match op {
         grammar_table::TERMINAL => {
-            let a = match_cells::leaf_at(t, s, left, p);
+            let a = match_eval::leaf_at(t, s, left, p);
             Plan {
                 place: p + (a - 1),
                 low: 0,
@@ -198,7 +198,7 @@ fn walk_plan(t: &[u32], s: &[u8], cells: &[u32], n: usize, x: usize, d: usize, p
             }
         }
         grammar_table::OPTION => {
-            let a = match_cells::eval(t, s, cells, n, y, p);
+            let a = match_eval::eval(t, s, cells, n, y, p);
             if a == 0 {
                 return Plan {
                     place: p,
@@ -241,7 +241,7 @@ fn again_plan(t: &[u32], s: &[u8], cells: &[u32], n: usize, x: usize, d: usize, 
     ensures { λ r. ⌜ Step (now (t .entry)) (now (s .entry)) (now (cells .entry)) n (again x d) p (r .low) (r .high) (r .place) × (r .low < 4294967296)
         × (r .high < 4294967296) ⌝ }
 {
-    let a = match_cells::eval(t, s, cells, n, x, p);
+    let a = match_eval::eval(t, s, cells, n, x, p);
     if a <= 1 {
         return Plan {
             place: p,
@@ -293,7 +293,7 @@ fn enter(
     let r = w % NUMBERS;
     let d = w / LEVEL;
     let p = st.place;
-    let c = match_cells::cell_at(s, cells, g.n, r, p);
+    let c = match_eval::cell_at(s, cells, g.n, r, p);
     let b = base_words::word(
         t,
         grammar_table::SYMBOLS_AT + grammar_table::SYMBOL_WORDS * r + grammar_table::BODY,
@@ -400,7 +400,7 @@ fn pass(t: &[u32], s: &[u8], cells: &[u32], n: usize, nodes: &mut [u32], write: 
     ensures { λ v. ⌜ out (now (nodes .exit)) v
         ≡ run (roomOf (now (nodes .entry))) write (out (now (nodes .entry)) 0) (listOf (bodiesOf (now (t .entry))) (now (s .entry)) (now (cells .entry))) ⌝ }
 {
-    let c = match_cells::cell_at(s, cells, n, 0, 0);
+    let c = match_eval::cell_at(s, cells, n, 0, 0);
     if c == 0 {
         return 0;
     }

@@ -27,7 +27,7 @@ use Rattle.lake_step_one.specs.Intermediate.{waterIn, bodiesBy, intermediate}
 use Rattle.lake_calls.specs.Calls.{firstCalls, callsOf, calledBy, reach, loopFrom, loop, ranksOf, ofRank, orderFrom, order}
 use Rattle.lake_step_two.specs.Plain.{nonterminalsIn, terminalsIn, alternatives, plainFrom, plainBodies, sizes, rulesBy, plainRules}
 use Rattle.match_cells.specs.Cells.{bodyAt, rowOf, fillOf, cells}
-use Rattle.match_cells.specs.Eval.{stands, leafAt, cellAt, joinOf, seqOf, altOf, stepOf, rep, plusOf, optOf, aheadOf, neverOf, ev}
+use Rattle.match_eval.specs.Eval.{stands, leafAt, cellAt, joinOf, seqOf, altOf, stepOf, rep, plusOf, optOf, aheadOf, neverOf, ev}
 use Rattle.match_nodes.specs.Nodes.{seqN, altN, optN, stepN, repN, walkOf, nodeIf, nodesOf, levels, listOf, listingOf, inWords, putNode, written}
 use Rattle.match_nodes.specs.Nodes.{wordsOf, roomOf, nodeAt, nodesAt, soundAt, nodeText}
 use Rattle.write_rules.specs.Writing.{byteText, litChar, classChar, litChars, runs as writing-runs, runText, runsText, leafText, symbolText}

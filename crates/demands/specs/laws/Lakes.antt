@@ -19,7 +19,7 @@ use Rattle.grammar.specs.Numbers.{isLake}
 use Rattle.grammar.specs.Refusal.{Refusal, refuseIf, _▸_}
 use Rattle.match_meaning.specs.Meaning.{lake, Meant, Node, own, wet, some-of, Tries, own-none, own-is, dry-end, dry, wet-is, none-of, this-one, later-one, Derives}
 use Rattle.match_meaning.specs.laws.One.{one}
-use Rattle.match_cells.specs.Eval.{leafAt, neverOf, ev}
+use Rattle.match_eval.specs.Eval.{leafAt, neverOf, ev}
 use Rattle.match_cells.specs.laws.Agrees.{Right}
 use Rattle.match_nodes.specs.laws.Whole.{Holds, evaluated}
 use Rattle.match_lake.specs.Asking.{noneMatches, ownTakes, wayNumber, wayIn}

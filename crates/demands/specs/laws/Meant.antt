@@ -24,7 +24,7 @@ use Rattle.write_text.specs.laws.Own.{lefts-long}
 use Rattle.write_text.specs.laws.Plain.{bodies-long}
 use Rattle.match_meaning.specs.Meaning.{Body, rule, Meant, Node, Derives, plainBody, plainOf}
 use Rattle.match_meaning.specs.laws.LakesPlain.{lakes-are-plain}
-use Rattle.match_cells.specs.Eval.{nowhere, bodyOf}
+use Rattle.match_eval.specs.Eval.{nowhere, bodyOf}
 use Rattle.match_cells.specs.laws.Sound.{plainly}
 use Rattle.match_nodes.specs.laws.Whole.{Holds}
 use Rattle.prepare.specs.Prepare.{prepared, preparedBy}

@@ -17,7 +17,7 @@ use Rattle.grammar.specs.Exp.{Exp, sym, ter, seq, alt, opt, star, plus, ahead, 
 use Rattle.match_meaning.specs.Meaning.{Node, rule, lake, Ask, exp, inside, own, wet, some-of, Tries, any-takes, any-fails, lit-takes, lit-fails, cls-takes, cls-fails, sym-takes, sym-fails, seq-fails, seq-fails-later, seq-takes, alt-first, alt-second, star-ends, star-idles, star-goes, plus-fails, plus-takes, opt-skips, opt-takes, ahead-fails, ahead-takes, never-takes, never-fails, by-rule, by-own, by-water, by-skip, stopped, at-end, own-none, own-is, dry-end, dry, wet-is, none-of, this-one, later-one, Derives}
 use Rattle.match_meaning.specs.laws.One.{one}
 use Rattle.match_meaning.specs.laws.Shape.{within}
-use Rattle.match_cells.specs.Eval.{nowhere, bodyOf, rep, ev}
+use Rattle.match_eval.specs.Eval.{nowhere, bodyOf, rep, ev}
 use Rattle.grammar.specs.Empty.{emptyLeaf, hasEmpty}
 use Rattle.lake_calls.specs.Loops.{Calls}
 use Rattle.match_cells.specs.First.{Terse, Markings}

@@ -17,10 +17,10 @@ use Rattle.grammar_table.specs.Trees.{treeOf, below}
 use Rattle.grammar_table.specs.laws.Trees.{node-at, node-never}
 use Rattle.grammar_table.specs.laws.Places.{getD-any}
 use Rattle.grammar_table.specs.laws.Leaves.{marks-at, words-length}
-use Rattle.match_cells.specs.Eval.{joinOf, seqOf, altOf, rep, plusOf, optOf, aheadOf, neverOf, ev, leafAt}
-use Rattle.match_cells.specs.laws.EvalSteps.{any-takes, literal-takes, literal-fails, class-takes, class-fails, cell-is, rep-ends, plus-ends}
-use Rattle.match_cells.specs.laws.Leaves.{lit-ends, lit-differs, lit-goes, lit-done}
-use Rattle.match_cells.specs.steps.Firsts.{byteAt, wordOf, Heard, LeafSure, Sure, Guards}
+use Rattle.match_eval.specs.Eval.{joinOf, seqOf, altOf, rep, plusOf, optOf, aheadOf, neverOf, ev, leafAt}
+use Rattle.match_eval.specs.laws.EvalSteps.{any-takes, literal-takes, literal-fails, class-takes, class-fails, cell-is, rep-ends, plus-ends}
+use Rattle.match_eval.specs.laws.Leaves.{lit-ends, lit-differs, lit-goes, lit-done}
+use Rattle.match_eval.specs.steps.Firsts.{byteAt, wordOf, Heard, LeafSure, Sure, Guards}
 
 -- a byte stands within the text
 inside : (s : List ℕ) (p b : ℕ) → byteAt s p ≡ b → b < 256 → p < length s

@@ -25,7 +25,7 @@ use Rattle.lake_analysis.specs.laws.Marks.{marks-least}
 use Rattle.lake_calls.specs.Calls.{firstCalls, callsOf, reach, loop, ranksOf, ofRank, orderFrom, order}
 use Rattle.lake_calls.specs.laws.Reaches.{pow-below}
 use Rattle.lake_calls.specs.laws.Exact.{calls-long}
-use Rattle.match_cells.specs.Eval.{nowhere, bodyOf}
+use Rattle.match_eval.specs.Eval.{nowhere, bodyOf}
 use Rattle.match_cells.specs.First.{Terse, Markings}
 use Rattle.match_cells.specs.laws.Order.{rank-small}
 

@@ -13,8 +13,8 @@ use Rattle.grammar.specs.Exp.{Exp, sym, ter, seq, alt, opt, star, plus, ahead, 
 use Rattle.grammar_table.specs.Table.{opOf, leftOf, rightOf, leafIn, nodeBy}
 use Rattle.grammar_table.specs.Trees.{treeOf, below}
 use Rattle.grammar_table.specs.laws.Trees.{node-at}
-use Rattle.match_cells.specs.steps.Memory.{countAt, keysAt, partsAt, seenAt, entriesAt, parts, Key, Found, Fresh}
-use Rattle.match_cells.specs.laws.Memory.{zeros, alike-none}
+use Rattle.match_eval.specs.steps.Memory.{countAt, keysAt, partsAt, seenAt, entriesAt, parts, Key, Found, Fresh}
+use Rattle.match_eval.specs.laws.Memory.{zeros, alike-none}
 
 -- ── the same words, the same tree ──
 nodes-same : (k l r m u : ℕ) (leaf : ℕ → Leaf) (f g : ℕ → Exp ℕ) → (k ≤ 1 → l ≡ m) → (2 ≤ k → f l ≡ g m) → (2 ≤ k → k ≤ 3 → f r ≡ g u) → nodeBy k l r leaf f ≡ nodeBy k m u leaf g

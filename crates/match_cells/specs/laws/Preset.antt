@@ -21,10 +21,10 @@ use Rattle.match_cells.specs.First.{Markings, Ordered}
 use Rattle.match_cells.specs.laws.Sound.{plainly, Means}
 use Rattle.match_cells.specs.laws.Agrees.{Known, After, Right}
 use Rattle.match_cells.specs.laws.Filled.{Room, row-length, row-right, row-frame, filled-right, filled-behind, filled-length}
-use Rattle.match_cells.specs.laws.Memory.{knows-cells, knows-ready}
+use Rattle.match_eval.specs.laws.Memory.{knows-cells, knows-ready}
 use Rattle.match_cells.specs.laws.Rows.{stored}
-use Rattle.match_cells.specs.steps.Firsts.{byteAt, bodiesAt, wordOf, Heard, putSaid, presetOf}
-use Rattle.match_cells.specs.steps.Memory.{Ready, Knows, Roomy, Calm, Front}
+use Rattle.match_eval.specs.steps.Firsts.{byteAt, bodiesAt, wordOf, Heard, putSaid, presetOf}
+use Rattle.match_eval.specs.steps.Memory.{Ready, Knows, Roomy, Calm, Front}
 use Rattle.match_cells.specs.steps.Runs.{fillBy, FilledBy}
 
 -- a cell at a later place stands further on

@@ -7,7 +7,7 @@ use lib.ListN.{length, getD, set}
 use Rattle.grammar.specs.Exp.{Exp}
 use Rattle.grammar_table.specs.Table.{symbolWord, symbolCount, wordsFrom}
 use Rattle.grammar_table.specs.laws.Lists.{up-length, up-at}
-use Rattle.match_cells.specs.Eval.{nowhere, bodyOf, ev}
+use Rattle.match_eval.specs.Eval.{nowhere, bodyOf, ev}
 use Rattle.match_cells.specs.Cells.{bodyAt, rowOf, fillOf, cells}
 use Rattle.grammar_table.specs.Trees.{treeOf, bodiesOf}
 use Rattle.grammar_table.specs.laws.Leaves.{words-more}

@@ -15,7 +15,7 @@ use Rattle.read_tokens.specs.Token.{Leaf, any, literal, class}
 use Rattle.grammar.specs.Exp.{Exp, sym, ter, seq, alt, opt, star, plus, ahead, never}
 use Rattle.match_meaning.specs.Meaning.{Meant, Node, nd, rule, Here, Marked, any-takes, any-fails, lit-takes, lit-fails, cls-takes, cls-fails, sym-takes, sym-fails, seq-fails, seq-fails-later, seq-takes, alt-first, alt-second, star-ends, star-idles, star-goes, plus-fails, plus-takes, opt-skips, opt-takes, ahead-fails, ahead-takes, never-takes, never-fails, by-rule, Derives}
 use Rattle.match_meaning.specs.laws.Shape.{within}
-use Rattle.match_cells.specs.Eval.{nowhere, bodyOf, stands, leafAt, cellAt, joinOf, seqOf, altOf, stepOf, rep, plusOf, optOf, aheadOf, neverOf}
+use Rattle.match_eval.specs.Eval.{nowhere, bodyOf, stands, leafAt, cellAt, joinOf, seqOf, altOf, stepOf, rep, plusOf, optOf, aheadOf, neverOf}
 
 -- the grammar that a list of plain bodies is
 abbrev pub plainly : List (Exp ℕ) → Meant

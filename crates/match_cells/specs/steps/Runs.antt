@@ -12,8 +12,8 @@ use Rattle.lake_step_one.specs.Proper.{SoundAll}
 use Rattle.lake_step_one.specs.steps.Made.{withBodies}
 use Rattle.lake_calls.specs.Calls.{loop, order}
 use Rattle.match_cells.specs.Cells.{rowOf, cells}
-use Rattle.match_cells.specs.steps.Firsts.{byteAt, presetOf}
-use Rattle.match_cells.specs.steps.Memory.{Roomy}
+use Rattle.match_eval.specs.steps.Firsts.{byteAt, presetOf}
+use Rattle.match_eval.specs.steps.Memory.{Roomy}
 
 -- a table that holds a plain grammar with a body for each symbol, whose symbols and terminals are all there
 pub record Plain (t : List ℕ) (g : Grammar) (bodies : List (Exp ℕ)) : Type 0 where

@@ -7,7 +7,7 @@ use Rattle.match_lake.proofs.symbol_fails.Statement.{statement}
 use Rattle.match_lake.proofs.symbol_fails.Tie as tie
 use Rattle.match_lake.proofs.symbol_fails.Reads as reads
 use Rattle.match_lake.proofs.symbol_fails.Lts as lts
-use Rattle.match_cells.proofs.cell_at.Reads as cell-at-reads
+use Rattle.match_eval.proofs.cell_at.Reads as cell-at-reads
 use Rattle.base_words.proofs.member.Reads as member-reads
 use Rattle.grammar_table.proofs.records.kind.Reads as kind-reads
 

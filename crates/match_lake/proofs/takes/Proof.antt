@@ -5,7 +5,7 @@ use Rattle.match_lake.proofs.takes.Statement.{statement}
 use Rattle.match_lake.proofs.takes.Tie as tie
 use Rattle.match_lake.proofs.takes.Reads as reads
 use Rattle.match_lake.proofs.takes.Lts as lts
-use Rattle.match_cells.proofs.eval.Reads as eval-reads
+use Rattle.match_eval.proofs.eval.Reads as eval-reads
 
 returns : tie.Need-returns
 returns c = body-none (c .before .before .before .before .args .t .now) (c .before .before .before .before .args .s .now) (c .before .before .before .before .args .cells .now) (c .before .before .before .before .args .n) (c .before .before .before .before .args .p) (c .before .before .before .before .args .b) (c .if1 .taken)

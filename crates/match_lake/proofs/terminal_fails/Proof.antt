@@ -7,7 +7,7 @@ use Rattle.match_lake.proofs.terminal_fails.Statement.{statement}
 use Rattle.match_lake.proofs.terminal_fails.Tie as tie
 use Rattle.match_lake.proofs.terminal_fails.Reads as reads
 use Rattle.match_lake.proofs.terminal_fails.Lts as lts
-use Rattle.match_cells.proofs.leaf_at.Reads as leaf-at-reads
+use Rattle.match_eval.proofs.leaf_at.Reads as leaf-at-reads
 use Rattle.base_words.proofs.member.Reads as member-reads
 
 add-member : tie.Need-add-member

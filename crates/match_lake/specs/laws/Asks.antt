@@ -22,8 +22,8 @@ use Rattle.base_words.specs.Set.{memberOf}
 use Rattle.lake_step_one.specs.Intermediate.{waterName, waterIn}
 use Rattle.lake_step_two.specs.Plain.{nonterminalsIn, terminalsIn, alternatives}
 use Rattle.lake_step_one.specs.laws.Water.{index-at}
-use Rattle.match_cells.specs.Eval.{leafAt, cellAt, neverOf, ev}
-use Rattle.match_cells.specs.laws.EvalSteps.{any-takes, any-fails}
+use Rattle.match_eval.specs.Eval.{leafAt, cellAt, neverOf, ev}
+use Rattle.match_eval.specs.laws.EvalSteps.{any-takes, any-fails}
 use Rattle.grammar_table.specs.Trees.{treeOf}
 use Rattle.match_lake.specs.Asking.{noneMatches, ownTakes, wayNumber, wayIn, symbolFails, terminalFails}
 

@@ -6,7 +6,7 @@ use Rattle.match_nodes.proofs.again_plan.Statement.{statement}
 use Rattle.match_nodes.proofs.again_plan.Tie as tie
 use Rattle.match_nodes.proofs.again_plan.Reads as reads
 use Rattle.match_nodes.proofs.again_plan.Lts as lts
-use Rattle.match_cells.proofs.eval.Reads as eval-reads
+use Rattle.match_eval.proofs.eval.Reads as eval-reads
 use Rattle.match_nodes.proofs.task.Reads as task-reads
 
 eval-requires : tie.Need-eval-requires

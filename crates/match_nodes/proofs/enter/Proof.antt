@@ -2,7 +2,7 @@
 use native.Mathlib.Omega.{arith}
 use Prim.Native.Nat.{_/_, _%_}
 use mathlib.Core.Path.{sym, _∙_}
-use Rattle.match_cells.specs.laws.Within.{cell-within}
+use Rattle.match_eval.specs.laws.Within.{cell-within}
 use Rattle.match_nodes.specs.laws.Walks.{nonzero}
 use Rattle.match_nodes.specs.laws.Turns.{entered}
 use borrow.Author.Needs.{needs}
@@ -10,7 +10,7 @@ use Rattle.match_nodes.proofs.enter.Statement.{statement}
 use Rattle.match_nodes.proofs.enter.Tie as tie
 use Rattle.match_nodes.proofs.enter.Reads as reads
 use Rattle.match_nodes.proofs.enter.Lts as lts
-use Rattle.match_cells.proofs.cell_at.Reads as cell-at-reads
+use Rattle.match_eval.proofs.cell_at.Reads as cell-at-reads
 use Rattle.match_nodes.proofs.note.Reads as note-reads
 use Rattle.match_nodes.proofs.task.Reads as task-reads
 use Rattle.base_words.proofs.word.Reads as word-reads

@@ -16,7 +16,7 @@ use Rattle.match_nodes.proofs.pass.Statement.{statement}
 use Rattle.match_nodes.proofs.pass.Tie as tie
 use Rattle.match_nodes.proofs.pass.Reads as reads
 use Rattle.match_nodes.proofs.pass.Lts as lts
-use Rattle.match_cells.proofs.cell_at.Reads as cell-at-reads
+use Rattle.match_eval.proofs.cell_at.Reads as cell-at-reads
 use Rattle.match_nodes.proofs.push.Reads as push-reads
 use Rattle.match_nodes.proofs.task.Reads as task-reads
 use Rattle.match_nodes.proofs.turn.Reads as turn-reads

@@ -7,8 +7,8 @@ use Rattle.match_nodes.proofs.walk_plan.Statement.{statement}
 use Rattle.match_nodes.proofs.walk_plan.Tie as tie
 use Rattle.match_nodes.proofs.walk_plan.Reads as reads
 use Rattle.match_nodes.proofs.walk_plan.Lts as lts
-use Rattle.match_cells.proofs.eval.Reads as eval-reads
-use Rattle.match_cells.proofs.leaf_at.Reads as leaf-at-reads
+use Rattle.match_eval.proofs.eval.Reads as eval-reads
+use Rattle.match_eval.proofs.leaf_at.Reads as leaf-at-reads
 use Rattle.match_nodes.proofs.choose.Reads as choose-reads
 use Rattle.match_nodes.proofs.look.Reads as look-reads
 use Rattle.match_nodes.proofs.task.Reads as task-reads

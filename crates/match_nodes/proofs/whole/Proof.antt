@@ -6,7 +6,7 @@ use Rattle.match_nodes.proofs.whole.Statement.{statement}
 use Rattle.match_nodes.proofs.whole.Tie as tie
 use Rattle.match_nodes.proofs.whole.Reads as reads
 use Rattle.match_nodes.proofs.whole.Lts as lts
-use Rattle.match_cells.proofs.eval.Reads as eval-reads
+use Rattle.match_eval.proofs.eval.Reads as eval-reads
 
 eval-requires : tie.Need-eval-requires
 eval-requires c κs = search needs

@@ -14,7 +14,7 @@ use Rattle.read_tokens.specs.Bounds.{depthBound, nodeWords}
 use Rattle.grammar.specs.Exp.{Exp, sym, ter, seq, alt, star, never}
 use Rattle.grammar.specs.Lakes.{waterOf, stepOne, choiceOf, skipOf, stepTwo}
 use Rattle.match_meaning.specs.Meaning.{nd}
-use Rattle.match_cells.specs.Eval.{bodyOf, stands, leafAt, cellAt, joinOf, seqOf, altOf, stepOf, rep, plusOf, optOf, aheadOf, neverOf, ev}
+use Rattle.match_eval.specs.Eval.{bodyOf, stands, leafAt, cellAt, joinOf, seqOf, altOf, stepOf, rep, plusOf, optOf, aheadOf, neverOf, ev}
 use Rattle.match_cells.specs.Cells.{bodyAt, rowOf, fillOf, cells}
 use Rattle.grammar.specs.Empty.{emptyLeaf, hasEmpty}
 use Rattle.lake_calls.specs.Loops.{Calls}

@@ -11,10 +11,10 @@ use lib.ListN.{length}
 use borrow.Author.Tests.{ltb-true, ltb-false}
 use Rattle.grammar.specs.Exp.{Exp, sym, ter, seq, alt, opt, star, plus, ahead, never}
 use Rattle.grammar_table.specs.Table.{leafIn}
-use Rattle.match_cells.specs.Eval.{leafAt, cellAt, seqOf, rep, plusOf, aheadOf, neverOf, ev}
+use Rattle.match_eval.specs.Eval.{leafAt, cellAt, seqOf, rep, plusOf, aheadOf, neverOf, ev}
 use Rattle.match_nodes.specs.Nodes.{repN, walkOf}
-use Rattle.match_cells.specs.laws.Within.{ev-within}
-use Rattle.match_cells.specs.laws.EvalSteps.{seq-left, seq-right, seq-both, plus-fails, plus-takes, opt-fails, opt-takes, rep-ends, cell-past}
+use Rattle.match_eval.specs.laws.Within.{ev-within}
+use Rattle.match_eval.specs.laws.EvalSteps.{seq-left, seq-right, seq-both, plus-fails, plus-takes, opt-fails, opt-takes, rep-ends, cell-past}
 use Rattle.match_nodes.specs.laws.NodeSteps.{seq-both as list-both, opt-none as list-none, opt-some as list-some, rep-ends as list-ends}
 use Rattle.grammar_table.specs.Trees.{treeOf}
 use Rattle.match_nodes.specs.steps.Tasks.{Task, walk, again, enter, taskWord, under, walked, takes, nodes, after, rank, cost, costOf, Step}

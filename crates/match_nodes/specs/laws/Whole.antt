@@ -11,7 +11,7 @@ use Rattle.grammar.specs.Exp.{Exp, sym}
 use Rattle.match_meaning.specs.Meaning.{Meant, Node, Body, rule, Derives, plainBody, plainOf}
 use Rattle.match_meaning.specs.laws.Shape.{Climb, shape}
 use Rattle.match_meaning.specs.laws.LakesPlain.{lakes-are-plain}
-use Rattle.match_cells.specs.Eval.{nowhere, bodyOf, ev}
+use Rattle.match_eval.specs.Eval.{nowhere, bodyOf, ev}
 use Rattle.match_nodes.specs.Nodes.{levels, listOf, listingOf, wordsOf}
 use Rattle.match_cells.specs.laws.Sound.{plainly}
 use Rattle.match_cells.specs.laws.Agrees.{Right, ev-sound, ev-only}

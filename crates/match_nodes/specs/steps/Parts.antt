@@ -7,7 +7,7 @@ use Rattle.read_tokens.specs.Token.{Leaf}
 use Rattle.grammar.specs.Exp.{Exp, sym, ter, seq, alt, opt, star, plus, ahead, never}
 use Rattle.grammar_table.specs.Table.{leafIn}
 use Rattle.match_meaning.specs.Meaning.{Node}
-use Rattle.match_cells.specs.Eval.{ev}
+use Rattle.match_eval.specs.Eval.{ev}
 use Rattle.match_nodes.specs.Nodes.{walkOf}
 use Rattle.grammar_table.specs.Trees.{treeOf}
 

@@ -6,7 +6,7 @@ use mathlib.Core.Path.{_≡_}
 use mathlib.Core.List.{List, [], _∷_, _++_}
 use lib.ListN.{length, getD}
 use Rattle.match_meaning.specs.Meaning.{Node}
-use Rattle.match_cells.specs.Eval.{cellAt, rep, ev}
+use Rattle.match_eval.specs.Eval.{cellAt, rep, ev}
 use Rattle.match_nodes.specs.Nodes.{repN, walkOf, nodesOf, levels}
 use Rattle.grammar_table.specs.Trees.{treeOf, bodiesOf}
 

@@ -7,8 +7,8 @@ use native.Mathlib.Nat.{mul-le-mul}
 use Rattle.grammar_table.specs.Table.{wordsFrom}
 use Rattle.grammar_table.specs.Trees.{bodiesOf}
 use Rattle.match_cells.specs.Cells.{rowOf}
-use Rattle.match_cells.specs.steps.Firsts.{presetOf}
-use Rattle.match_cells.specs.steps.Memory.{Knows}
+use Rattle.match_eval.specs.steps.Firsts.{presetOf}
+use Rattle.match_eval.specs.steps.Memory.{Knows}
 use Rattle.match_cells.specs.laws.Preset.{knows-preset}
 use borrow.Author.Needs.{needs}
 use Rattle.match_cells.proofs.filling.place.Statement.{statement}
@@ -17,7 +17,7 @@ use Rattle.match_cells.proofs.filling.place.Reads as reads
 use Rattle.match_cells.proofs.filling.place.Lts as lts
 use Rattle.match_cells.proofs.filling.preset.Reads as preset-reads
 use Rattle.match_cells.proofs.filling.row.Reads as row-reads
-use Rattle.match_cells.proofs.firsts.byte_at.Reads as byte-at-reads
+use Rattle.match_eval.proofs.byte_at.Reads as byte-at-reads
 
 byte-at-requires : tie.Need-byte-at-requires
 byte-at-requires c κs = search needs

@@ -3,7 +3,7 @@ use native.Mathlib.Omega.{arith}
 use mathlib.Core.Path.{_≡_, refl, sym, ap, _∙_}
 use Prim.Native.Nat.{_-_, _≤_}
 use lib.ListN.{length}
-use Rattle.match_cells.specs.steps.Firsts.{presetOf}
+use Rattle.match_eval.specs.steps.Firsts.{presetOf}
 use Rattle.match_cells.specs.laws.Preset.{preset-puts, preset-skips, preset-ends}
 use borrow.Author.Needs.{needs}
 use Rattle.match_cells.proofs.filling.preset.Statement.{statement}

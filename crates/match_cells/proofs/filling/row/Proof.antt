@@ -8,7 +8,7 @@ use Rattle.grammar_table.specs.Table.{wordsFrom}
 use Rattle.match_cells.specs.Cells.{bodyAt, rowOf}
 use Rattle.grammar_table.specs.Trees.{bodiesOf}
 use Rattle.match_cells.specs.laws.Rows.{row-more, row-end, row-start}
-use Rattle.match_cells.specs.steps.Memory.{Knows}
+use Rattle.match_eval.specs.steps.Memory.{Knows}
 use borrow.Author.Needs.{needs}
 use Rattle.match_cells.proofs.filling.row.Statement.{statement}
 use Rattle.match_cells.proofs.filling.row.Tie as tie

@@ -7,10 +7,10 @@ use lib.ListN.{length}
 use Rattle.grammar_table.specs.Table.{wordsFrom}
 use Rattle.grammar_table.specs.Trees.{bodiesOf}
 use Rattle.match_cells.specs.Cells.{rowOf}
-use Rattle.match_cells.specs.steps.Firsts.{byteAt, bodiesAt}
-use Rattle.match_cells.specs.steps.Memory.{Knows, Front}
+use Rattle.match_eval.specs.steps.Firsts.{byteAt, bodiesAt}
+use Rattle.match_eval.specs.steps.Memory.{Knows, Front}
 use Rattle.match_cells.specs.steps.Runs.{fillBy}
-use Rattle.match_cells.specs.laws.Memory.{knows-from}
+use Rattle.match_eval.specs.laws.Memory.{knows-from}
 use Rattle.match_cells.specs.laws.Preset.{by-more, by-end, preset-same, calm-front}
 use borrow.Author.Needs.{needs}
 use Rattle.match_cells.proofs.filling.rows.Statement.{statement}

@@ -5,11 +5,11 @@ use mathlib.Core.List.{List}
 use Prim.Native.Nat.{ℕ, _+_, _*_, _≤_}
 use native.Mathlib.Nat.{mul-le-mul}
 use Rattle.grammar_table.specs.Trees.{treeOf}
-use Rattle.match_cells.specs.steps.Firsts.{wordOf}
-use Rattle.match_cells.specs.steps.Memory.{Knows}
-use Rattle.match_cells.specs.laws.Within.{ev-within}
+use Rattle.match_eval.specs.steps.Firsts.{wordOf}
+use Rattle.match_eval.specs.steps.Memory.{Knows}
+use Rattle.match_eval.specs.laws.Within.{ev-within}
 use Rattle.match_cells.specs.laws.Rows.{stored}
-use Rattle.match_cells.specs.laws.Memory.{knows-from, knows-stored}
+use Rattle.match_eval.specs.laws.Memory.{knows-from, knows-stored}
 use Rattle.match_cells.specs.laws.Preset.{said-stays}
 use borrow.Author.Needs.{needs}
 use Rattle.match_cells.proofs.filling.store.Statement.{statement}
@@ -19,7 +19,7 @@ use Rattle.match_cells.proofs.filling.store.Lts as lts
 use Rattle.base_words.proofs.put.Reads as put-reads
 use Rattle.base_words.proofs.word.Reads as word-reads
 use Rattle.grammar_table.proofs.records.body.Reads as body-reads
-use Rattle.match_cells.proofs.eval_with.Reads as eval-with-reads
+use Rattle.match_eval.proofs.eval_with.Reads as eval-with-reads
 
 mul-word : tie.Need-mul-word
 mul-word c = omega (arith, c .before .before .before .before .pre .0 .1, c .before .before .before .before .pre .0 .2, c .before .before .before .before .pre .0 .6)

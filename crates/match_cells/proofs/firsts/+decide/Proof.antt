@@ -5,8 +5,8 @@ use mathlib.Core.List.{List}
 use Rattle.grammar_table.specs.Table.{rightOf}
 use Rattle.grammar_table.specs.Trees.{treeOf, below}
 use Rattle.grammar_table.specs.laws.Trees.{below-le}
-use Rattle.match_cells.specs.steps.Firsts.{Sure, Guards}
-use Rattle.match_cells.specs.laws.EvalSteps.{opt-fails, opt-takes, ahead-fails, ahead-takes, never-takes, never-fails}
+use Rattle.match_eval.specs.steps.Firsts.{Sure, Guards}
+use Rattle.match_eval.specs.laws.EvalSteps.{opt-fails, opt-takes, ahead-fails, ahead-takes, never-takes, never-fails}
 use Rattle.match_cells.specs.laws.Firsts.{dot-sure, sure-leaf, sure-symbol, sure-left, sure-next, sure-guard, sure-one, sure-both, sure-option, sure-star, sure-plus, sure-ahead, sure-never}
 use borrow.Author.Needs.{needs}
 use Prim.Native.Nat.{ℕ, _<_, _-_}

@@ -4,7 +4,7 @@ use mathlib.Core.Logic.{inl}
 use Prim.Native.Nat.{_+_, _*_, _≤_}
 use native.Mathlib.Nat.{mul-le-mul}
 use lib.ListN.{length}
-use Rattle.match_cells.specs.laws.Words.{fresh-ready, fresh-roomy}
+use Rattle.match_eval.specs.laws.Words.{fresh-ready, fresh-roomy}
 use borrow.Author.Needs.{needs}
 use Rattle.match_cells.proofs.firsts.decide_all.Statement.{statement}
 use Rattle.match_cells.proofs.firsts.decide_all.Tie as tie

@@ -4,10 +4,10 @@ use mathlib.Core.Path.{_≡_, refl, sym, subst, _∙_}
 use mathlib.Core.List.{List}
 use Prim.Native.Nat.{ℕ, _+_, _-_, _<_, _≤_}
 use lib.ListN.{length}
-use Rattle.match_cells.specs.steps.Memory.{Ready}
+use Rattle.match_eval.specs.steps.Memory.{Ready}
 use Rattle.grammar_table.specs.Trees.{treeOf}
-use Rattle.match_cells.specs.steps.Firsts.{Sure}
-use Rattle.match_cells.specs.laws.Words.{ready-body}
+use Rattle.match_eval.specs.steps.Firsts.{Sure}
+use Rattle.match_eval.specs.laws.Words.{ready-body}
 use borrow.Author.Needs.{needs}
 use Rattle.match_cells.proofs.firsts.decide_body.Statement.{statement}
 use Rattle.match_cells.proofs.firsts.decide_body.Tie as tie

@@ -4,8 +4,8 @@ use mathlib.Core.Path.{_≡_, refl, sym, subst, _∙_}
 use mathlib.Core.List.{List}
 use Prim.Native.Nat.{ℕ, _+_, _-_, _<_, _≤_}
 use lib.ListN.{length}
-use Rattle.match_cells.specs.steps.Memory.{Ready}
-use Rattle.match_cells.specs.laws.Words.{ready-round}
+use Rattle.match_eval.specs.steps.Memory.{Ready}
+use Rattle.match_eval.specs.laws.Words.{ready-round}
 use borrow.Author.Needs.{needs}
 use Rattle.match_cells.proofs.firsts.decide_part.Statement.{statement}
 use Rattle.match_cells.proofs.firsts.decide_part.Tie as tie
@@ -13,7 +13,7 @@ use Rattle.match_cells.proofs.firsts.decide_part.Reads as reads
 use Rattle.match_cells.proofs.firsts.decide_part.Lts as lts
 use Rattle.base_words.proofs.put.Reads as put-reads
 use Rattle.match_cells.proofs.firsts.decide.Reads as decide-reads
-use Rattle.match_cells.proofs.memory.key.Reads as key-reads
+use Rattle.match_eval.proofs.memory.key.Reads as key-reads
 
 key-requires : tie.Need-key-requires
 key-requires c κs = search needs

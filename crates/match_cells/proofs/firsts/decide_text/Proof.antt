@@ -4,13 +4,13 @@ use mathlib.Core.Path.{_≡_, refl, sym, subst, _∙_}
 use mathlib.Core.List.{List}
 use Prim.Native.Nat.{ℕ, _+_, _-_, _<_, _≤_}
 use lib.ListN.{length}
-use Rattle.match_cells.specs.steps.Memory.{Ready}
+use Rattle.match_eval.specs.steps.Memory.{Ready}
 use borrow.Author.Needs.{needs}
 use Rattle.match_cells.proofs.firsts.decide_text.Statement.{statement}
 use Rattle.match_cells.proofs.firsts.decide_text.Tie as tie
 use Rattle.match_cells.proofs.firsts.decide_text.Reads as reads
 use Rattle.match_cells.proofs.firsts.decide_text.Lts as lts
-use Rattle.match_cells.proofs.firsts.byte_at.Reads as byte-at-reads
+use Rattle.match_eval.proofs.byte_at.Reads as byte-at-reads
 use Rattle.match_cells.proofs.firsts.decide_once.Reads as decide-once-reads
 
 abbrev Inv-loop : tie.InvT-loop

@@ -5,7 +5,7 @@ use Prim.Native.Nat.{ℕ, _+_, _*_}
 use Rattle.grammar_table.specs.Table.{terminalsAt, terminalWords}
 use Rattle.read_tokens.specs.Token.{Leaf}
 use Rattle.grammar_table.specs.laws.Leaves.{is-any, is-literal, is-class}
-use Rattle.match_cells.specs.steps.Firsts.{LeafSure}
+use Rattle.match_eval.specs.steps.Firsts.{LeafSure}
 use Rattle.match_cells.specs.laws.Firsts.{any-sure, empty-sure, literal-off, literal-sure, class-off, class-sure}
 use borrow.Author.Needs.{needs}
 use Rattle.match_cells.proofs.firsts.leaf_first.Statement.{statement}

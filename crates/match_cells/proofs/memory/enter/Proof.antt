@@ -4,7 +4,7 @@ use mathlib.Core.Path.{sym, ap, subst, _∙_}
 use Prim.Native.Nat.{ℕ, _+_}
 use mathlib.Core.List.{List}
 use lib.ListN.{set}
-use Rattle.match_cells.specs.steps.Memory.{Fresh}
+use Rattle.match_eval.specs.steps.Memory.{Fresh}
 use Rattle.match_cells.specs.laws.Keys.{fresh-like, fresh-own}
 use borrow.Author.Needs.{needs}
 use Rattle.match_cells.proofs.memory.enter.Statement.{statement}

@@ -5,7 +5,7 @@ use Prim.Native.Nat.{ℕ, _+_, _-_, _/_}
 use mathlib.Core.List.{List}
 use native.Mathlib.Nat.{div-le-self}
 use lib.ListN.{length}
-use Rattle.match_cells.specs.steps.Memory.{Fresh}
+use Rattle.match_eval.specs.steps.Memory.{Fresh}
 use Rattle.match_cells.specs.laws.Keys.{fresh-places}
 use borrow.Author.Needs.{needs}
 use Rattle.match_cells.proofs.memory.enter_all.Statement.{statement}

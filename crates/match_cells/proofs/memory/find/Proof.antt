@@ -7,7 +7,7 @@ use Rattle.match_cells.proofs.memory.find.Tie as tie
 use Rattle.match_cells.proofs.memory.find.Reads as reads
 use Rattle.match_cells.proofs.memory.find.Lts as lts
 use Rattle.base_words.proofs.word.Reads as word-reads
-use Rattle.match_cells.proofs.memory.key.Reads as key-reads
+use Rattle.match_eval.proofs.memory.key.Reads as key-reads
 use Rattle.match_cells.proofs.memory.same.Reads as same-reads
 
 abbrev Inv-loop : tie.InvT-loop

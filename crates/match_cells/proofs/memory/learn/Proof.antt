@@ -1,14 +1,14 @@
 -- `match_cells::memory::learn` meets its contract. Assumes nothing.
 use mathlib.Core.Path.{refl}
 use native.Mathlib.Omega.{arith}
-use Rattle.match_cells.specs.laws.Memory.{knows-from, knows-noted, rounds-within}
+use Rattle.match_eval.specs.laws.Memory.{knows-from, knows-noted, rounds-within}
 use borrow.Author.Needs.{needs}
 use Rattle.match_cells.proofs.memory.learn.Statement.{statement}
 use Rattle.match_cells.proofs.memory.learn.Tie as tie
 use Rattle.match_cells.proofs.memory.learn.Reads as reads
 use Rattle.match_cells.proofs.memory.learn.Lts as lts
-use Rattle.match_cells.proofs.many.Reads as many-reads
-use Rattle.match_cells.proofs.memory.key.Reads as key-reads
+use Rattle.match_eval.proofs.many.Reads as many-reads
+use Rattle.match_eval.proofs.memory.key.Reads as key-reads
 use Rattle.match_cells.proofs.memory.remember.Reads as remember-reads
 
 key-requires : tie.Need-key-requires

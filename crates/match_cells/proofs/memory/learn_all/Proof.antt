@@ -3,7 +3,7 @@ use native.Mathlib.Omega.{arith}
 use mathlib.Core.Path.{_≡_, refl, _∙_}
 use Prim.Native.Nat.{_-_}
 use lib.ListN.{length}
-use Rattle.match_cells.specs.steps.Memory.{Knows, Front}
+use Rattle.match_eval.specs.steps.Memory.{Knows, Front}
 use borrow.Author.Needs.{needs}
 use Rattle.match_cells.proofs.memory.learn_all.Statement.{statement}
 use Rattle.match_cells.proofs.memory.learn_all.Tie as tie

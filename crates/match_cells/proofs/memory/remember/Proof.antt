@@ -4,15 +4,15 @@ use mathlib.Core.Path.{sym, ap, subst, _∙_}
 use Prim.Native.Nat.{ℕ, _+_, _*_}
 use mathlib.Core.List.{List}
 use lib.ListN.{set}
-use Rattle.match_cells.specs.steps.Memory.{Noted}
-use Rattle.match_cells.specs.laws.Memory.{noted, noted-none}
+use Rattle.match_eval.specs.steps.Memory.{Noted}
+use Rattle.match_eval.specs.laws.Memory.{noted, noted-none}
 use borrow.Author.Needs.{needs}
 use Rattle.match_cells.proofs.memory.remember.Statement.{statement}
 use Rattle.match_cells.proofs.memory.remember.Tie as tie
 use Rattle.match_cells.proofs.memory.remember.Reads as reads
 use Rattle.match_cells.proofs.memory.remember.Lts as lts
 use Rattle.base_words.proofs.put.Reads as put-reads
-use Rattle.match_cells.proofs.memory.slot.Reads as slot-reads
+use Rattle.match_eval.proofs.memory.slot.Reads as slot-reads
 
 slot-requires : tie.Need-slot-requires
 slot-requires c κs = c .before .before .pre .0

@@ -1,0 +1,3 @@
+pub mod Eval
+pub mod steps
+pub mod laws

@@ -1,0 +1,14 @@
+-- What an expression of a table takes, by its words. Assumes nothing.
+use Prim.Native.Nat.{ℕ, _-_}
+use mathlib.Core.Path.{_≡_, refl, ap}
+use mathlib.Core.List.{List}
+use Rattle.grammar.specs.Exp.{Exp}
+use Rattle.grammar_table.specs.Table.{opOf, leftOf, rightOf, leafIn, nodeBy}
+use Rattle.match_eval.specs.Eval.{ev}
+use Rattle.grammar_table.specs.Trees.{treeOf, below}
+use Rattle.grammar_table.specs.laws.Trees.{node-at}
+
+-- what an expression takes is what the node of its words takes
+pub node-ev : (s cs t : List ℕ) (n x p k l : ℕ) → (x ≡ 0 → ⊥) → k ≡ opOf t (x - 1) → l ≡ leftOf t (x - 1)
+    → ev s cs n (nodeBy k l (rightOf t (x - 1)) (leafIn t) (λ i. treeOf t (below i (x - 1)))) p ≡ ev s cs n (treeOf t x) p
+node-ev s cs t n x p k l f u v = ap (λ (y : Exp ℕ). ev s cs n y p) (node-at t x k l (rightOf t (x - 1)) f u v refl)

@@ -1,0 +1,214 @@
+-- What is remembered stays right: when cells before it change, and when an entry is made. Assumes nothing.
+use Prim.Native.Nat.{ℕ, zero, suc, _+_, _-_, _*_, _≤_, _<_}
+use mathlib.Core.Path.{_≡_, refl, sym, ap, _∙_, subst}
+use mathlib.Core.List.{List}
+use mathlib.Core.Logic.{_⊎_, inl, inr}
+use native.Mathlib.Omega.{arith}
+use native.Mathlib.Nat.{suc-mul, mul-le-mul-right}
+use native.Mathlib.Decide.{ℕ-discrete}
+use Rattle.base_facts.specs.laws.Numbers.{lt-or-ge}
+use lib.ListN.{getD, length, set, length-set, replicate}
+use lib.Seq.{getD-set-same, getD-set-other}
+use Rattle.grammar.specs.Exp.{Exp}
+use Rattle.match_eval.specs.Eval.{ev, rep}
+use Rattle.match_eval.specs.laws.Within.{ev-within, rep-within}
+use Rattle.grammar_table.specs.Trees.{treeOf}
+use Rattle.match_eval.specs.steps.Firsts.{byteAt, bodiesAt, wordOf, Heard, Sure}
+use Rattle.match_eval.specs.steps.Memory.{countAt, keysAt, seenAt, roundsAt, entriesAt, roundsOf, Key, Alike, Words, Fresh, Ready, Says, Told, Worded, Knows, Front, Same, Noted}
+use Rattle.match_eval.specs.laws.Frame.{rounds-same, rep-enough}
+
+-- ── words ──
+-- what the first memory says, the second says too
+abbrev pub Wider : List ℕ → List ℕ → Type 0
+Wider mem new = (b r v : ℕ) → b ≤ 256 → r < 64 → wordOf mem b r ≡ suc v → wordOf new b r ≡ suc v
+
+pub heard-back : (mem new s cs : List ℕ) (n p : ℕ) → Wider mem new → Heard new s cs n p → Heard mem s cs n p
+heard-back mem new s cs n p f w r v l i h e = w r v l i h (f (byteAt s p) r v h i e)
+
+pub sure-wider : (mem new : List ℕ) (n b : ℕ) (e : Exp ℕ) (v : ℕ) → Wider mem new → Sure mem n b e v → Sure new n b e v
+sure-wider mem new n b e v f h s cs p q w = h s cs p q (heard-back mem new s cs n p f w)
+
+-- a change of what stands elsewhere
+pub wider-same : (mem new : List ℕ) → ((b r : ℕ) → b ≤ 256 → r < 64 → wordOf new b r ≡ wordOf mem b r) → Wider mem new
+wider-same mem new f b r v i j e = f b r i j ∙ e
+
+module _ (t s cs mem : List ℕ) (n : ℕ) where
+  -- what is told is so
+  pub told-right : (k h : ℕ) → Knows t s cs n mem k h → (x q c : ℕ) → q < 65536 → Told mem x q c → c ≡ roundsOf t s cs n x q
+  told-right k h w x q c l (j, i, a, b, d) = sym d ∙ w .right i x j q l a b
+
+  -- what the word of a part says by the byte at a place is what a round of it takes there
+  pub worded-right : (k p : ℕ) → Knows t s cs n mem k p → (x b u : ℕ) → p ≤ length s → b ≡ byteAt s p → b ≤ 256 → (u ≡ 0 → ⊥) → (0 < u → Worded mem x b u)
+      → u - 1 ≡ ev s cs n (treeOf t x) p
+  worded-right k p w x b u l e h z f = go (f (omega (arith, z)))
+    where
+      go : Worded mem x b u → u - 1 ≡ ev s cs n (treeOf t x) p
+      go (j, i, a, d) =
+          let q : u ≡ suc (u - 1) = omega (arith, z) in
+          sym (w .words .rounds b x j (u - 1) h i a (d ∙ q) s cs p (sym e) (w .heard p (omega arith) l))
+
+  -- rounds from q on that are known, in the midst of rounds from p on
+  pub known-ends : (h : ℕ) → Knows t s cs n mem 0 h → (x k p q c : ℕ) → length s < 65536 → p ≤ q → q ≤ length s → length s ≤ k + q
+      → q + rep k (λ (j : ℕ). ev s cs n (treeOf t x) j) q ≡ p + roundsOf t s cs n x p → Told mem x q c → q - p + c ≡ roundsOf t s cs n x p
+  known-ends i w x k p q c z h l m e a =
+      omega (
+        arith,
+        told-right 0 i w x q c (omega arith) a,
+        e,
+        rep-enough (length s) (λ (j : ℕ). ev s cs n (treeOf t x) j) (λ j g. ev-within s cs n (treeOf t x) j g) k (length s) q l m (omega arith),
+      )
+
+  pub knows-from : (k j h i : ℕ) → j ≤ k → h ≤ i → Knows t s cs n mem k h → Knows t s cs n mem j i
+  knows-from k j h i l m w =
+      record { shared = w .shared; words = w .words; from = λ c x y q g a b. omega (arith, w .from c x y q g a b); right = w .right; heard = λ q g e. w .heard q (omega arith) e }
+
+  -- where no entry says anything, past the text
+  pub knows-ready : (k h : ℕ) → length s < h → Ready t n mem → Knows t s cs n mem k h
+  knows-ready k h m f = record {
+    shared = f .shared;
+    words = f .words;
+    from = λ i x j q l a b. absurd (omega (arith, f .blank (entriesAt + 2 * i) (omega arith), a .1, b));
+    right = λ i x j q l a b. absurd (omega (arith, f .blank (entriesAt + 2 * i) (omega arith), a .1, b));
+    heard = λ q g e. absurd (omega arith);
+  }
+
+  -- cells before an entry's place change, and from h on they are what the words say
+  pub knows-cells : (k h i : ℕ) (ds : List ℕ) → Knows t s cs n mem k i → ((j : ℕ) → k * n ≤ j → getD ds j 0 ≡ getD cs j 0)
+      → ((q : ℕ) → h ≤ q → q ≤ length s → Heard mem s ds n q) → Knows t s ds n mem k h
+  knows-cells k h i ds w f g = record {
+    shared = w .shared;
+    words = w .words;
+    from = w .from;
+    right = λ i x j q b a d. w .right i x j q b a d ∙ rounds-same s cs ds n (treeOf t x) q (λ m l. sym (f m (omega (arith, l, mul-le-mul-right {m = k} {n = q} n (w .from i x j q b a d)))));
+    heard = g;
+  }
+
+  past : (p r q j : ℕ) → r < n → p + 1 ≤ q → q * n ≤ j → j ≡ p * n + r → ⊥
+  past p r q j l a h e = omega (arith, suc-mul p n, mul-le-mul-right {m = suc p} {n = q} n (omega (arith, a)), h, e, l)
+
+  -- two cells of one index are one
+  one-cell : (p r q i : ℕ) → r < n → i < n → q * n + i ≡ p * n + r → (p < q) ⊎ (p ≡ q) ⊎ (q < p) → (q ≡ p) × (i ≡ r)
+  one-cell p r q i l m e (inl a) = absurd (past p r q (q * n + i) l (omega arith) (omega arith) e)
+  one-cell p r q i l m e (inr (inl a)) = (sym a, omega (arith, e, ap (λ (z : ℕ). z * n) a))
+  one-cell p r q i l m e (inr (inr a)) = absurd (past q i p (p * n + r) m (omega arith) (omega arith) (sym e))
+
+  pub cell-one : (p r q i : ℕ) → r < n → i < n → q * n + i ≡ p * n + r → (q ≡ p) × (i ≡ r)
+  cell-one p r q i l m e = one-cell p r q i l m e (compare p q)
+    where
+      compare : (a b : ℕ) → (a < b) ⊎ (a ≡ b) ⊎ (b < a)
+      compare a b = elim (lt-or-ge a b) [ inl h ↦ inl h | inr h ↦ elim (lt-or-ge b a) [ inl g ↦ inr (inr g) | inr g ↦ inr (inl (omega arith)) ] ]
+
+  -- the cell of a symbol is stored of which the words say nothing
+  pub knows-stored : (p r v : ℕ) → r < n → wordOf mem (byteAt s p) r ≡ 0 → Knows t s cs n mem (p + 1) p → Knows t s (set cs (p * n + r) v) n mem (p + 1) p
+  knows-stored p r v l z w =
+      knows-cells (p + 1) p p (set cs (p * n + r) v) w
+      (λ j h. getD-set-other cs (p * n + r) j v 0 (λ e. past p r (p + 1) j l (omega arith) h e))
+      (λ q h m i u j k b e. getD-set-other cs (p * n + r) (q * n + i) v 0 (λ a. other q i u j e (cell-one p r q i l j a)) ∙ w .heard q h m i u j k b e)
+    where
+      other : (q i u : ℕ) → i < n → wordOf mem (byteAt s q) i ≡ suc u → (q ≡ p) × (i ≡ r) → ⊥
+      other q i u j e (a, b) =
+          let f : wordOf mem (byteAt s p) r ≡ suc u = ap (λ (y : ℕ). wordOf mem (byteAt s y) r) (sym a) ∙ ap (λ (y : ℕ). wordOf mem (byteAt s q) y) (sym b) ∙ e in
+          omega (arith, z, f)
+
+-- an entry is made
+module _ (t s cs old new : List ℕ) (n x k p c : ℕ) (small : p < 65536) (has : Key old x k) (h : ℕ) (w : Knows t s cs n old p h) (o : Noted k p c old new)
+    (e : c ≡ roundsOf t s cs n x p) where
+  key-back : (y j : ℕ) → Key new y j → Key old y j
+  key-back y j (l, z, a) = (l, z, sym (o .front (keysAt + y) (omega arith)) ∙ a)
+
+  first : (i y j q : ℕ) → q < 65536 → Key new y j → Says new i j q → Same i old new ⊎ (Says new i k p × (getD new (entriesAt + 2 * i + 1) 0 ≡ c)) → p ≤ q
+  first i y j q l h a (inl b) = w .from i y j q l (key-back y j h) (sym (b .0) ∙ a)
+  first i y j q l h a (inr b) = omega (arith, a, b .0, small, l)
+
+  second : (i y j q : ℕ) → q < 65536 → Key new y j → Says new i j q → Same i old new ⊎ (Says new i k p × (getD new (entriesAt + 2 * i + 1) 0 ≡ c))
+      → getD new (entriesAt + 2 * i + 1) 0 ≡ roundsOf t s cs n y q
+  second i y j q l h a (inl b) = b .1 ∙ w .right i y j q l (key-back y j h) (sym (b .0) ∙ a)
+  second i y j q l h a (inr b) =
+      let u : j ≡ k = omega (arith, a, b .0, small, l) in
+      let v : p ≡ q = omega (arith, a, b .0, small, l) in
+      let f : treeOf t x ≡ treeOf t y = w .shared .like x y k has (subst (λ (z : ℕ). Key old y z) u (key-back y j h)) in
+      b .1 ∙ e ∙ ap (λ (z : Exp ℕ). rep (length s) (λ (i : ℕ). ev s cs n z i) p) f ∙ ap (λ (z : ℕ). roundsOf t s cs n y z) v
+
+  same-words : (b r : ℕ) → b ≤ 256 → r < 64 → wordOf new b r ≡ wordOf old b r
+  same-words b r i j = o .front (bodiesAt + 64 * b + r) (omega arith)
+
+  wider : Wider old new
+  wider = wider-same old new same-words
+
+  narrower : Wider new old
+  narrower = wider-same new old (λ b r i j. sym (same-words b r i j))
+
+  pub knows-noted : Knows t s cs n new p h
+  knows-noted = record {
+    shared = record {
+      most = λ y j h. subst (λ (z : ℕ). j ≤ z) (sym (o .front countAt (omega arith))) (w .shared .most y j (key-back y j h));
+      like = λ y z j h g. w .shared .like y z j (key-back y j h) (key-back z j g);
+    };
+    words = record {
+      bodies = λ b r v i j e. sure-wider old new n b _ v wider (w .words .bodies b r v i j (sym (same-words b r i j) ∙ e));
+      rounds = λ b y j v i l g e. sure-wider old new n b _ v wider (w .words .rounds b y j v i l (key-back y j g) (sym (o .front (roundsAt + 64 * b + j) (omega arith)) ∙ e));
+    };
+    heard = λ q g l. heard-back new old s cs n q narrower (w .heard q g l);
+    from = λ i y j q l h a. first i y j q l h a (o .at i);
+    right = λ i y j q l h a. second i y j q l h a (o .at i);
+  }
+
+-- nothing is made
+pub noted-none : (k p c : ℕ) (old : List ℕ) → Noted k p c old old
+noted-none k p c old = record { front = λ j l. refl; at = λ j. inl (refl, refl) }
+
+module _ (old : List ℕ) (i k p c : ℕ) (room : entriesAt + 2 * i + 1 < length old) where
+  abbrev one : List ℕ
+  one = set old (entriesAt + 2 * i) (k * 65536 + p)
+
+  abbrev two : List ℕ
+  two = set one (entriesAt + 2 * i + 1) c
+
+  other : (j : ℕ) → (j ≡ entriesAt + 2 * i → ⊥) → (j ≡ entriesAt + 2 * i + 1 → ⊥) → getD two j 0 ≡ getD old j 0
+  other j f g = getD-set-other one (entriesAt + 2 * i + 1) j c 0 g ∙ getD-set-other old (entriesAt + 2 * i) j (k * 65536 + p) 0 f
+
+  here : Says two i k p × (getD two (entriesAt + 2 * i + 1) 0 ≡ c)
+  here = (
+    getD-set-other one (entriesAt + 2 * i + 1) (entriesAt + 2 * i) c 0 (λ e. omega (arith, e)) ∙ getD-set-same old (entriesAt + 2 * i) (k * 65536 + p) 0 (omega (arith, room)),
+    getD-set-same one (entriesAt + 2 * i + 1) c 0 (omega (arith, room, length-set old (entriesAt + 2 * i) (k * 65536 + p))),
+  )
+
+  pub noted : Noted k p c old (set (set old (entriesAt + 2 * i) (k * 65536 + p)) (entriesAt + 2 * i + 1) c)
+  noted = record { front = λ j l. other j (λ e. omega (arith, e, l)) (λ e. omega (arith, e, l)); at = λ j. go j (ℕ-discrete j i) }
+    where
+      go : (j : ℕ) → Dec (j ≡ i) → Same j old two ⊎ (Says two j k p × (getD two (entriesAt + 2 * j + 1) 0 ≡ c))
+      go j (yes e) = subst (λ (z : ℕ). Same z old two ⊎ (Says two z k p × (getD two (entriesAt + 2 * z + 1) 0 ≡ c))) (sym e) (inr here)
+      go j (no f) = inl (
+        other (entriesAt + 2 * j) (λ e. f (omega (arith, e))) (λ e. omega (arith, e)),
+        other (entriesAt + 2 * j + 1) (λ e. omega (arith, e)) (λ e. f (omega (arith, e))),
+      )
+
+pub rounds-within : (t s cs : List ℕ) (n x q : ℕ) → q ≤ length s → roundsOf t s cs n x q + q ≤ length s
+rounds-within t s cs n x q h = rep-within (length s) (length s) (λ (i : ℕ). ev s cs n (treeOf t x) i) (λ i g. ev-within s cs n (treeOf t x) i g) q h
+
+-- ── nothing but 0 ──
+pub zeros : (n j : ℕ) → _≡_ {A = ℕ} (getD (replicate {A = ℕ} n 0) j 0) 0
+zeros zero j = refl
+zeros (suc n) zero = refl
+zeros (suc n) (suc j) = zeros n j
+
+pub alike-none : (t mem : List ℕ) → ((j : ℕ) → getD mem j 0 ≡ 0) → Alike t mem
+alike-none t mem z = record {
+  most = λ x k h. absurd (omega (arith, z (keysAt + x), h .1, h .2));
+  like = λ x y k h g. absurd (omega (arith, z (keysAt + x), h .1, h .2));
+}
+
+pub words-none : (t mem : List ℕ) (n : ℕ) → ((j : ℕ) → seenAt ≤ j → getD mem j 0 ≡ 0) → Words t n mem
+words-none t mem n z = record {
+  bodies = λ b r v i j e. absurd (omega (arith, z (bodiesAt + 64 * b + r) (omega arith), e));
+  rounds = λ b x k v i j h e. absurd (omega (arith, z (roundsAt + 64 * b + k) (omega arith), e));
+}
+
+pub knows-nothing : (t s cs : List ℕ) (n k h m : ℕ) → Knows t s cs n (replicate {A = ℕ} m 0) k h
+knows-nothing t s cs n k h m = record {
+  shared = alike-none t (replicate {A = ℕ} m 0) (zeros m);
+  words = words-none t (replicate {A = ℕ} m 0) n (λ j l. zeros m j);
+  heard = λ q g l r v i j b e. absurd (omega (arith, zeros m (bodiesAt + 64 * byteAt s q + r), e));
+  from = λ i x j q l a b. absurd (omega (arith, zeros m (keysAt + x), a .1, a .2));
+  right = λ i x j q l a b. absurd (omega (arith, zeros m (keysAt + x), a .1, a .2));
+}
