@@ -20,7 +20,7 @@ LEFT = {
     "table numbers in definitions": 0,
     "table numbers in laws and proofs": 0,
     "places of records in code": 15,
-    "functions with too many parameters": 14,
+    "functions with too many parameters": 3,
     "long lines in code": 1,
     "long lines in definitions": 0,
     "long lines in documents": 0,

@@ -19,7 +19,7 @@ fn begins(t: &grammar_table::Table, marks: &mut [bool], sets: &mut [[u64; 2]], e
     lake_sets::begin_all(t, marks, sets, eps);
 }
 
-// All sets of an intermediate grammar, in runs of exactly its length, and the round count of ALT.
+// All sets of an intermediate grammar, in runs of exactly its length, and the round count of ALT; `base` is room for what each expression has at once.
 pub fn analyse(
     t: &grammar_table::Table,
     marks: &mut [bool],
@@ -28,43 +28,43 @@ pub fn analyse(
     succ: &mut [[u64; 2]],
     alts: &mut [[u64; 2]],
     base: &mut [[u64; 2]],
-    next: &mut [[u64; 2]],
-    src: &mut [usize; 2048],
-    dst: &mut [usize; 2048],
 ) -> usize
-    requires { ⌜ (length (now marks) ≤ 64) × (length (now base) ≤ 1024) × (length (now sets) ≡ length (now base))
-        × (length (now eps) ≡ length (now base)) × (length (now succ) ≡ length (now base)) × (length (now alts) ≡ length (now base))
-        × (length (now next) ≡ length (now base)) ⌝ }
+    requires { ⌜ (length (now marks) ≤ 64) × (length (now sets) ≤ 1024) × (length (now eps) ≡ length (now sets))
+        × (length (now succ) ≡ length (now sets)) × (length (now alts) ≡ length (now sets)) × (length (now base) ≡ length (now sets)) ⌝ }
     ensures { λ r.
-        ⌜ Parted (now (t .entry)) (length (now (base .entry))) (length (now (marks .entry))) (now (marks .exit)) (now (sets .exit)) (now (eps .exit))
+        ⌜ Parted (now (t .entry)) (length (now (sets .entry))) (length (now (marks .entry))) (now (marks .exit)) (now (sets .exit)) (now (eps .exit))
         (now (succ .exit)) (now (alts .exit)) r ⌝ }
 {
     begins(t, marks, sets, eps);
-    let first = lake_sets::succeed_all(t, sets, eps, src, dst, base, succ, next);
-    lake_sets::alt_all(t, sets, eps, succ, src, dst, base, alts, next)
+    let first = lake_sets::succeed_all(t, sets, eps, base, succ);
+    lake_sets::alt_all(t, sets, eps, succ, base, alts)
 }
 
-// The same at the front of longer runs: n expressions, r symbols.
+// How many symbols and expressions there are.
+struct Sizes {
+    symbols: usize,
+    expressions: usize,
+}
+
+// The same at the front of longer runs.
 fn analyse_front(
     t: &grammar_table::Table,
-    n: usize,
-    r: usize,
+    all: Sizes,
     marks: &mut [bool],
     sets: &mut [[u64; 2]],
     eps: &mut [bool],
     succ: &mut [[u64; 2]],
     alts: &mut [[u64; 2]],
-    base: &mut [[u64; 2]],
-    next: &mut [[u64; 2]],
-    src: &mut [usize; 2048],
-    dst: &mut [usize; 2048],
 ) -> usize
-    requires { ⌜ (r ≤ 64) × (n ≤ 1024) × (r ≤ length (now marks)) × (n ≤ length (now sets)) × (n ≤ length (now eps)) × (n ≤ length (now succ))
-        × (n ≤ length (now alts)) × (n ≤ length (now base)) × (n ≤ length (now next)) ⌝ }
+    requires { ⌜ (all .symbols ≤ 64) × (all .expressions ≤ 1024) × (all .symbols ≤ length (now marks)) × (all .expressions ≤ length (now sets))
+        × (all .expressions ≤ length (now eps)) × (all .expressions ≤ length (now succ)) × (all .expressions ≤ length (now alts)) ⌝ }
     ensures { λ k.
-        ⌜ Parted (now (t .entry)) n r (take r (now (marks .exit))) (take n (now (sets .exit))) (take n (now (eps .exit))) (take n (now (succ .exit)))
-        (take n (now (alts .exit))) k ⌝ }
+        ⌜ Parted (now (t .entry)) (all .expressions) (all .symbols) (take (all .symbols) (now (marks .exit))) (take (all .expressions) (now (sets .exit)))
+        (take (all .expressions) (now (eps .exit))) (take (all .expressions) (now (succ .exit))) (take (all .expressions) (now (alts .exit))) k ⌝ }
 {
+    let r = all.symbols;
+    let n = all.expressions;
+    let mut base: [[u64; 2]; 1024] = [[0, 0]; 1024];
     analyse(
         t,
         &mut marks[..r],
@@ -72,10 +72,7 @@ fn analyse_front(
         &mut eps[..n],
         &mut succ[..n],
         &mut alts[..n],
-        &mut base[..n],
-        &mut next[..n],
-        src,
-        dst,
+        &mut base[0..n],
     )
 }
 
@@ -87,10 +84,6 @@ pub fn analyse_table(
     eps: &mut [bool; 1024],
     succ: &mut [[u64; 2]; 1024],
     alts: &mut [[u64; 2]; 1024],
-    base: &mut [[u64; 2]; 1024],
-    next: &mut [[u64; 2]; 1024],
-    src: &mut [usize; 2048],
-    dst: &mut [usize; 2048],
 ) -> usize
     ensures { λ k. ⌜ Fronted (now (t .entry)) (now (marks .exit)) (now (sets .exit)) (now (eps .exit)) (now (succ .exit)) (now (alts .exit)) k ⌝ }
 {
@@ -102,7 +95,11 @@ pub fn analyse_table(
     if n > 1024 {
         return 0;
     }
-    analyse_front(t, n, r, marks, sets, eps, succ, alts, base, next, src, dst)
+    let all = Sizes {
+        symbols: r,
+        expressions: n,
+    };
+    analyse_front(t, all, marks, sets, eps, succ, alts)
 }
 
 // The sets of expression e, numbered from 1, with its ε mark (01: "the three sets of an expression travel together with the ε mark").

@@ -7,10 +7,11 @@ ghost use Rattle.base_words.specs.Set.{empty, unionOf};
 ghost use Rattle.grammar_table.specs.Table.{partBy, partIn, upTo, symbolWord};
 ghost use Rattle.lake_sets.specs.Beginning.{nothing, marked, beginBy};
 ghost use Rattle.lake_sets.specs.steps.Steps.{pairAt, rootIn, Small, Tame, Begun, BegunAll, MarkedOnce, MarkedAll, kept, edgesBy, Grown};
-ghost use Rattle.lake_sets.specs.steps.Steps.{handed, succeedGiven, altGiven, Fine, Gave, Flowed, RoundsAsk};
+ghost use Rattle.lake_sets.specs.steps.Steps.{handed, succeedGiven, altGiven, Fine, Gave, Flowed, FlowedAlong, FlowedFrom, RoundsAsk};
 ghost use Rattle.lake_sets.specs.Flows.{edge as edgeTo, gift as giftTo, succeedGifts, altGifts, given, when};
 ghost use Rattle.base_rounds.specs.laws.Sys.{none, edges, Solved};
 ghost use Rattle.base_rounds.specs.laws.Pair.{Set2};
+ghost use Rattle.base_rounds.specs.laws.Flow.{Inside};
 use grammar_table::records;
 
 // The three sets of an expression, which travel together with its ε mark (01, Lakes made plain).
@@ -281,20 +282,20 @@ fn hand_on(
     from: usize,
     x: usize,
     y: usize,
-    n: usize,
 ) -> usize
     requires { ⌜ m ≤ 2046 ⌝ }
     ensures { λ r.
-        ⌜ Grown (now (src .entry)) (now (dst .entry)) m (kept n (edgeTo from x ∷ when (getD (now (eps .entry)) x false) (edgeTo from y)))
-        (now (src .exit)) (now (dst .exit)) r ⌝ }
+        ⌜ Grown (now (src .entry)) (now (dst .entry)) m
+        (kept (length (now (eps .entry))) (edgeTo from x ∷ when (getD (now (eps .entry)) x false) (edgeTo from y))) (now (src .exit)) (now (dst .exit)) r ⌝ }
 {
+    let n = eps.len();
     if flag_at(eps, x) {
         return add_two(src, dst, m, from, x, y, n);
     }
     add(src, dst, m, from, x, n)
 }
 
-// The edges of expression e: of SUCCEED where `back`, else of ALT.
+// The edges of expression e, one of as many as there are ε marks: of SUCCEED where `back`, else of ALT.
 fn hand(
     t: &grammar_table::Table,
     eps: &[bool],
@@ -303,13 +304,14 @@ fn hand(
     dst: &mut [usize; 2048],
     m: usize,
     e: usize,
-    n: usize,
 ) -> usize
     requires { ⌜ (m ≤ 2046) × (e < 1024) ⌝ }
     ensures { λ r.
         ⌜ Grown (now (src .entry)) (now (dst .entry)) m
-        (kept n (edgesBy back (pairAt [] (now (eps .entry))) (rootIn (now (t .entry))) e (partIn (now (t .entry)) e))) (now (src .exit)) (now (dst .exit)) r ⌝ }
+        (kept (length (now (eps .entry))) (edgesBy back (pairAt [] (now (eps .entry))) (rootIn (now (t .entry))) e (partIn (now (t .entry)) e)))
+        (now (src .exit)) (now (dst .exit)) r ⌝ }
 {
+    let n = eps.len();
     let k = node(t, e);
     let op = k.op;
     let l = k.left;
@@ -324,9 +326,9 @@ fn hand(
         }
         grammar_table::SEQUENCE => {
             if back {
-                return hand_on(eps, src, dst, m, e, r, l, n);
+                return hand_on(eps, src, dst, m, e, r, l);
             }
-            return hand_on(eps, src, dst, m, e, l, r, n);
+            return hand_on(eps, src, dst, m, e, l, r);
         }
         grammar_table::CHOICE => {
             return add_two(src, dst, m, e, l, r, n);
@@ -353,15 +355,16 @@ fn hand_all(
     back: bool,
     src: &mut [usize; 2048],
     dst: &mut [usize; 2048],
-    n: usize,
 ) -> usize
-    requires { ⌜ n ≤ 1024 ⌝ }
-    ensures { λ r. ⌜ (r ≤ 2048) × (edges (now (src .exit)) (now (dst .exit)) r ≡ handed (now (t .entry)) (now (eps .entry)) back n n) ⌝ }
+    requires { ⌜ length (now eps) ≤ 1024 ⌝ }
+    ensures { λ r. ⌜ (r ≤ 2048)
+        × (edges (now (src .exit)) (now (dst .exit)) r
+        ≡ handed (now (t .entry)) (now (eps .entry)) back (length (now (eps .entry))) (length (now (eps .entry)))) ⌝ }
 {
     let mut m: usize = 0;
     let mut e: usize = 0;
-    while e < n {
-        m = hand(t, eps, back, src, dst, m, e, n);
+    while e < eps.len() {
+        m = hand(t, eps, back, src, dst, m, e);
         e += 1;
     }
     m
@@ -516,26 +519,56 @@ fn rounds(
     base_rounds::solve(&src[..m], &dst[..m], base, cur, next)
 }
 
+// The same with whole arrays of edges.
+fn along(
+    src: &[usize; 2048],
+    dst: &[usize; 2048],
+    m: usize,
+    base: &[[u64; 2]],
+    cur: &mut [[u64; 2]],
+    next: &mut [[u64; 2]],
+) -> usize
+    requires { ⌜ (m ≤ 2048) × Inside (length (now base)) (edges (now src) (now dst) m) × (length (now cur) ≡ length (now base))
+        × (length (now next) ≡ length (now base)) × (length (now base) ≤ 1024) × Fine (now base) ⌝ }
+    ensures { λ r. ⌜ FlowedAlong (now (src .entry)) (now (dst .entry)) m (now (base .entry)) r (now (cur .exit)) ⌝ }
+{
+    rounds(src, dst, m, base, cur, next)
+}
+
+// Rounds along the edges of all expressions, from what each has at once: of SUCCEED where `back`, else of ALT. How many.
+fn flow(
+    t: &grammar_table::Table,
+    eps: &[bool],
+    back: bool,
+    base: &[[u64; 2]],
+    cur: &mut [[u64; 2]],
+) -> usize
+    requires { ⌜ (length (now base) ≤ 1024) × (length (now eps) ≡ length (now base)) × (length (now cur) ≡ length (now base)) × Fine (now base) ⌝ }
+    ensures { λ r. ⌜ FlowedFrom (now (t .entry)) (now (eps .entry)) back (now (base .entry)) r (now (cur .exit)) ⌝ }
+{
+    let mut src: [usize; 2048] = [0; 2048];
+    let mut dst: [usize; 2048] = [0; 2048];
+    let m = hand_all(t, eps, back, &mut src, &mut dst);
+    let mut next: [[u64; 2]; 1024] = [[0, 0]; 1024];
+    let n = base.len();
+    along(&src, &dst, m, base, cur, &mut next[0..n])
+}
+
 // Rounds of SUCCEED, of which nobody asks the count.
 pub fn succeed_all(
     t: &grammar_table::Table,
     sets: &[[u64; 2]],
     eps: &[bool],
-    src: &mut [usize; 2048],
-    dst: &mut [usize; 2048],
     base: &mut [[u64; 2]],
     cur: &mut [[u64; 2]],
-    next: &mut [[u64; 2]],
 ) -> usize
-    requires { ⌜ (length (now base) ≤ 1024) × (length (now cur) ≡ length (now base)) × (length (now next) ≡ length (now base)) ⌝ }
+    requires { ⌜ (length (now base) ≤ 1024) × (length (now eps) ≡ length (now base)) × (length (now cur) ≡ length (now base)) ⌝ }
     ensures { λ r.
         ⌜ Flowed (length (now (base .entry))) (succeedGiven (now (t .entry)) (now (sets .entry)) (length (now (base .entry))))
         (handed (now (t .entry)) (now (eps .entry)) true (length (now (base .entry))) (length (now (base .entry)))) r (now (cur .exit)) ⌝ }
 {
     succeed_base(t, sets, base);
-    let n = base.len();
-    let m = hand_all(t, eps, true, src, dst, n);
-    rounds(src, dst, m, base, cur, next)
+    flow(t, eps, true, base, cur)
 }
 
 // Rounds of ALT, and how many.
@@ -544,20 +577,15 @@ pub fn alt_all(
     sets: &[[u64; 2]],
     eps: &[bool],
     succ: &[[u64; 2]],
-    src: &mut [usize; 2048],
-    dst: &mut [usize; 2048],
     base: &mut [[u64; 2]],
     cur: &mut [[u64; 2]],
-    next: &mut [[u64; 2]],
 ) -> usize
-    requires { ⌜ (length (now base) ≤ 1024) × (length (now cur) ≡ length (now base)) × (length (now next) ≡ length (now base)) ⌝ }
+    requires { ⌜ (length (now base) ≤ 1024) × (length (now eps) ≡ length (now base)) × (length (now cur) ≡ length (now base)) ⌝ }
     ensures { λ r.
         ⌜ Flowed (length (now (base .entry)))
         (altGiven (now (t .entry)) (now (sets .entry)) (now (eps .entry)) (now (succ .entry)) (length (now (base .entry))))
         (handed (now (t .entry)) (now (eps .entry)) false (length (now (base .entry))) (length (now (base .entry)))) r (now (cur .exit)) ⌝ }
 {
     alt_base(t, sets, eps, succ, base);
-    let n = base.len();
-    let m = hand_all(t, eps, false, src, dst, n);
-    rounds(src, dst, m, base, cur, next)
+    flow(t, eps, false, base, cur)
 }

@@ -76,42 +76,45 @@ pub fn cap(m: usize) -> usize
     0
 }
 
+// Where a body's expressions stand in a table: from the first to behind the last; `end` is 0 where there is no body.
+pub struct Extent {
+    pub from: usize,
+    pub end: usize,
+}
+
 // "w is a copy of the right side of `water`, or `!.` where there is no such rule" (01, step 1).
-fn water_copy(t: &[u32], mid: &mut [u32], wa: usize, wb: usize, m: usize) -> usize
-    requires { ⌜ (wa < 4294967296) × (wb < 4294967296) × (m < 140737488355328) ⌝ }
-    ensures { λ u. ⌜ (u ≤ m + 4294967296) × WaterTo (now (t .entry)) wa wb (now (mid .entry)) m (now (mid .exit)) u ⌝ }
+fn water_copy(t: &[u32], mid: &mut [u32], water: Extent, m: usize) -> usize
+    requires { ⌜ (water .from < 4294967296) × (water .end < 4294967296) × (m < 140737488355328) ⌝ }
+    ensures { λ u. ⌜ (u ≤ m + 4294967296) × WaterTo (now (t .entry)) (water .from) (water .end) (now (mid .entry)) m (now (mid .exit)) u ⌝ }
 {
-    if wb == 0 {
+    let a = water.from;
+    let b = water.end;
+    if b == 0 {
         records::store_expression(mid, m, grammar_table::TERMINAL, 0, 0);
         let x = cap(m);
         records::store_expression(mid, m + 1, grammar_table::NEVER, x, 0);
         return m + 2;
     }
-    let k = span(wa, wb);
-    copy_run(t, mid, wa, k, m);
+    let k = span(a, b);
+    copy_run(t, mid, a, k, m);
     m + k
 }
 
 // "each lake body becomes `e / w`"; "a lake without a rule becomes `w`".
-fn lake_body(
-    t: &[u32],
-    mid: &mut [u32],
-    a: usize,
-    b: usize,
-    wa: usize,
-    wb: usize,
-    m: usize,
-) -> usize
-    requires { ⌜ (a < 4294967296) × (b < 4294967296) × (wa < 4294967296) × (wb < 4294967296) × (m < 70368744177664) ⌝ }
-    ensures { λ u. ⌜ (u ≤ m + 12884901888) × BodyTo (now (t .entry)) true a b wa wb (now (mid .entry)) m (now (mid .exit)) u ⌝ }
+fn lake_body(t: &[u32], mid: &mut [u32], own: Extent, water: Extent, m: usize) -> usize
+    requires { ⌜ (own .from < 4294967296) × (own .end < 4294967296) × (water .from < 4294967296) × (water .end < 4294967296) × (m < 70368744177664) ⌝ }
+    ensures { λ u. ⌜ (u ≤ m + 12884901888)
+        × BodyTo (now (t .entry)) true (own .from) (own .end) (water .from) (water .end) (now (mid .entry)) m (now (mid .exit)) u ⌝ }
 {
+    let a = own.from;
+    let b = own.end;
     if b == 0 {
-        return water_copy(t, mid, wa, wb, m);
+        return water_copy(t, mid, water, m);
     }
     let k = span(a, b);
     copy_run(t, mid, a, k, m);
     let q = m + k;
-    let p = water_copy(t, mid, wa, wb, q);
+    let p = water_copy(t, mid, water, q);
     let x = cap(span(1, q));
     let y = cap(span(1, p));
     records::store_expression(mid, p, grammar_table::CHOICE, x, y);
@@ -119,10 +122,13 @@ fn lake_body(
 }
 
 // A nonterminal's right side.
-fn plain_body(t: &[u32], mid: &mut [u32], a: usize, b: usize, m: usize) -> usize
-    requires { ⌜ (a < 4294967296) × (b < 4294967296) × (m < 70368744177664) ⌝ }
-    ensures { λ u. ⌜ (u ≤ m + 12884901888) × ((wa wb : ℕ) → BodyTo (now (t .entry)) false a b wa wb (now (mid .entry)) m (now (mid .exit)) u) ⌝ }
+fn plain_body(t: &[u32], mid: &mut [u32], own: Extent, m: usize) -> usize
+    requires { ⌜ (own .from < 4294967296) × (own .end < 4294967296) × (m < 70368744177664) ⌝ }
+    ensures { λ u. ⌜ (u ≤ m + 12884901888)
+        × ((wa wb : ℕ) → BodyTo (now (t .entry)) false (own .from) (own .end) wa wb (now (mid .entry)) m (now (mid .exit)) u) ⌝ }
 {
+    let a = own.from;
+    let b = own.end;
     if b == 0 {
         records::store_expression(mid, m, grammar_table::TERMINAL, 0, 0);
         return m + 1;
@@ -133,23 +139,15 @@ fn plain_body(t: &[u32], mid: &mut [u32], a: usize, b: usize, m: usize) -> usize
 }
 
 // The intermediate body of one symbol.
-fn body(
-    t: &[u32],
-    mid: &mut [u32],
-    lake: bool,
-    a: usize,
-    b: usize,
-    wa: usize,
-    wb: usize,
-    m: usize,
-) -> usize
-    requires { ⌜ (a < 4294967296) × (b < 4294967296) × (wa < 4294967296) × (wb < 4294967296) × (m < 70368744177664) ⌝ }
-    ensures { λ u. ⌜ (u ≤ m + 12884901888) × BodyTo (now (t .entry)) lake a b wa wb (now (mid .entry)) m (now (mid .exit)) u ⌝ }
+fn body(t: &[u32], mid: &mut [u32], lake: bool, own: Extent, water: Extent, m: usize) -> usize
+    requires { ⌜ (own .from < 4294967296) × (own .end < 4294967296) × (water .from < 4294967296) × (water .end < 4294967296) × (m < 70368744177664) ⌝ }
+    ensures { λ u. ⌜ (u ≤ m + 12884901888)
+        × BodyTo (now (t .entry)) lake (own .from) (own .end) (water .from) (water .end) (now (mid .entry)) m (now (mid .exit)) u ⌝ }
 {
     if lake {
-        return lake_body(t, mid, a, b, wa, wb, m);
+        return lake_body(t, mid, own, water, m);
     }
-    plain_body(t, mid, a, b, m)
+    plain_body(t, mid, own, m)
 }
 
 // How far step 1 has come in both tables.
@@ -168,22 +166,15 @@ pub fn next_from(from: usize, b: usize) -> usize
 }
 
 // The intermediate body of symbol r, its expressions from `from` on in t, behind the first m.
-fn symbol(
-    t: &[u32],
-    mid: &mut [u32],
-    r: usize,
-    wa: usize,
-    wb: usize,
-    from: usize,
-    m: usize,
-) -> Reached
-    requires { ⌜ (r < 64) × (wa < 4294967296) × (wb < 4294967296) × (from < 4294967296) × (m < 70368744177664) ⌝ }
+fn symbol(t: &[u32], mid: &mut [u32], r: usize, water: Extent, from: usize, m: usize) -> Reached
+    requires { ⌜ (r < 64) × (water .from < 4294967296) × (water .end < 4294967296) × (from < 4294967296) × (m < 70368744177664) ⌝ }
     ensures { λ u. ⌜ (u .from < 4294967296) × (u .count ≤ m + 12884901888)
-        × MadeNext (now (t .entry)) r wa wb from m (now (mid .entry)) (u .from) (u .count) (now (mid .exit)) ⌝ }
+        × MadeNext (now (t .entry)) r (water .from) (water .end) from m (now (mid .entry)) (u .from) (u .count) (now (mid .exit)) ⌝ }
 {
     let kind = records::kind(t, r);
     let b = records::body(t, r);
-    let p = body(t, mid, kind != 0, from, b, wa, wb, m);
+    let own = Extent { from: from, end: b };
+    let p = body(t, mid, kind != 0, own, water, m);
     records::store_body(mid, r, cap(p));
     let f = next_from(from, b);
     Reached { from: f, count: p }
@@ -233,24 +224,21 @@ fn pass(t: &[u32], s: usize, from: usize) -> usize
 }
 
 // The run of water's right side: from where, and its end, 0 where there is none.
-fn water(t: &[u32], r: usize) -> Reached
+fn water(t: &[u32], r: usize) -> Extent
     requires { ⌜ r ≤ 64 ⌝ }
-    ensures { λ u. ⌜ (u .from < 4294967296) × (u .count < 4294967296) × WaterAt (now (t .entry)) r (u .from) (u .count) ⌝ }
+    ensures { λ u. ⌜ (u .from < 4294967296) × (u .end < 4294967296) × WaterAt (now (t .entry)) r (u .from) (u .end) ⌝ }
 {
     let mut from: usize = 0;
     let mut s: usize = 0;
     while s < r {
         if is_water(t, s) {
             let b = records::body(t, s);
-            return Reached {
-                from: from,
-                count: b,
-            };
+            return Extent { from: from, end: b };
         }
         from = pass(t, s, from);
         s += 1;
     }
-    Reached { from: 0, count: 0 }
+    Extent { from: 0, end: 0 }
 }
 
 fn copy_word(t: &[u32], mid: &mut [u32], i: usize)
@@ -272,15 +260,15 @@ pub fn copy_low(t: &[u32], mid: &mut [u32])
 }
 
 // The bodies of the first r symbols, one behind the other: how many expressions.
-fn build(t: &[u32], mid: &mut [u32], r: usize, wa: usize, wb: usize) -> usize
-    requires { ⌜ (r ≤ 64) × (wa < 4294967296) × (wb < 4294967296) ⌝ }
-    ensures { λ u. ⌜ BuiltAll (now (t .entry)) r wa wb (now (mid .entry)) u (now (mid .exit)) ⌝ }
+fn build(t: &[u32], mid: &mut [u32], r: usize, water: Extent) -> usize
+    requires { ⌜ (r ≤ 64) × (water .from < 4294967296) × (water .end < 4294967296) ⌝ }
+    ensures { λ u. ⌜ BuiltAll (now (t .entry)) r (water .from) (water .end) (now (mid .entry)) u (now (mid .exit)) ⌝ }
 {
     let mut from: usize = 0;
     let mut m: usize = 0;
     let mut s: usize = 0;
     while s < r {
-        let u = symbol(t, mid, s, wa, wb, from, m);
+        let u = symbol(t, mid, s, water, from, m);
         from = u.from;
         m = u.count;
         s += 1;
@@ -298,9 +286,7 @@ pub fn step_one(t: &grammar_table::Table, mid: &mut grammar_table::Table) -> usi
     }
     copy_low(t, mid);
     let w = water(t, r);
-    let a = w.from;
-    let b = w.count;
-    let m = build(t, mid, r, a, b);
+    let m = build(t, mid, r, w);
     base_words::put(mid, 2, cap(m));
     if m > 1024 {
         return 1025;

@@ -7,6 +7,7 @@ ghost use Rattle.lake_step_one.specs.steps.Made.{lakeAt};
 ghost use Rattle.lake_step_two.specs.steps.Skips.{Added, AddedSymbol, AddedTerminal, AddedSymbols, AddedTerminals, ChoiceTo, SkipTo, PlainTo};
 ghost use Rattle.lake_step_two.specs.steps.Stepped.{PlainNext, PlainAll, SteppedTwo};
 use grammar_table::records;
+use lake_step_one::Extent;
 
 // One alternative more, behind the first m; the choice that ends there began at o, and there is none where m is o (01, step 2: `s1 / .. / sn`).
 fn add(out: &mut [u32], op: usize, x: usize, o: usize, m: usize) -> usize
@@ -113,20 +114,22 @@ fn skip(t: &[u32], out: &mut [u32], s: [u64; 2], r: usize, x: usize, m: usize) -
     p + 3
 }
 
+// How many symbols and terminals there are to choose from.
+struct Sizes {
+    symbols: usize,
+    terminals: usize,
+}
+
 // "Lake body b becomes `b / !(s1 / .. / sn) .`"
-fn lake_body(
-    t: &[u32],
-    out: &mut [u32],
-    s: [u64; 2],
-    r: usize,
-    x: usize,
-    a: usize,
-    b: usize,
-    m: usize,
-) -> usize
-    requires { ⌜ (r ≤ 64) × (x ≤ 64) × (a < 4294967296) × (b < 4294967296) × (m < 70364449210368) ⌝ }
-    ensures { λ u. ⌜ (u ≤ m + 4294967556) × PlainTo (now (t .entry)) true s r x a b (now (out .entry)) m (now (out .exit)) u ⌝ }
+fn lake_body(t: &[u32], out: &mut [u32], s: [u64; 2], among: Sizes, own: Extent, m: usize) -> usize
+    requires { ⌜ (among .symbols ≤ 64) × (among .terminals ≤ 64) × (own .from < 4294967296) × (own .end < 4294967296) × (m < 70364449210368) ⌝ }
+    ensures { λ u. ⌜ (u ≤ m + 4294967556)
+        × PlainTo (now (t .entry)) true s (among .symbols) (among .terminals) (own .from) (own .end) (now (out .entry)) m (now (out .exit)) u ⌝ }
 {
+    let r = among.symbols;
+    let x = among.terminals;
+    let a = own.from;
+    let b = own.end;
     let k = lake_step_one::span(a, b);
     lake_step_one::copy_run(t, out, a, k, m);
     let q = m + k;
@@ -143,18 +146,19 @@ fn body(
     out: &mut [u32],
     lake: bool,
     s: [u64; 2],
-    r: usize,
-    x: usize,
-    a: usize,
-    b: usize,
+    among: Sizes,
+    own: Extent,
     m: usize,
 ) -> usize
-    requires { ⌜ (r ≤ 64) × (x ≤ 64) × (a < 4294967296) × (b < 4294967296) × (m < 70364449210368) ⌝ }
-    ensures { λ u. ⌜ (u ≤ m + 4294967556) × PlainTo (now (t .entry)) lake s r x a b (now (out .entry)) m (now (out .exit)) u ⌝ }
+    requires { ⌜ (among .symbols ≤ 64) × (among .terminals ≤ 64) × (own .from < 4294967296) × (own .end < 4294967296) × (m < 70364449210368) ⌝ }
+    ensures { λ u. ⌜ (u ≤ m + 4294967556)
+        × PlainTo (now (t .entry)) lake s (among .symbols) (among .terminals) (own .from) (own .end) (now (out .entry)) m (now (out .exit)) u ⌝ }
 {
     if lake {
-        return lake_body(t, out, s, r, x, a, b, m);
+        return lake_body(t, out, s, among, own, m);
     }
+    let a = own.from;
+    let b = own.end;
     let k = lake_step_one::span(a, b);
     lake_step_one::copy_run(t, out, a, k, m);
     m + k
@@ -165,36 +169,37 @@ fn symbol(
     t: &[u32],
     alts: &[[u64; 2]],
     out: &mut [u32],
-    r: usize,
-    x: usize,
+    among: Sizes,
     s: usize,
     from: usize,
     m: usize,
 ) -> lake_step_one::Reached
-    requires { ⌜ (r ≤ 64) × (x ≤ 64) × (s < 64) × (from < 4294967296) × (m < 70364449210368) ⌝ }
+    requires { ⌜ (among .symbols ≤ 64) × (among .terminals ≤ 64) × (s < 64) × (from < 4294967296) × (m < 70364449210368) ⌝ }
     ensures { λ u. ⌜ (u .from < 4294967296) × (u .count ≤ m + 4294967556)
-        × PlainNext (now (t .entry)) (now (alts .entry)) r x s from m (now (out .entry)) (u .from) (u .count) (now (out .exit)) ⌝ }
+        × PlainNext (now (t .entry)) (now (alts .entry)) (among .symbols) (among .terminals) s from m (now (out .entry)) (u .from) (u .count)
+        (now (out .exit)) ⌝ }
 {
     let kind = records::kind(t, s);
     let b = records::body(t, s);
     let e = lake_step_one::span(1, b);
     let alt = lake_sets::set_at(alts, e);
-    let p = body(t, out, kind != 0, alt, r, x, from, b, m);
+    let own = Extent { from: from, end: b };
+    let p = body(t, out, kind != 0, alt, among, own, m);
     records::store_body(out, s, lake_step_one::cap(p));
     let f = lake_step_one::next_from(from, b);
     lake_step_one::Reached { from: f, count: p }
 }
 
 // The plain bodies of the first r symbols, one behind the other: how many expressions.
-fn build(t: &[u32], alts: &[[u64; 2]], out: &mut [u32], r: usize, x: usize) -> usize
-    requires { ⌜ (r ≤ 64) × (x ≤ 64) ⌝ }
-    ensures { λ u. ⌜ PlainAll (now (t .entry)) (now (alts .entry)) r x (now (out .entry)) u (now (out .exit)) ⌝ }
+fn build(t: &[u32], alts: &[[u64; 2]], out: &mut [u32], among: Sizes) -> usize
+    requires { ⌜ (among .symbols ≤ 64) × (among .terminals ≤ 64) ⌝ }
+    ensures { λ u. ⌜ PlainAll (now (t .entry)) (now (alts .entry)) (among .symbols) (among .terminals) (now (out .entry)) u (now (out .exit)) ⌝ }
 {
     let mut from: usize = 0;
     let mut m: usize = 0;
     let mut s: usize = 0;
-    while s < r {
-        let u = symbol(t, alts, out, r, x, s, from, m);
+    while s < among.symbols {
+        let u = symbol(t, alts, out, among, s, from, m);
         from = u.from;
         m = u.count;
         s += 1;
@@ -220,7 +225,11 @@ pub fn step_two(
         return 1025;
     }
     lake_step_one::copy_low(t, out);
-    let m = build(t, alts, out, r, x);
+    let among = Sizes {
+        symbols: r,
+        terminals: x,
+    };
+    let m = build(t, alts, out, among);
     base_words::put(out, 2, lake_step_one::cap(m));
     if m > 1024 {
         return 1025;

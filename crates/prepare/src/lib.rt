@@ -106,22 +106,7 @@ fn translate(
             rounds: 0,
         };
     }
-    let mut base: [[u64; 2]; 1024] = [[0, 0]; 1024];
-    let mut next: [[u64; 2]; 1024] = [[0, 0]; 1024];
-    let mut src: [usize; 2048] = [0; 2048];
-    let mut dst: [usize; 2048] = [0; 2048];
-    let k = lake_analysis::analyse_table(
-        mid,
-        marks,
-        sets,
-        eps,
-        succ,
-        alts,
-        &mut base,
-        &mut next,
-        &mut src,
-        &mut dst,
-    );
+    let k = lake_analysis::analyse_table(mid, marks, sets, eps, succ, alts);
     let m = lake_step_two::step_two(mid, alts, out);
     Translation {
         expressions: m,

@@ -34,17 +34,16 @@ analyse-front-requires c κs = search needs
 returns-3 : tie.Need-returns-3
 returns-3 c = λ g h p.
     let A = c .analyse-front .last in
-    subst (λ (n : ℕ). Analysed (analysis g) (take (getD
-    (c .before .before .before .before .before .before .before .before .before .before .before .before .before .before .before .before .args .t .now) 0 0) (A .1 .1 .1 .0)) (take n
-    (A .1 .1 .1 .1 .0)) (take n (A .1 .1 .1 .1 .1 .0)) (take n (A .1 .1 .1 .1 .1 .1 .0)) (take n (A .1 .1 .1 .1 .1 .1 .1 .0)) (c .analyse-front .result))
-    (c .before .before .before .before .before .before .before .before .before .before .before .before .expressions .ensures .0)
-    (subst (λ (r : ℕ). Analysed (analysis g) (take r (A .1 .1 .1 .0)) (take (c .before .before .before .before .before .before .before .before .before .before .before .before .expressions .result)
-    (A .1 .1 .1 .1 .0)) (take (c .before .before .before .before .before .before .before .before .before .before .before .before .expressions .result) (A .1 .1 .1 .1 .1 .0)) (take
-    (c .before .before .before .before .before .before .before .before .before .before .before .before .expressions .result) (A .1 .1 .1 .1 .1 .1 .0)) (take
-    (c .before .before .before .before .before .before .before .before .before .before .before .before .expressions .result) (A .1 .1 .1 .1 .1 .1 .1 .0)) (c .analyse-front .result))
-    (c .before .before .before .before .before .before .before .before .before .before .before .before .before .before .symbols .ensures .0)
-    (c .analyse-front .ensures g h p (c .before .before .before .before .before .before .before .before .before .before .before .before .expressions .ensures .0)
-    (c .before .before .before .before .before .before .before .before .before .before .before .before .before .before .symbols .ensures .0)))
+    subst (λ (n : ℕ). Analysed (analysis g) (take (getD (c .before .before .before .before .before .before .before .before .before .before .before .before .args .t .now) 0 0) (A .1 .1 .0)) (take n
+    (A .1 .1 .1 .0)) (take n (A .1 .1 .1 .1 .0)) (take n (A .1 .1 .1 .1 .1 .0)) (take n (A .1 .1 .1 .1 .1 .1 .0)) (c .analyse-front .result))
+    (c .before .before .before .before .before .before .before .before .expressions .ensures .0) (subst (λ (r : ℕ). Analysed (analysis g) (take r (A .1 .1 .0)) (take
+    (c .before .before .before .before .before .before .before .before .expressions .result) (A .1 .1 .1 .0)) (take
+    (c .before .before .before .before .before .before .before .before .expressions .result) (A .1 .1 .1 .1 .0)) (take
+    (c .before .before .before .before .before .before .before .before .expressions .result) (A .1 .1 .1 .1 .1 .0)) (take
+    (c .before .before .before .before .before .before .before .before .expressions .result) (A .1 .1 .1 .1 .1 .1 .0)) (c .analyse-front .result))
+    (c .before .before .before .before .before .before .before .before .before .before .symbols .ensures .0) (c .analyse-front .ensures g h p
+    (c .before .before .before .before .before .before .before .before .expressions .ensures .0)
+    (c .before .before .before .before .before .before .before .before .before .before .symbols .ensures .0)))
 
 pub analyse-table-spec : {M : Type 1} → statement M
 analyse-table-spec =

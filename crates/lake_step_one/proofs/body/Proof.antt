@@ -29,7 +29,11 @@ same-length-2 : tie.Need-same-length-2
 same-length-2 c = search needs
 
 returns-2 : tie.Need-returns-2
-returns-2 c = rw (c .before .before .before .before .if1 .left) (c .before .before .plain-body .ensures .0, c .before .before .plain-body .ensures .1 (c .before .before .before .before .before .before .before .args .wa) (c .before .before .before .before .before .before .before .args .wb))
+returns-2 c = rw (c .before .before .before .before .if1 .left) (
+  c .before .before .plain-body .ensures .0,
+  c .before .before .plain-body .ensures .1
+      (c .before .before .before .before .before .before .before .args .water .from) (c .before .before .before .before .before .before .before .args .water .end),
+)
 
 pub body-spec : {M : Type 1} → statement M
 body-spec =

@@ -26,9 +26,9 @@ returns : tie.Need-returns
 returns c = (
   omega (arith, c .before .before .water-copy .ensures .0),
   lake-none (c .before .before .before .before .before .before .before .args .t .now)
-      (c .before .before .before .before .before .before .before .args .mid .now) (c .before .before .before .before .before .before .before .args .a)
-      (c .before .before .before .before .before .before .before .args .b) (c .before .before .before .before .before .before .before .args .wa)
-      (c .before .before .before .before .before .before .before .args .wb) (c .before .before .before .before .before .before .before .args .m) (c .before .before .water-copy .last .1 .0)
+      (c .before .before .before .before .before .before .before .args .mid .now) (c .before .before .before .before .before .before .before .args .own .from)
+      (c .before .before .before .before .before .before .before .args .own .end) (c .before .before .before .before .before .before .before .args .water .from)
+      (c .before .before .before .before .before .before .before .args .water .end) (c .before .before .before .before .before .before .before .args .m) (c .before .before .water-copy .last .1 .0)
       (c .before .before .water-copy .result) (c .before .before .before .before .if1 .taken) (c .before .before .water-copy .ensures .1),
 )
 
@@ -74,10 +74,10 @@ returns-2 c = (
   ),
   lake-some (c .before .before .before .before .before .before .before .before .before .before .before .before .before .before .before .before .before .before .before .before .args .t .now)
       (c .before .before .before .before .before .before .before .before .before .before .before .before .before .before .before .before .before .before .before .before .args .mid .now)
-      (c .before .before .before .before .before .before .before .before .before .before .before .before .before .before .before .before .before .before .before .before .args .a)
-      (c .before .before .before .before .before .before .before .before .before .before .before .before .before .before .before .before .before .before .before .before .args .b)
-      (c .before .before .before .before .before .before .before .before .before .before .before .before .before .before .before .before .before .before .before .before .args .wa)
-      (c .before .before .before .before .before .before .before .before .before .before .before .before .before .before .before .before .before .before .before .before .args .wb)
+      (c .before .before .before .before .before .before .before .before .before .before .before .before .before .before .before .before .before .before .before .before .args .own .from)
+      (c .before .before .before .before .before .before .before .before .before .before .before .before .before .before .before .before .before .before .before .before .args .own .end)
+      (c .before .before .before .before .before .before .before .before .before .before .before .before .before .before .before .before .before .before .before .before .args .water .from)
+      (c .before .before .before .before .before .before .before .before .before .before .before .before .before .before .before .before .before .before .before .before .args .water .end)
       (c .before .before .before .before .before .before .before .before .before .before .before .before .before .before .before .before .before .before .before .before .args .m)
       (c .before .before .before .before .before .before .before .before .before .before .before .before .before .before .copy-run .last .1 .0)
       (c .before .before .before .before .before .before .before .before .before .before .water-copy2 .last .1 .0) (c .before .before .store-expression .last .0)
@@ -87,8 +87,7 @@ returns-2 c = (
       (c .before .before .before .before .before .before .before .before .before .before .before .before .before .before .before .before .before .if1 .left)
       (c .before .before .before .before .before .before .before .before .before .before .before .before .before .before .before .before .span .ensures)
       (c .before .before .before .before .before .before .before .before .before .before .before .before .before .before .copy-run .ensures)
-      (c .before .before .before .before .before .before .before .before .before .before .water-copy2 .ensures .1)
-      (λ h. c .before .before .before .before .before .before .cap .ensures .1 (omega
+      (c .before .before .before .before .before .before .before .before .before .before .water-copy2 .ensures .1) (λ h. c .before .before .before .before .before .before .cap .ensures .1 (omega
       (arith, c .before .before .before .before .before .before .before .span2 .ensures)) ∙ c .before .before .before .before .before .before .before .span2 .ensures)
       (λ h. c .before .before .before .before .cap2 .ensures .1 (omega
       (arith, c .before .before .before .before .before .span3 .ensures)) ∙ c .before .before .before .before .before .span3 .ensures) (c .before .before .store-expression .ensures),

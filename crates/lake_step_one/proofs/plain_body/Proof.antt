@@ -27,7 +27,7 @@ returns : tie.Need-returns
 returns c = (
   omega arith,
   λ wa wb. plain-none (c .before .before .before .before .before .before .before .args .t .now) (c .before .before .before .before .before .before .before .args .mid .now)
-      (c .before .before .before .before .before .before .before .args .a) (c .before .before .before .before .before .before .before .args .b) wa wb
+      (c .before .before .before .before .before .before .before .args .own .from) (c .before .before .before .before .before .before .before .args .own .end) wa wb
       (c .before .before .before .before .before .before .before .args .m) (c .before .before .store-expression .last .0) (c .before .before .before .before .if1 .taken)
       (c .before .before .store-expression .ensures),
 )
@@ -48,8 +48,8 @@ returns-2 : tie.Need-returns-2
 returns-2 c = (
   omega (arith, c .before .before .before .before .span .ensures),
   λ wa wb. plain-some (c .before .before .before .before .before .before .before .before .args .t .now)
-      (c .before .before .before .before .before .before .before .before .args .mid .now) (c .before .before .before .before .before .before .before .before .args .a)
-      (c .before .before .before .before .before .before .before .before .args .b) wa wb (c .before .before .before .before .before .before .before .before .args .m)
+      (c .before .before .before .before .before .before .before .before .args .mid .now) (c .before .before .before .before .before .before .before .before .args .own .from)
+      (c .before .before .before .before .before .before .before .before .args .own .end) wa wb (c .before .before .before .before .before .before .before .before .args .m)
       (c .before .before .copy-run .last .1 .0) (c .before .before .before .before .span .result) (c .before .before .before .before .before .if1 .left)
       (c .before .before .before .before .span .ensures) (c .before .before .copy-run .ensures),
 )

@@ -43,7 +43,7 @@ returns-2 c = stepped (c .before .before .before .before .before .before .before
     (c .before .before .before .before .before .before .before .before .before .before .before .before .before .before .before .args .mid .now)
     (c .before .before .before .before .before .before .before .before .before .copy-low .last .1 .0) (c .before .before .before .before .build .last .1 .0) (c .before .put .last .0)
     (c .before .before .before .before .before .before .before .before .before .before .before .before .before .symbols .result)
-    (c .before .before .before .before .before .before .before .water .result .from) (c .before .before .before .before .before .before .before .water .result .count)
+    (c .before .before .before .before .before .before .before .water .result .from) (c .before .before .before .before .before .before .before .water .result .end)
     (c .before .before .before .before .build .result) (c .before .before .cap .result) 1025
     (c .before .before .before .before .before .before .before .before .before .before .before .before .before .symbols .ensures .0) (omega arith) (omega
     (arith, c .before .before .before .before .before .before .before .before .before .copy-low .kept))
@@ -55,7 +55,7 @@ returns-3 c = stepped (c .before .before .before .before .before .before .before
     (c .before .before .before .before .before .before .before .before .before .before .before .before .before .before .before .args .mid .now)
     (c .before .before .before .before .before .before .before .before .before .copy-low .last .1 .0) (c .before .before .before .before .build .last .1 .0) (c .before .put .last .0)
     (c .before .before .before .before .before .before .before .before .before .before .before .before .before .symbols .result)
-    (c .before .before .before .before .before .before .before .water .result .from) (c .before .before .before .before .before .before .before .water .result .count)
+    (c .before .before .before .before .before .before .before .water .result .from) (c .before .before .before .before .before .before .before .water .result .end)
     (c .before .before .before .before .build .result) (c .before .before .cap .result) (c .before .before .before .before .build .result)
     (c .before .before .before .before .before .before .before .before .before .before .before .before .before .symbols .ensures .0) (omega arith) (omega
     (arith, c .before .before .before .before .before .before .before .before .before .copy-low .kept))

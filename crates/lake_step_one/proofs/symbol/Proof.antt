@@ -54,29 +54,29 @@ returns c = (
   c .before .before .before .before .before .before .before .before .body2 .ensures .0,
   λ g h z l w old. subst (λ (f : ℕ). Made (c .before .before .before .before .before .before .before .before .before .before .before .before .before .before .args .t .now) g
       (c .before .before .before .before .before .before .before .before .before .before .before .before .before .before .args .r + 1) f
-      (c .before .before .before .before .before .before .before .before .body2 .result) (c .before .before .before .store-body .last .0)) (sym (c .next-from .ensures))
-      (made-next (c .before .before .before .before .before .before .before .before .before .before .before .before .before .before .args .t .now)
+      (c .before .before .before .before .before .before .before .before .body2 .result) (c .before .before .before .store-body .last .0)) (sym (c .next-from .ensures)) (made-next
+      (c .before .before .before .before .before .before .before .before .before .before .before .before .before .before .args .t .now)
       (c .before .before .before .before .before .before .before .before .before .before .before .before .before .before .args .r)
-      (c .before .before .before .before .before .before .before .before .before .before .before .before .before .before .args .wa)
-      (c .before .before .before .before .before .before .before .before .before .before .before .before .before .before .args .wb)
+      (c .before .before .before .before .before .before .before .before .before .before .before .before .before .before .args .water .from)
+      (c .before .before .before .before .before .before .before .before .before .before .before .before .before .before .args .water .end)
       (c .before .before .before .before .before .before .before .before .before .before .before .before .before .before .args .from)
       (c .before .before .before .before .before .before .before .before .before .before .before .before .before .before .args .m)
       (c .before .before .before .before .before .before .before .before .before .before .body .result) (c .before .before .before .before .before .before .before .before .body2 .result)
       (c .before .before .before .before .cap .result) (c .before .before .before .before .before .before .before .before .before .before .before .before .before .before .args .mid .now)
       (c .before .before .before .before .before .before .before .before .body2 .last .1 .0) (c .before .before .before .store-body .last .0)
       (c .before .before .before .before .before .before .before .before .before .before .before .before .before .before .pre .0)
-      (c .before .before .before .before .before .before .before .before .before .before .body .ensures .0)
-      (subst (λ (b : Bool). BodyTo (c .before .before .before .before .before .before .before .before .before .before .before .before .before .before .args .t .now) b
+      (c .before .before .before .before .before .before .before .before .before .before .body .ensures .0) (subst (λ (b : Bool). BodyTo
+      (c .before .before .before .before .before .before .before .before .before .before .before .before .before .before .args .t .now) b
       (c .before .before .before .before .before .before .before .before .before .before .before .before .before .before .args .from)
       (c .before .before .before .before .before .before .before .before .before .before .body .result)
-      (c .before .before .before .before .before .before .before .before .before .before .before .before .before .before .args .wa)
-      (c .before .before .before .before .before .before .before .before .before .before .before .before .before .before .args .wb)
+      (c .before .before .before .before .before .before .before .before .before .before .before .before .before .before .args .water .from)
+      (c .before .before .before .before .before .before .before .before .before .before .before .before .before .before .args .water .end)
       (c .before .before .before .before .before .before .before .before .before .before .before .before .before .before .args .mid .now)
       (c .before .before .before .before .before .before .before .before .before .before .before .before .before .before .args .m)
-      (c .before .before .before .before .before .before .before .before .body2 .last .1 .0) (c .before .before .before .before .before .before .before .before .body2 .result)) (ap (λ
-      (k : ℕ). not (eqb k 0)) (c .before .before .before .before .before .before .before .before .before .before .before .kind .ensures .0))
-      (c .before .before .before .before .before .before .before .before .body2 .ensures .1))
-      (c .before .before .before .before .cap .ensures .1) (c .before .before .before .store-body .ensures) g h z l w old),
+      (c .before .before .before .before .before .before .before .before .body2 .last .1 .0) (c .before .before .before .before .before .before .before .before .body2 .result)) (ap (λ (k : ℕ). not
+      (eqb k 0)) (c .before .before .before .before .before .before .before .before .before .before .before .kind .ensures .0))
+      (c .before .before .before .before .before .before .before .before .body2 .ensures .1)) (c .before .before .before .before .cap .ensures .1)
+      (c .before .before .before .store-body .ensures) g h z l w old),
 )
 
 pub symbol-spec : {M : Type 1} → statement M

@@ -38,8 +38,8 @@ returns c = (
   omega arith,
   water-none (c .before .before .before .before .before .before .before .before .before .before .before .before .args .t .now)
       (c .before .before .before .before .before .before .before .before .before .before .before .before .args .mid .now)
-      (c .before .before .before .before .before .before .before .before .before .before .before .before .args .wa)
-      (c .before .before .before .before .before .before .before .before .before .before .before .before .args .wb)
+      (c .before .before .before .before .before .before .before .before .before .before .before .before .args .water .from)
+      (c .before .before .before .before .before .before .before .before .before .before .before .before .args .water .end)
       (c .before .before .before .before .before .before .before .before .before .before .before .before .args .m)
       (c .before .before .before .before .before .before .before .store-expression .last .0) (c .before .before .store-expression2 .last .0) (c .before .before .before .before .cap .result)
       (c .before .before .before .before .before .before .before .before .before .if1 .taken) (c .before .before .before .before .before .before .before .store-expression .ensures)
@@ -62,8 +62,8 @@ returns-2 : tie.Need-returns-2
 returns-2 c = (
   omega (arith, c .before .before .before .before .span .ensures),
   water-some (c .before .before .before .before .before .before .before .before .args .t .now)
-      (c .before .before .before .before .before .before .before .before .args .mid .now) (c .before .before .before .before .before .before .before .before .args .wa)
-      (c .before .before .before .before .before .before .before .before .args .wb) (c .before .before .before .before .before .before .before .before .args .m)
+      (c .before .before .before .before .before .before .before .before .args .mid .now) (c .before .before .before .before .before .before .before .before .args .water .from)
+      (c .before .before .before .before .before .before .before .before .args .water .end) (c .before .before .before .before .before .before .before .before .args .m)
       (c .before .before .copy-run .last .1 .0) (c .before .before .before .before .span .result) (c .before .before .before .before .before .if1 .left)
       (c .before .before .before .before .span .ensures) (c .before .before .copy-run .ensures),
 )

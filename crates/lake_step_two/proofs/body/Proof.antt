@@ -37,7 +37,16 @@ same-length-2 : tie.Need-same-length-2
 same-length-2 c = search needs
 
 returns-2 : tie.Need-returns-2
-returns-2 c = rw (c .before .before .before .before .before .if1 .left) (omega (arith, c .before .before .before .before .span .ensures), plain-other (c .before .before .before .before .before .before .before .before .args .t .now) (c .before .before .before .before .before .before .before .before .args .s) (c .before .before .before .before .before .before .before .before .args .r) (c .before .before .before .before .before .before .before .before .args .x) (c .before .before .before .before .before .before .before .before .args .a) (c .before .before .before .before .before .before .before .before .args .b) (c .before .before .before .before .before .before .before .before .args .m) (c .before .before .before .before .span .result) (c .before .before .before .before .before .before .before .before .args .out .now) (c .before .before .copy-run .last .1 .0) (c .before .before .before .before .span .ensures) (c .before .before .copy-run .ensures))
+returns-2 c = rw (c .before .before .before .before .before .if1 .left) (
+  omega (arith, c .before .before .before .before .span .ensures),
+  plain-other
+      (c .before .before .before .before .before .before .before .before .args .t .now) (c .before .before .before .before .before .before .before .before .args .s)
+      (c .before .before .before .before .before .before .before .before .args .among .symbols) (c .before .before .before .before .before .before .before .before .args .among .terminals)
+      (c .before .before .before .before .before .before .before .before .args .own .from) (c .before .before .before .before .before .before .before .before .args .own .end)
+      (c .before .before .before .before .before .before .before .before .args .m) (c .before .before .before .before .span .result)
+      (c .before .before .before .before .before .before .before .before .args .out .now) (c .before .before .copy-run .last .1 .0) (c .before .before .before .before .span .ensures)
+      (c .before .before .copy-run .ensures),
+)
 
 pub body-spec : {M : Type 1} → statement M
 body-spec =

@@ -61,11 +61,11 @@ returns c = (
   c .before .before .before .before .before .before .before .before .body2 .ensures .0,
   λ g a er ex l old. subst (λ (f : ℕ). PlainMade (c .before .before .before .before .before .before .before .before .before .before .before .before .before .before .before .before .args .t .now) g
       (c .before .before .before .before .before .before .before .before .before .before .before .before .before .before .before .before .args .s + 1) f
-      (c .before .before .before .before .before .before .before .before .body2 .result) (c .before .before .before .store-body .last .0)) (sym (c .next-from .ensures))
-      (plain-next (c .before .before .before .before .before .before .before .before .before .before .before .before .before .before .before .before .args .t .now)
+      (c .before .before .before .before .before .before .before .before .body2 .result) (c .before .before .before .store-body .last .0)) (sym (c .next-from .ensures)) (plain-next
+      (c .before .before .before .before .before .before .before .before .before .before .before .before .before .before .before .before .args .t .now)
       (c .before .before .before .before .before .before .before .before .before .before .before .before .before .before .before .before .args .alts .now)
-      (c .before .before .before .before .before .before .before .before .before .before .before .before .before .before .before .before .args .r)
-      (c .before .before .before .before .before .before .before .before .before .before .before .before .before .before .before .before .args .x)
+      (c .before .before .before .before .before .before .before .before .before .before .before .before .before .before .before .before .args .among .symbols)
+      (c .before .before .before .before .before .before .before .before .before .before .before .before .before .before .before .before .args .among .terminals)
       (c .before .before .before .before .before .before .before .before .before .before .before .before .before .before .before .before .args .s)
       (c .before .before .before .before .before .before .before .before .before .before .before .before .before .before .before .before .args .from)
       (c .before .before .before .before .before .before .before .before .before .before .before .before .before .before .before .before .args .m)
@@ -78,19 +78,19 @@ returns c = (
       (c .before .before .before .before .before .before .before .before .before .before .before .before .body .ensures .0)
       (c .before .before .before .before .before .before .before .before .before .before .set-at .ensures ∙ ap (λ (i : ℕ). getD
       (c .before .before .before .before .before .before .before .before .before .before .before .before .before .before .before .before .args .alts .now) i empty)
-      (c .before .before .before .before .before .before .before .before .before .before .before .span .ensures))
-      (subst (λ (k : Bool). PlainTo (c .before .before .before .before .before .before .before .before .before .before .before .before .before .before .before .before .args .t .now) k
+      (c .before .before .before .before .before .before .before .before .before .before .before .span .ensures)) (subst (λ (k : Bool). PlainTo
+      (c .before .before .before .before .before .before .before .before .before .before .before .before .before .before .before .before .args .t .now) k
       (c .before .before .before .before .before .before .before .before .before .before .set-at .result)
-      (c .before .before .before .before .before .before .before .before .before .before .before .before .before .before .before .before .args .r)
-      (c .before .before .before .before .before .before .before .before .before .before .before .before .before .before .before .before .args .x)
+      (c .before .before .before .before .before .before .before .before .before .before .before .before .before .before .before .before .args .among .symbols)
+      (c .before .before .before .before .before .before .before .before .before .before .before .before .before .before .before .before .args .among .terminals)
       (c .before .before .before .before .before .before .before .before .before .before .before .before .before .before .before .before .args .from)
       (c .before .before .before .before .before .before .before .before .before .before .before .before .body .result)
       (c .before .before .before .before .before .before .before .before .before .before .before .before .before .before .before .before .args .out .now)
       (c .before .before .before .before .before .before .before .before .before .before .before .before .before .before .before .before .args .m)
-      (c .before .before .before .before .before .before .before .before .body2 .last .1 .0) (c .before .before .before .before .before .before .before .before .body2 .result)) (ap (λ
-      (k : ℕ). not (eqb k 0)) (c .before .before .before .before .before .before .before .before .before .before .before .before .before .kind .ensures .0))
-      (c .before .before .before .before .before .before .before .before .body2 .ensures .1))
-      (c .before .before .before .before .cap .ensures .1) (c .before .before .before .store-body .ensures) g a er ex l old),
+      (c .before .before .before .before .before .before .before .before .body2 .last .1 .0) (c .before .before .before .before .before .before .before .before .body2 .result)) (ap (λ (k : ℕ). not
+      (eqb k 0)) (c .before .before .before .before .before .before .before .before .before .before .before .before .before .kind .ensures .0))
+      (c .before .before .before .before .before .before .before .before .body2 .ensures .1)) (c .before .before .before .before .cap .ensures .1)
+      (c .before .before .before .store-body .ensures) g a er ex l old),
 )
 
 pub symbol-spec : {M : Type 1} → statement M

@@ -80,5 +80,5 @@ SkipTo t s r x mid m mid′ m′ =
 -- the plain body of a symbol whose intermediate body is the run from a to b
 abbrev pub PlainTo : List ℕ → Bool → List ℕ → ℕ → ℕ → ℕ → ℕ → List ℕ → ℕ → List ℕ → ℕ → Type 0
 PlainTo t isLake s r x a b mid m mid′ m′ =
-    (number : Leaf → ℕ) (leaf : ℕ → Leaf) (e : Exp ℕ) → Numbered number leaf x → number any ≡ 0 → length mid ≡ tableWords → b ≡ a + size e → Run number t a e
-    → Grew mid m (partsOf number m (plainBy isLake e (chosenIn t leaf s r x))) mid′ m′
+    (number : Leaf → ℕ) (leaf : ℕ → Leaf) (e : Exp ℕ) → Numbered number leaf x → number any ≡ 0 → length mid ≡ tableWords → b ≡ a + size e
+    → Run number t a e → Grew mid m (partsOf number m (plainBy isLake e (chosenIn t leaf s r x))) mid′ m′

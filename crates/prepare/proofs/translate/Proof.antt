@@ -23,7 +23,11 @@ step-two-requires : tie.Need-step-two-requires
 step-two-requires c κs = search needs
 
 returns-2 : tie.Need-returns-2
-returns-2 c = translates (c .before .before .before .before .before .before .before .before .before .before .before .before .before .before .before .before .before .before .args .t .now) _ _ _ _ _ _ _ (c .before .before .before .before .before .before .before .before .before .before .before .before .before .before .before .before .step-one .result) (c .before .before .before .before .before .before .before .before .before .before .before .before .before .before .before .before .step-one .ensures) (c .step-two .result) (c .before .before .before .before .analyse-table .result) (omega (arith, c .before .before .before .before .before .before .before .before .before .before .before .before .before .before .before .if1 .left)) (c .before .before .before .before .analyse-table .ensures) (c .step-two .ensures)
+returns-2 c = translates (c .before .before .before .before .before .before .before .before .before .before .before .before .before .before .args .t .now) _ _ _ _ _ _ _
+    (c .before .before .before .before .before .before .before .before .before .before .before .before .step-one .result)
+    (c .before .before .before .before .before .before .before .before .before .before .before .before .step-one .ensures) (c .step-two .result)
+    (c .before .before .before .before .analyse-table .result) (omega (arith, c .before .before .before .before .before .before .before .before .before .before .before .if1 .left))
+    (c .before .before .before .before .analyse-table .ensures) (c .step-two .ensures)
 
 pub translate-spec : {M : Type 1} → statement M
 translate-spec =
