@@ -2,6 +2,7 @@
 pub mod Stores
 pub mod Shifts
 pub mod Bodies
+pub mod Held
 pub mod Next
 pub mod Water
 pub mod Final

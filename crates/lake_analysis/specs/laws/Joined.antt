@@ -10,7 +10,9 @@ use Rattle.base_words.specs.Set.{empty}
 use Rattle.grammar_table.specs.Table.{symbolCount, expressionCount}
 use Rattle.grammar.specs.Numbers.{Grammar}
 use Rattle.lake_sets.specs.steps.Steps.{Tame, marksIn, BegunAll, Flowed, succeedGiven, altGiven, handed}
-use Rattle.lake_sets.specs.laws.Told.{told, tame, symbols-is}
+use Rattle.lake_sets.specs.laws.Told.{told, tame}
+use Rattle.lake_step_one.specs.Proper.{middle}
+use Rattle.lake_step_one.specs.laws.Held.{names-are}
 use Rattle.lake_analysis.specs.steps.Lent.{Begins, Parted, SetsOf}
 use Rattle.lake_sets.specs.declared.Sets.{Sets}
 use Rattle.lake_sets.specs.Beginning.{Beginning, begin, nothing}
@@ -23,7 +25,7 @@ pub joined : (t : List ℕ) (n m l r : ℕ) (ms : List Bool) (sets : List (List 
 joined t n m l r ms sets eps succ alts j k em el b s a g h p en er =
     let N = expressionCount t in
     let R = length (g .names) in
-    let eR : r ≡ R = er ∙ symbols-is t g h p in
+    let eR : r ≡ R = er ∙ names-are t (middle g) h in
     let tm : Tame t N R (length (g .terminals)) = tame t g h p in
     let b′ : Begins t N R ms sets eps = subst (λ (y : ℕ). Begins t N y ms sets eps) eR (subst (λ (y : ℕ). Begins t y r ms sets eps) (em ∙ en) b) in
     told t g h p ms sets eps succ alts j k (b′ .marks (length (g .terminals)) tm) (b′ .begins R (length (g .terminals)) tm)

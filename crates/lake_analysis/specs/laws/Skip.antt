@@ -26,7 +26,8 @@ use Rattle.lake_step_one.specs.Proper.{Proper, middle}
 use Rattle.lake_sets.specs.steps.Analysed.{Analysed}
 use mathlib.Core.Logic.{_⊎_, ⊎-elim}
 use Rattle.grammar_table.specs.laws.Places.{upTo-at}
-use Rattle.lake_sets.specs.laws.Told.{tame, roots-is, symbols-is}
+use Rattle.lake_sets.specs.laws.Told.{tame, roots-is}
+use Rattle.lake_step_one.specs.laws.Held.{by-kind, names-are}
 use Rattle.lake_analysis.specs.steps.Lent.{lakeIn, hitIn, blockedIn, skipIn, skipsIn}
 
 pub blocked-next : (t : List ℕ) (ms : List Bool) (s : List ℕ) (n : ℕ) → (hitIn t ms s n || blockedIn t ms s n) ≡ blockedIn t ms s (n + 1)
@@ -60,10 +61,6 @@ room w n h l =
     let e : 2 ^ suc n ≡ 2 ^ n * 2 = pow-suc 2 n in
     ⊎-elim (λ (p : suc n < 64). let m : 2 ^ suc n < 2 ^ 64 = pow-lt p in omega arith) (λ (p : 64 ≤ suc n). let q : suc n ≡ 64 = omega arith in let m : 2 ^ suc n ≡ 2 ^ 64 = ap (λ (j : ℕ). 2 ^ j) q in omega arith) (lt-or-ge (suc n) 64)
 
-by-kind : (k : ℕ) (w : List ℕ) → isLake (symbolBy k w) ≡ not (eqb k 0)
-by-kind zero w = refl
-by-kind (suc k) w = sym (ap not (ne-eqb (suc k) 0 (λ e. let z : ⊥ = omega arith in z)))
-
 module _ (t : List ℕ) (g : Grammar) (h : Holds t (middle g)) (proper : Proper g) (ms : List Bool) (sets : List (List ℕ)) (eps : List Bool) (succ alts : List (List ℕ)) (k : ℕ)
     (a : Analysed (analysis g) (take (symbolCount t) ms) sets eps succ (take (expressionCount t) alts) k) where
   abbrev R : ℕ
@@ -72,11 +69,11 @@ module _ (t : List ℕ) (g : Grammar) (h : Holds t (middle g)) (proper : Proper 
   pub lake-is : (n : ℕ) → n < R → lakeIn t n ≡ isLake (getD (g .names) n (name []))
   unfolding nameIn
   lake-is n l =
-      sym (ap isLake (ap (λ (ns : List Symbol). getD ns n (name [])) (sym (h .names)) ∙ upTo-at (nameIn t) (symbolCount t) n (name []) (omega (arith, symbols-is t g h proper)))
+      sym (ap isLake (ap (λ (ns : List Symbol). getD ns n (name [])) (sym (h .names)) ∙ upTo-at (nameIn t) (symbolCount t) n (name []) (omega (arith, names-are t (middle g) h)))
       ∙ by-kind (symbolWord t n 0) _)
 
   mark-is : (n : ℕ) → n < R → getD ms n false ≡ marked (analysis g .marks) n
-  mark-is n l = sym (getD-take (symbolCount t) ms n false (omega (arith, symbols-is t g h proper))) ∙ ap (λ (m : List Bool). getD m n false) (a .marks-is)
+  mark-is n l = sym (getD-take (symbolCount t) ms n false (omega (arith, names-are t (middle g) h))) ∙ ap (λ (m : List Bool). getD m n false) (a .marks-is)
 
   blocked-is : (s : List ℕ) (n : ℕ) → n ≤ R → blockedIn t ms s n ≡ blockedBy (g .names) (analysis g .marks) s n
   unfolding blockedIn blockedBy
@@ -102,4 +99,4 @@ module _ (t : List ℕ) (g : Grammar) (h : Holds t (middle g)) (proper : Proper 
   pub skip-law : (r w : ℕ) → r ≡ symbolCount t → w ≡ skipsIn t ms alts r r → w ≡ cannotSkip g (analysis g)
   unfolding cannotSkip
   skip-law r w e f =
-      f ∙ ap (λ (n : ℕ). skipsIn t ms alts n n) (e ∙ symbols-is t g h proper) ∙ skips-is R (omega arith)
+      f ∙ ap (λ (n : ℕ). skipsIn t ms alts n n) (e ∙ names-are t (middle g) h) ∙ skips-is R (omega arith)

@@ -18,8 +18,9 @@ use Rattle.grammar_table.specs.Table.{upTo, opOf, leftOf, rightOf, nodeBy, tree
 use Rattle.grammar_table.specs.Holds.{Holds, present, rootsFrom}
 use Rattle.grammar.specs.Numbers.{terminalIn}
 use Rattle.lake_step_one.specs.Proper.{Sound, SoundAll}
-use Rattle.grammar_table.specs.laws.Places.{upTo-long, upTo-at}
-use Rattle.grammar_table.specs.laws.Parts.{size-pos, parts-long, all-long, total, Seg, seg-left, seg-right, seg-one, present-some, from-long}
+use Rattle.grammar_table.specs.laws.Places.{upTo-at}
+use Rattle.grammar_table.specs.laws.Parts.{size-pos, parts-long, all-long, total, Seg, seg-left, seg-right, seg-one}
+use Rattle.lake_step_one.specs.laws.Held.{part-of, terminals-are, parts-are, bodies-count}
 use Rattle.lake_step_one.specs.steps.Made.{withBodies}
 use Rattle.grammar_table.specs.Trees.{treeOf, below}
 use Rattle.grammar_table.specs.laws.Trees.{tree-node}
@@ -114,37 +115,21 @@ module _ (t : List ℕ) (number : Leaf → ℕ) (r x : ℕ) (leaves : (l : Leaf)
   tree-body (e ∷ es) o h g (suc s) p =
       tree-body es (o + size e) (h .1) (seg-right number (partIn t) d o (size e) (partsOf number o e) (partsAll number (o + size e) es) (parts-long number e o) g) s (omega arith)
 
+-- a terminal stands at its number
+pub leaf-is : (t : List ℕ) (g : Grammar) → Holds t g → (l : Leaf) → terminalIn g l < length (g .terminals) → leafIn t (terminalIn g l) ≡ l
+leaf-is t g h l k =
+    sym (upTo-at (leafIn t) (terminalCount t) (terminalIn g l) any (omega (arith, terminals-are t g h)))
+    ∙ ap (λ (ls : List Leaf). getD ls (terminalIn g l) any) (h .terminals) ∙ leaf-at l (g .terminals) k
+
 module _ (t : List ℕ) (g : Grammar) (bodies : List (Exp ℕ)) (h : Holds t (withBodies g bodies)) where
-  abbrev n : ℕ
-  n = expressionCount t
-
-  parts-are : upTo (partIn t) n ≡ partsAll (terminalIn g) 0 bodies
-  unfolding partsIn
-  parts-are = h .parts ∙ ap (partsAll (terminalIn g) 0) (present-some bodies)
-
-  long-is : n ≡ length (partsAll (terminalIn g) 0 bodies)
-  long-is = sym (upTo-long (partIn t) n) ∙ ap length parts-are
-
-  terminals-are : terminalCount t ≡ length (g .terminals)
-  terminals-are = sym (upTo-long (leafIn t) (terminalCount t)) ∙ ap length (h .terminals)
-
   pub bodies-are : symbolCount t ≡ length bodies
-  unfolding rootsIn
-  bodies-are = sym (upTo-long (λ r. symbolWord t r 1) (symbolCount t)) ∙ ap length (h .roots) ∙ from-long bodies 0
+  bodies-are = bodies-count t g bodies h
 
   root-at : (s : ℕ) → s < length bodies → symbolWord t s 1 ≡ getD (rootsFrom 0 (map some bodies)) s 0
   unfolding rootsIn
   root-at s l = sym (upTo-at (λ r. symbolWord t r 1) (symbolCount t) s 0 (omega (arith, bodies-are))) ∙ ap (λ (w : List ℕ). getD w s 0) (h .roots)
 
-  seg-all : (k : ℕ) → k < length (partsAll (terminalIn g) 0 bodies) → partIn t (0 + k) ≡ getD (partsAll (terminalIn g) 0 bodies) k (terminal 0)
-  seg-all k l =
-      ap (partIn t) (let q : 0 + k ≡ k = omega arith in q) ∙ sym (upTo-at (partIn t) n k (terminal 0) (omega (arith, long-is))) ∙ ap (λ (ps : List Part). getD ps k (terminal 0)) parts-are
-
-  leaf-is : (l : Leaf) → terminalIn g l < length (g .terminals) → leafIn t (terminalIn g l) ≡ l
-  leaf-is l k =
-      sym (upTo-at (leafIn t) (terminalCount t) (terminalIn g l) any (omega (arith, terminals-are)))
-      ∙ ap (λ (ls : List Leaf). getD ls (terminalIn g l) any) (h .terminals) ∙ leaf-at l (g .terminals) k
-
   pub trees-are : SoundAll (terminalIn g) (length (g .names)) (length (g .terminals)) bodies → (r : ℕ) → r < length bodies → treeOf t (symbolWord t r 1) ≡ getD bodies r (ter any)
   trees-are sound r l =
-      ap (treeOf t) (root-at r l) ∙ tree-body t (terminalIn g) (length (g .names)) (length (g .terminals)) leaf-is bodies 0 sound seg-all r l
+      ap (treeOf t) (root-at r l) ∙ tree-body t (terminalIn g) (length (g .names)) (length (g .terminals)) (leaf-is t (withBodies g bodies) h) bodies 0 sound
+      (part-of t (partsAll (terminalIn g) 0 bodies) (parts-are t g bodies h)) r l

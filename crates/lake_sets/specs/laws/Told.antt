@@ -19,7 +19,7 @@ use Rattle.grammar.specs.Exp.{Exp, ter}
 use Rattle.grammar.specs.Empty.{hasEmpty}
 use Rattle.grammar.specs.Numbers.{Grammar}
 use Rattle.grammar.specs.Parts.{Part, terminal, occurs, sequence, choice, option, repeat, repeat1, affirms, denies, partsAll, rootsOf}
-use Rattle.grammar_table.specs.Table.{upTo, partIn, partsIn, rootsIn, nameIn, leafIn, symbolWord, symbolCount, terminalCount, expressionCount}
+use Rattle.grammar_table.specs.Table.{upTo, partIn, rootsIn, symbolWord, symbolCount, terminalCount, expressionCount}
 use Rattle.grammar_table.specs.Holds.{Holds, rootsFrom}
 use Rattle.lake_step_one.specs.Intermediate.{intermediate}
 use Rattle.lake_sets.specs.Beginning.{Beginning, nothing, begin, marked, markRound, marksOf, beginnings}
@@ -32,7 +32,8 @@ use Rattle.lake_sets.specs.steps.Analysed.{Analysed}
 use Rattle.grammar_table.specs.laws.Places.{getD-any, upTo-long, upTo-at, is-upTo}
 use Rattle.lake_sets.specs.laws.Begins.{begins-rule, begins-long}
 use Rattle.lake_sets.specs.laws.Edges.{over-next, over-none, handed-inside}
-use Rattle.grammar_table.specs.laws.Parts.{total, all-long, roots-in, present-some, from-roots, from-long}
+use Rattle.grammar_table.specs.laws.Parts.{total, all-long, roots-in, from-roots}
+use Rattle.lake_step_one.specs.laws.Held.{part-of, names-are, terminals-are, parts-are, bodies-total, bodies-count}
 use Rattle.lake_sets.specs.laws.Wholes.{OkAll, ok-at, all-ok, eps-body}
 use Rattle.lake_sets.specs.laws.Least.{begins-good, over-good, succeed-good, alt-good, least-is, state-at}
 
@@ -124,22 +125,14 @@ module _ (t : List ℕ) (g : Grammar) (h : Holds t (middle g)) (proper : Proper 
   abbrev X : ℕ
   X = length (g .terminals)
 
-  pub parts-is : upTo (partIn t) n ≡ partsAll (terminalIn g) 0 bodies
-  unfolding partsIn
-  parts-is = h .parts ∙ ap (partsAll (terminalIn g) 0) (present-some bodies)
+  n-is : n ≡ total bodies
+  n-is = bodies-total t g bodies h
 
-  pub n-is : n ≡ total bodies
-  n-is = sym (upTo-long (partIn t) n) ∙ ap length parts-is ∙ all-long (terminalIn g) bodies 0
+  symbols-is : symbolCount t ≡ R
+  symbols-is = names-are t (middle g) h
 
-  pub symbols-is : symbolCount t ≡ R
-  symbols-is = sym (upTo-long (nameIn t) (symbolCount t)) ∙ ap length (h .names)
-
-  pub terminals-is : terminalCount t ≡ X
-  terminals-is = sym (upTo-long (leafIn t) (terminalCount t)) ∙ ap length (h .terminals)
-
-  pub bodies-is : symbolCount t ≡ length bodies
-  unfolding rootsIn
-  bodies-is = sym (upTo-long (λ r. symbolWord t r 1) (symbolCount t)) ∙ ap length (h .roots) ∙ from-long bodies 0
+  bodies-is : symbolCount t ≡ length bodies
+  bodies-is = bodies-count t g bodies h
 
   pub roots-is : (s : ℕ) → s < R → rootIn t s ≡ getD (rootsOf 0 bodies) s 0
   unfolding rootsIn
@@ -150,14 +143,14 @@ module _ (t : List ℕ) (g : Grammar) (h : Holds t (middle g)) (proper : Proper 
   pub part-ok : (i : ℕ) → i < n → Ok R X i (partIn t i)
   part-ok i l =
       let d : Part = terminal 0 in
-      subst (λ (p : Part). Ok R X i p) (ap (λ (ps : List Part). getD ps i d) (sym parts-is) ∙ upTo-at (partIn t) n i d l)
+      subst (λ (p : Part). Ok R X i p) (ap (λ (ps : List Part). getD ps i d) (sym (parts-are t g bodies h)) ∙ upTo-at (partIn t) n i d l)
       (subst (λ (k : ℕ). Ok R X k (getD (partsAll (terminalIn g) 0 bodies) i d)) (let q : 0 + i ≡ i = omega arith in q)
       (ok-at (terminalIn g) R X 0 (partsAll (terminalIn g) 0 bodies) d (all-ok (terminalIn g) R X bodies 0 proper) i (rw (all-long (terminalIn g) bodies 0) (omega (arith, n-is)))))
 
   pub tame : Tame t n R X
   tame = record {
     symbols = omega (arith, h .few-symbols, symbols-is);
-    terminals = omega (arith, h .few-terminals, terminals-is);
+    terminals = omega (arith, h .few-terminals, terminals-are t (middle g) h);
     parts = part-ok;
     roots = λ s l. rw (roots-is s l) (omega (arith, n-is, roots-in bodies 0 s (omega (arith, symbols-is, bodies-is))));
   }
@@ -167,15 +160,10 @@ module _ (t : List ℕ) (g : Grammar) (h : Holds t (middle g)) (proper : Proper 
     rule : (i : ℕ) → i < n → getD (beginsIn t ms n) i nothing ≡ Rattle.lake_sets.specs.Beginning.beginBy (marked ms) (λ j. getD (beginsIn t ms n) j nothing) (partIn t i)
     rule i l = begins-rule (marked ms) (partIn t) R X n i l (part-ok i l)
 
-    seg : (k : ℕ) → k < length (partsAll (terminalIn g) 0 bodies) → partIn t (0 + k) ≡ getD (partsAll (terminalIn g) 0 bodies) k (terminal 0)
-    seg k l =
-        let m : k < n = omega (arith, n-is, all-long (terminalIn g) bodies 0) in
-        ap (partIn t) (let q : 0 + k ≡ k = omega arith in q) ∙ sym (upTo-at (partIn t) n k (terminal 0) m) ∙ ap (λ (ps : List Part). getD ps k (terminal 0)) parts-is
-
     mark-at : (s : ℕ) → s < R → getD (beginsIn t ms n) (rootIn t s) nothing .eps ≡ hasEmpty (marked ms) (getD bodies s (ter any))
     mark-at s l =
         ap (λ (i : ℕ). getD (beginsIn t ms n) i nothing .eps) (roots-is s l)
-        ∙ eps-body (terminalIn g) (partIn t) (terminal 0) (marked ms) (λ j. getD (beginsIn t ms n) j nothing) n R X rule bodies 0 proper seg (omega (arith, n-is)) (ter any) s (omega (arith, symbols-is, bodies-is))
+        ∙ eps-body (terminalIn g) (partIn t) (terminal 0) (marked ms) (λ j. getD (beginsIn t ms n) j nothing) n R X rule bodies 0 proper (part-of t (partsAll (terminalIn g) 0 bodies) (parts-are t g bodies h)) (omega (arith, n-is)) (ter any) s (omega (arith, symbols-is, bodies-is))
 
     pub round-is : length ms ≡ R → markNext t n ms ≡ markRound bodies ms
     unfolding markRound
@@ -284,7 +272,7 @@ module _ (t : List ℕ) (g : Grammar) (h : Holds t (middle g)) (proper : Proper 
     analysis-is =
         ap (λ (m : List Bool). analysed m (rootsOf 0 bodies) P most) (hm ∙ marks-is)
         ∙ ap (λ (l : ℕ). analysed (marksOf bodies) (rootsOf 0 bodies) P (l * (R + X))) (sym (upTo-long (partIn t) n))
-        ∙ ap (λ (ps : List Part). analysed (marksOf bodies) (rootsOf 0 bodies) ps (length ps * (R + X))) parts-is
+        ∙ ap (λ (ps : List Part). analysed (marksOf bodies) (rootsOf 0 bodies) ps (length ps * (R + X))) (parts-are t g bodies h)
 
     pub told : Analysed (analysis g) ms sets eps succ alts k
     told = subst (λ (a : Analysis). Analysed a ms sets eps succ alts k) analysis-is here

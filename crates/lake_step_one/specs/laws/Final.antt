@@ -19,11 +19,12 @@ use Rattle.lake_step_one.specs.Intermediate.{intermediate}
 use Rattle.grammar.specs.Numbers.{terminalIn}
 use Rattle.lake_step_one.specs.Proper.{middle}
 use mathlib.Core.Logic.{_⊎_, ⊎-elim}
-use Rattle.grammar_table.specs.laws.Places.{upTo-at, upTo-long, is-upTo, upTo-same}
+use Rattle.grammar_table.specs.laws.Places.{upTo-at, is-upTo, upTo-same}
 use Rattle.grammar_table.specs.laws.Parts.{total, size-pos, all-long, present-some, from-long as some-long}
 use Rattle.lake_step_one.specs.steps.Runs.{nil}
 use Rattle.lake_step_one.specs.steps.Made.{Made, MadeOf, withBodies, Short, nameSize, leafSize, WaterAt, BuiltAll, SteppedOne}
-use Rattle.lake_step_one.specs.laws.Next.{middle-long, name-at, names-is}
+use Rattle.lake_step_one.specs.laws.Held.{names-are, terminals-are}
+use Rattle.lake_step_one.specs.laws.Next.{middle-long, name-at}
 
 pub made-start : (t : List ℕ) (g : Grammar) (bodies : List (Exp ℕ)) (mid : List ℕ) → length mid ≡ tableWords → ((i : ℕ) → i < expressionsAt → getD mid i 0 ≡ getD t i 0) → MadeOf t g bodies 0 0 0 mid
 unfolding total present
@@ -102,7 +103,7 @@ module _ (t : List ℕ) (g : Grammar) (bodies : List (Exp ℕ)) (h : Holds t g) 
   name-same : (r : ℕ) → r < symbolCount t → nameIn out r ≡ nameIn t r
   unfolding nameIn
   name-same r l =
-      let n : nameSize (nameIn t r) ≤ 38 = subst (λ (y : Symbol). nameSize y ≤ 38) (name-at t g h r l) (short .names r (omega (arith, names-is t g h))) in
+      let n : nameSize (nameIn t r) ≤ 38 = subst (λ (y : Symbol). nameSize y ≤ 38) (name-at t g h r l) (short .names r (omega (arith, names-are t g h))) in
       let k : symbolWord t r 3 ≤ 38 = omega (arith, n, size-by (symbolWord t r 0) (wordsFrom t (symbolsAt + symbolWords * r + 4) (symbolWord t r 3)), words-long t (symbolWord t r 3) (symbolsAt + symbolWords * r + 4)) in
       ap₂ symbolBy (symbol-word r 0 l (omega arith) (λ e. let z : ⊥ = omega arith in z))
       (ap (wordsFrom out (symbolsAt + symbolWords * r + 4)) (symbol-word r 3 l (omega arith) (λ e. let z : ⊥ = omega arith in z))
@@ -129,15 +130,12 @@ module _ (t : List ℕ) (g : Grammar) (bodies : List (Exp ℕ)) (h : Holds t g) 
       (λ j p. let q : terminalsAt + terminalWords * x + 2 + j ≡ terminalsAt + terminalWords * x + (2 + j) = omega arith in
       ap (λ (i : ℕ). getD out i 0) q ∙ terminal-word x (2 + j) l (omega arith) ∙ ap (λ (i : ℕ). getD t i 0) (sym q)))
 
-  terminals-is : terminalCount t ≡ length (g .terminals)
-  terminals-is = sym (upTo-long (leafIn t) (terminalCount t)) ∙ ap length (h .terminals)
-
   leaf-same : (x : ℕ) → x < terminalCount t → leafIn out x ≡ leafIn t x
   unfolding leafIn
   leaf-same x l =
       let e : getD (g .terminals) x any ≡ leafIn t x = ap (λ (ls : List Leaf). getD ls x any) (sym (h .terminals)) ∙ upTo-at (leafIn t) (terminalCount t) x any l in
       ap (λ (k : ℕ). leafBy k out x) (terminal-word x 0 l (omega arith))
-      ∙ leaf-by (terminalWord t x 0) x l (subst (λ (y : Leaf). leafSize y ≤ 256) e (short .literals x (omega (arith, terminals-is))))
+      ∙ leaf-by (terminalWord t x 0) x l (subst (λ (y : Leaf). leafSize y ≤ 256) e (short .literals x (omega (arith, terminals-are t g h))))
 
   part-same : (j : ℕ) → partIn out j ≡ partIn mid j
   unfolding partIn

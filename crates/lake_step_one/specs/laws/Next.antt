@@ -10,7 +10,6 @@ use native.Mathlib.Numerals.{add-one}
 use lib.ListN.{length, getD, set, take, length-set, length-append, List·getD-append}
 use lib.Seq.{getD-set-same, getD-set-other, getD-append-add}
 use lib.Dec.{eqb}
-use borrow.Author.Tests.{ne-eqb}
 use Rattle.base_facts.specs.laws.Numbers.{lt-or-ge, same?}
 use Rattle.read_tokens.specs.Token.{Symbol, Leaf, name, lake, any}
 use Rattle.grammar.specs.Exp.{Exp, ter, size}
@@ -20,10 +19,11 @@ use Rattle.grammar_table.specs.Table.{tableWords, expressionsAt, symbolsAt, sym
 use Rattle.grammar_table.specs.Holds.{Holds, present, rootsFrom}
 use Rattle.lake_step_one.specs.Intermediate.{intermediate, bodiesBy, bodyBy, waterIn}
 use Rattle.grammar.specs.Numbers.{terminalIn}
-use Rattle.grammar_table.specs.laws.Places.{upTo-at, upTo-long}
+use Rattle.grammar_table.specs.laws.Places.{upTo-at}
 use Rattle.grammar_table.specs.laws.Parts.{total, size-pos, parts-long, all-long}
 use Rattle.lake_step_one.specs.steps.Runs.{nil, Run, Grew, BodyAt, BodyTo}
 use Rattle.lake_step_one.specs.steps.Made.{nextBy, lakeAt, Made, MadeOf}
+use Rattle.lake_step_one.specs.laws.Held.{by-kind, names-are, rights-long, expressions-are, part-is}
 
 -- ---- lists
 pub total-next : (es : List (Exp ℕ)) (s : ℕ) (d : Exp ℕ) → s < length es → total (take (suc s) es) ≡ total (take s es) + size (getD es s d)
@@ -57,12 +57,6 @@ unfolding bodiesBy
 bodies-long w [] os h = refl
 bodies-long w (x ∷ hs) [] h = let z : ⊥ = omega arith in absurd z
 bodies-long w (x ∷ hs) (o ∷ os) h = ap suc (bodies-long w hs os (omega arith))
-
-pub from-long : (os : List (Option (Exp ℕ))) (o : ℕ) → length (rootsFrom o os) ≡ length os
-unfolding rootsFrom
-from-long [] o = refl
-from-long (none ∷ os) o = ap suc (from-long os o)
-from-long (some e ∷ os) o = ap suc (from-long os (o + size e))
 
 -- the parts of one body among all
 pub parts-at : (number : Leaf → ℕ) (es : List (Exp ℕ)) (o s : ℕ) (d : Exp ℕ) → s < length es → (j : ℕ) → j < size (getD es s d)
@@ -105,21 +99,10 @@ module _ (number : Leaf → ℕ) (t : List ℕ) where
       ∙ getD-append-add (partsOf number o e) (partsAll number (o + size e) (present os)) j nil)
       (omega arith) s (omega arith))
 
-by-kind : (k : ℕ) (w : List ℕ) → isLake (symbolBy k w) ≡ not (eqb k 0)
-by-kind zero w = refl
-by-kind (suc k) w = sym (ap not (ne-eqb (suc k) 0 (λ e. let z : ⊥ = omega arith in z)))
-
 module _ (t : List ℕ) (g : Grammar) (h : Holds t g) where
-  pub rights-is : symbolCount t ≡ length (g .rights)
-  unfolding rootsIn
-  rights-is = sym (upTo-long (λ r. symbolWord t r 1) (symbolCount t)) ∙ ap length (h .roots) ∙ from-long (g .rights) 0
-
-  pub names-is : symbolCount t ≡ length (g .names)
-  names-is = sym (upTo-long (nameIn t) (symbolCount t)) ∙ ap length (h .names)
-
   pub middle-long : length (intermediate g) ≡ symbolCount t
   unfolding intermediate
-  middle-long = bodies-long (waterIn g) (g .names) (g .rights) (omega (arith, rights-is, names-is)) ∙ sym names-is
+  middle-long = bodies-long (waterIn g) (g .names) (g .rights) (omega (arith, rights-long t g h, names-are t g h)) ∙ sym (names-are t g h)
 
   pub name-at : (s : ℕ) → s < symbolCount t → getD (g .names) s (name []) ≡ nameIn t s
   name-at s l = ap (λ (ns : List Symbol). getD ns s (name [])) (sym (h .names)) ∙ upTo-at (nameIn t) (symbolCount t) s (name []) l
@@ -131,19 +114,18 @@ module _ (t : List ℕ) (g : Grammar) (h : Holds t g) where
   pub body-at : (s : ℕ) → s < symbolCount t → BodyAt (terminalIn g) t (total (present (take s (g .rights)))) (symbolWord t s 1) (getD (g .rights) s none)
   unfolding rootsIn partsIn
   body-at s l =
-      let n : expressionCount t ≡ total (present (g .rights)) = sym (upTo-long (partIn t) (expressionCount t)) ∙ ap length (h .parts) ∙ all-long (terminalIn g) (present (g .rights)) 0 in
+      let n : expressionCount t ≡ total (present (g .rights)) = expressions-are t g h in
       let w : symbolWord t s 1 ≡ getD (rootsFrom 0 (g .rights)) s 0 = sym (upTo-at (λ r. symbolWord t r 1) (symbolCount t) s 0 l) ∙ ap (λ (ws : List ℕ). getD ws s 0) (h .roots) in
       subst (λ (b : ℕ). BodyAt (terminalIn g) t (total (present (take s (g .rights)))) b (getD (g .rights) s none)) (sym w)
       (subst (λ (i : ℕ). BodyAt (terminalIn g) t i (getD (rootsFrom 0 (g .rights)) s 0) (getD (g .rights) s none)) (let q : 0 + total (present (take s (g .rights))) ≡ total (present (take s (g .rights))) = omega arith in q)
       (bodies-from (terminalIn g) t (g .rights) 0
-      (λ j k. let m : j < expressionCount t = omega (arith, n, all-long (terminalIn g) (present (g .rights)) 0) in
-      ap (partIn t) (let q : 0 + j ≡ j = omega arith in q) ∙ sym (upTo-at (partIn t) (expressionCount t) j nil m) ∙ ap (λ (ps : List Part). getD ps j nil) (h .parts))
-      (omega (arith, n, h .few-expressions)) s (omega (arith, rights-is))))
+      (part-is t g h)
+      (omega (arith, n, h .few-expressions)) s (omega (arith, rights-long t g h))))
 
   pub next-from : (s from b : ℕ) → s < symbolCount t → from ≡ total (present (take s (g .rights))) → b ≡ symbolWord t s 1 → nextBy from b ≡ total (present (take (s + 1) (g .rights)))
   next-from s from b l e f =
       by (getD (g .rights) s none) refl (subst (λ (y : ℕ). BodyAt (terminalIn g) t (total (present (take s (g .rights)))) y (getD (g .rights) s none)) (sym f) (body-at s l))
-      ∙ sym (ap (λ (i : ℕ). total (present (take i (g .rights)))) (add-one s) ∙ present-next (g .rights) s (omega (arith, rights-is)))
+      ∙ sym (ap (λ (i : ℕ). total (present (take i (g .rights)))) (add-one s) ∙ present-next (g .rights) s (omega (arith, rights-long t g h)))
     where
       nonzero : (b from : ℕ) → 0 < b → nextBy from b ≡ b
       nonzero zero from z = let y : ⊥ = omega arith in absurd y
@@ -208,7 +190,7 @@ made-next t r wa wb from m b p v mid one mid′ small eb to ev es g h z l wat ol
     let bodies = intermediate g in
     let ba : BodyAt number t from b o = subst (λ (i : ℕ). BodyAt number t i b o) (sym (old .from-is)) (subst (λ (y : ℕ). BodyAt number t (total (present (take r (g .rights)))) y o) (sym eb) (body-at t g h r l)) in
     let E = getD bodies r (ter any) in
-    let isE : bodyBy (lakeAt t r) w o ≡ E = sym (bodies-at w (g .names) (g .rights) r (omega (arith, names-is t g h)) (omega (arith, rights-is t g h)) ∙ ap (λ (x : Bool). bodyBy x w o) (lake-at t g h r l)) in
+    let isE : bodyBy (lakeAt t r) w o ≡ E = sym (bodies-at w (g .names) (g .rights) r (omega (arith, names-are t g h)) (omega (arith, rights-long t g h)) ∙ ap (λ (x : Bool). bodyBy x w o) (lake-at t g h r l)) in
     let gr : Grew mid m (partsOf number m E) one p = subst (λ (e : Exp ℕ). Grew mid m (partsOf number m e) one p) isE (to number w o (old .long) z wat ba) in
     made-more t bodies r from m b p v mid one mid′ small eb ev es g h (middle-long t g h) l gr old
 

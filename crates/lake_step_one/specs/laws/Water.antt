@@ -22,7 +22,8 @@ use Rattle.grammar.specs.Numbers.{terminalIn}
 use Rattle.grammar_table.specs.laws.Parts.{total}
 use Rattle.lake_step_one.specs.steps.Runs.{BodyAt}
 use Rattle.lake_step_one.specs.steps.Made.{nextBy}
-use Rattle.lake_step_one.specs.laws.Next.{rights-is, names-is, name-at, body-at, next-from}
+use Rattle.lake_step_one.specs.laws.Held.{names-are, rights-long}
+use Rattle.lake_step_one.specs.laws.Next.{name-at, body-at, next-from}
 
 and-false : (b : Bool) → (b && false) ≡ false
 and-false true = refl
@@ -96,7 +97,7 @@ index-at same x d (y ∷ l) zero h f e = ap (λ (b : Bool). cond b 0 (suc (index
 index-at same x d (y ∷ l) (suc s) h f e =
     ap (λ (b : Bool). cond b 0 (suc (indexOf same x l))) (f 0 (omega arith)) ∙ ap suc (index-at same x d l s (omega arith) (λ j p. f (suc j) (omega arith)) e)
 
-index-none : {A : Type 0} (same : A → A → Bool) (x d : A) (l : List A) → ((j : ℕ) → j < length l → same x (getD l j d) ≡ false) → indexOf same x l ≡ length l
+pub index-none : {A : Type 0} (same : A → A → Bool) (x d : A) (l : List A) → ((j : ℕ) → j < length l → same x (getD l j d) ≡ false) → indexOf same x l ≡ length l
 unfolding indexOf
 index-none same x d [] f = refl
 index-none same x d (y ∷ l) f = ap (λ (b : Bool). cond b 0 (suc (indexOf same x l))) (f 0 (omega arith)) ∙ ap suc (index-none same x d l (λ j p. f (suc j) (omega arith)))
@@ -122,7 +123,7 @@ module _ (t : List ℕ) (g : Grammar) (h : Holds t g) where
   unfolding waterIn
   sought-found s from b l k e q =
       let i : indexOf sameSymbol waterName (g .names) ≡ s
-      = index-at sameSymbol waterName (name []) (g .names) s (omega (arith, names-is t g h)) (λ j p. ap (sameSymbol waterName) (name-at t g h j (omega arith)) ∙ k .none-before j p) (ap (sameSymbol waterName) (name-at t g h s l) ∙ e) in
+      = index-at sameSymbol waterName (name []) (g .names) s (omega (arith, names-are t g h)) (λ j p. ap (sameSymbol waterName) (name-at t g h j (omega arith)) ∙ k .none-before j p) (ap (sameSymbol waterName) (name-at t g h s l) ∙ e) in
       subst (λ (j : ℕ). BodyAt (terminalIn g) t from b (getD (g .rights) j none)) (sym i)
       (subst (λ (a : ℕ). BodyAt (terminalIn g) t a b (getD (g .rights) s none)) (sym (k .from-is)) (subst (λ (y : ℕ). BodyAt (terminalIn g) t (total (present (take s (g .rights)))) y (getD (g .rights) s none)) (sym q) (body-at t g h s l)))
 
@@ -130,6 +131,6 @@ module _ (t : List ℕ) (g : Grammar) (h : Holds t g) where
   unfolding waterIn
   sought-none s from e k =
       let i : indexOf sameSymbol waterName (g .names) ≡ length (g .names)
-      = index-none sameSymbol waterName (name []) (g .names) (λ j p. ap (sameSymbol waterName) (name-at t g h j (omega (arith, names-is t g h))) ∙ k .none-before j (omega (arith, names-is t g h))) in
+      = index-none sameSymbol waterName (name []) (g .names) (λ j p. ap (sameSymbol waterName) (name-at t g h j (omega (arith, names-are t g h))) ∙ k .none-before j (omega (arith, names-are t g h))) in
       subst (λ (o : Option (Exp ℕ)). BodyAt (terminalIn g) t 0 0 o)
-      (sym (ap (λ (j : ℕ). getD (g .rights) j none) i ∙ List·getD-eq-default (g .rights) none {n = length (g .names)} (omega (arith, names-is t g h, rights-is t g h)))) refl
+      (sym (ap (λ (j : ℕ). getD (g .rights) j none) i ∙ List·getD-eq-default (g .rights) none {n = length (g .names)} (omega (arith, names-are t g h, rights-long t g h)))) refl

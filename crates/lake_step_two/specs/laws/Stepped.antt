@@ -20,7 +20,8 @@ use Rattle.grammar.specs.Numbers.{terminalIn}
 use Rattle.lake_sets.specs.steps.Steps.{rootIn}
 use Rattle.lake_step_one.specs.Proper.{Proper, middle}
 use Rattle.grammar_table.specs.laws.Parts.{total}
-use Rattle.lake_sets.specs.laws.Told.{tame, roots-is, symbols-is, terminals-is, bodies-is}
+use Rattle.lake_sets.specs.laws.Told.{tame, roots-is}
+use Rattle.lake_step_one.specs.laws.Held.{names-are, terminals-are, bodies-count}
 use Rattle.lake_step_one.specs.steps.Runs.{Grew, BodyAt}
 use Rattle.lake_step_one.specs.steps.Made.{nextBy, lakeAt, MadeOf, withBodies, Short}
 use Rattle.lake_step_one.specs.laws.Next.{lake-at, body-at, made-more}
@@ -47,13 +48,13 @@ module _ (t : List ℕ) (alts : List (List ℕ)) (g : Grammar) (a : Ready t alts
   setOf s = getD alts (rootIn t s) empty
 
   symbols : symbolCount t ≡ length (g .names)
-  symbols = symbols-is t g H (a .proper)
+  symbols = names-are t (middle g) H
 
   terminals : terminalCount t ≡ length (g .terminals)
-  terminals = terminals-is t g H (a .proper)
+  terminals = terminals-are t (middle g) H
 
   bodies : symbolCount t ≡ length (intermediate g)
-  bodies = bodies-is t g H (a .proper)
+  bodies = bodies-count t g (intermediate g) H
 
   pub plain-count : length (plainOf g) ≡ symbolCount t
   unfolding plainBodies

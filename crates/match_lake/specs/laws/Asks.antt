@@ -21,7 +21,7 @@ use Rattle.grammar_table.specs.laws.Lists.{up-length, up-at}
 use Rattle.base_words.specs.Set.{memberOf}
 use Rattle.lake_step_one.specs.Intermediate.{waterName, waterIn}
 use Rattle.lake_step_two.specs.Plain.{nonterminalsIn, terminalsIn, alternatives}
-use Rattle.lake_step_one.specs.laws.Water.{index-at}
+use Rattle.lake_step_one.specs.laws.Water.{index-at, index-none}
 use Rattle.match_eval.specs.Eval.{leafAt, cellAt, neverOf, ev}
 use Rattle.match_eval.specs.laws.EvalSteps.{any-takes, any-fails}
 use Rattle.grammar_table.specs.Trees.{treeOf}
@@ -57,11 +57,6 @@ module _ (t s cs : List ℕ) (n p : ℕ) where
   water-body (suc b) f = refl
 
 -- ── the symbol called `water` ──
-index-none : {A : Type 0} (same : A → A → Bool) (x d : A) (l : List A) → ((j : ℕ) → j < length l → same x (getD l j d) ≡ false) → indexOf same x l ≡ length l
-unfolding indexOf
-index-none same x d [] f = refl
-index-none same x d (y ∷ l) f = ap (λ (b : Bool). cond b 0 (suc (indexOf same x l))) (f 0 (omega arith)) ∙ ap suc (index-none same x d l (λ j p. f (suc j) (omega arith)))
-
 module _ (t : List ℕ) (n : ℕ) where
   abbrev names : List Symbol
   names = upTo (nameIn t) n

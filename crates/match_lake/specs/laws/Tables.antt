@@ -18,7 +18,8 @@ use Rattle.lake_step_one.specs.Intermediate.{waterIn, bodiesBy, intermediate}
 use Rattle.lake_step_one.specs.Intermediate.{bodyBy as bodyBy′}
 use Rattle.lake_step_one.specs.Proper.{Sound, SoundAll, Proper}
 use Rattle.grammar_table.specs.laws.Parts.{total, size-pos}
-use Rattle.lake_calls.specs.laws.Rights.{rights-long, expressions-are, root-at, right-is}
+use Rattle.lake_step_one.specs.laws.Held.{rights-long, expressions-are}
+use Rattle.lake_calls.specs.laws.Rights.{root-at, right-is}
 use Rattle.match_lake.specs.Asking.{wayIn}
 
 root-le : (os : List (Option (Exp ℕ))) (o s : ℕ) → getD (rootsFrom o os) s 0 ≤ o + total (present os)

@@ -31,7 +31,7 @@ use Rattle.write_rules.specs.Writing.{text}
 use Rattle.write_rules.specs.laws.Terminals.{FineLeaf}
 use Rattle.write_rules.specs.laws.Lengths.{Short, Brief, Bounded, BoundedAll, not-too-long}
 use Rattle.write_rules.specs.laws.Within.{bounded}
-use Rattle.lake_calls.specs.laws.Rights.{names-are, expressions-are}
+use Rattle.lake_step_one.specs.laws.Held.{names-are, expressions-are}
 use Rattle.write_text.specs.laws.Fit.{FitName, FitLeaf, fit-name, fit-leaf, fine-rules, narrow-rules}
 use Rattle.write_text.specs.laws.Own.{lefts-long}
 use Rattle.write_text.specs.laws.Plain.{plainNames, plain-sound, bodies-long}

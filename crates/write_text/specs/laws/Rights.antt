@@ -11,7 +11,8 @@ use Rattle.grammar_table.specs.Table.{bodyIn, symbolCount}
 use Rattle.grammar_table.specs.Holds.{Holds, present}
 use Rattle.grammar.specs.Numbers.{terminalIn}
 use Rattle.lake_step_one.specs.Proper.{SoundAll}
-use Rattle.lake_calls.specs.laws.Rights.{rights-long, right-is}
+use Rattle.lake_step_one.specs.laws.Held.{rights-long}
+use Rattle.lake_calls.specs.laws.Rights.{right-is}
 use Rattle.write_text.specs.steps.Texts.{rightsIn}
 
 are-rights : (t : List ℕ) (os : List (Option (Exp ℕ))) (r : ℕ) → ((i : ℕ) → i < length os → bodyIn t (r + i) ≡ getD os i none) → rightsIn t r (length os) ≡ os
