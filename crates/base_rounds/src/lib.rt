@@ -5,7 +5,7 @@ ghost use lib.ListN.{length, getD};
 ghost use Rattle.base_words.specs.steps.Decides.{Decides};
 ghost use Rattle.base_rounds.specs.laws.Cells.{Every};
 ghost use Rattle.base_rounds.specs.laws.Pair.{Set2};
-ghost use Rattle.base_rounds.specs.laws.Sys.{pushed, roundOf, Shaped, none, Stepped, Solved};
+ghost use Rattle.base_rounds.specs.laws.Sys.{pushed, roundOf, Shaped, empties, Stepped, Solved};
 
 // What every edge hands on from `old`, added to `new`.
 pub fn push(src: &[usize], dst: &[usize], old: &[[u64; 2]], new: &mut [[u64; 2]])
@@ -47,7 +47,7 @@ pub fn equal(a: &[[u64; 2]], b: &[[u64; 2]]) -> bool
 }
 
 pub fn clear(to: &mut [[u64; 2]])
-    ensures { λ r. ⌜ now (to .exit) ≡ none (length (now (to .entry))) ⌝ }
+    ensures { λ r. ⌜ now (to .exit) ≡ empties (length (now (to .entry))) ⌝ }
 {
     let mut i = 0;
     while i < to.len() {

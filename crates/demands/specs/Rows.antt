@@ -12,7 +12,7 @@ use Rattle.read_tokens.specs.Bounds.{textBound, symbolBound, terminalBound, exp
 use Rattle.grammar.specs.Exp.{Rule, sym}
 use Rattle.grammar.specs.Numbers.{symbolsOf, terminalsOf, expressionsOf}
 use Rattle.read_syntax.specs.Machine.{syntax, wide, placeOf}
-use Rattle.read_syntax.specs.Offence.{Says}
+use Rattle.read_syntax.specs.Offence.{Judges}
 use Rattle.read_syntax.specs.Grammar.{GrammarOf}
 use Rattle.read_syntax.specs.Reading.{before, reserved}
 use Rattle.lake_step_two.specs.Plain.{sizes}
@@ -69,11 +69,11 @@ module _ (m : Mode) (t : List ℕ) where
 
   -- "syntax": "first token .. at which what stands before could still begin a grammar and with it could not"
   abbrev pub Row2 : Row
-  Row2 = record { number = 2; holds = λ p. (i : ℕ) × Says m (lexemes m t) (syntax i) × (p ≡ placeOf (length t) (lexemes m t) i) }
+  Row2 = record { number = 2; holds = λ p. (i : ℕ) × Judges m (lexemes m t) (syntax i) × (p ≡ placeOf (length t) (lexemes m t) i) }
 
   -- "name, literal or parenthesis over its bound": that token. "2 and 3: the leftmost place decides, then 2"
   abbrev pub Row3 : Row
-  Row3 = record { number = 3; holds = λ p. (i : ℕ) × Says m (lexemes m t) (wide i) × (p ≡ placeOf (length t) (lexemes m t) i) }
+  Row3 = record { number = 3; holds = λ p. (i : ℕ) × Judges m (lexemes m t) (wide i) × (p ≡ placeOf (length t) (lexemes m t) i) }
 
   -- "second left side, or reserved name": "leftmost such token"
   abbrev pub Row4 : Row

@@ -15,7 +15,7 @@ use Rattle.grammar.specs.Numbers.{isLake}
 use Rattle.grammar.specs.Refusal.{Refusal, refusal, refuseIf, _▸_}
 use Rattle.base_words.specs.Set.{empty}
 use Rattle.lake_sets.specs.declared.Sets.{Sets}
-use Rattle.lake_sets.specs.Analysis.{Analysis, setsAt, isExpression, altOf, cannotSkip}
+use Rattle.lake_sets.specs.Analysis.{Analysis, setsAt, isExpression, bodyAlt, cannotSkip}
 use Rattle.lake_step_two.specs.Plain.{plainRules}
 use Rattle.lake_calls.specs.Calls.{order}
 use Rattle.match_lake.specs.Asking.{wayIn}
@@ -130,7 +130,7 @@ lakeAnswer w o cs = record { way = w; verdict = o; cells = cs }
 abbrev pub lakeAfter : Option Refusal → Prepared → List ℕ → List ℕ → ℕ → ℕ → LakeAnswer
 lakeAfter (some r) p s cs l q = lakeAnswer 0 (some r) cs
 lakeAfter none p s cs l q =
-    lakeAnswer (wayIn (p .grammar) s (filled p s cs) (length (p .bodies)) (altOf (p .analysis) l) l q) none (filled p s cs)
+    lakeAnswer (wayIn (p .grammar) s (filled p s cs) (length (p .bodies)) (bodyAlt (p .analysis) l) l q) none (filled p s cs)
 
 unfoldable pub lakeOf : Mode → List ℕ → List ℕ → List ℕ → ℕ → ℕ → LakeAnswer
 lakeOf m t s cs l q =

@@ -57,21 +57,21 @@ module _ (bs : ℕ → Beginning) (root : ℕ → ℕ) where
   AltRule succ y i (denies a) = Unit {0}
 
 -- what a rule asks of what the expressions have, at the expression with a number
-abbrev pub Rule : Type 0 → Type 1
-Rule A = (ℕ → A) → ℕ → Part → Type 0
+abbrev pub SetsRule : Type 0 → Type 1
+SetsRule A = (ℕ → A) → ℕ → Part → Type 0
 
 -- what is fine, one for each of n expressions, and satisfies a rule; d: of an expression that there is not
-pub record Solves {A : Type 0} (fine : A → Type 0) (d : A) (n : ℕ) (part : ℕ → Part) (rule : Rule A) (y : List A) : Type 0 where
+pub record Solves {A : Type 0} (fine : A → Type 0) (d : A) (n : ℕ) (part : ℕ → Part) (rule : SetsRule A) (y : List A) : Type 0 where
   pub sets : Every fine d n y
   pub rules : (i : ℕ) → i < n → rule (λ j. getD y j d) i (part i)
 
 -- "All are least": a solution that lies within every solution, expression by expression
-pub record LeastBy {A : Type 0} (fine : A → Type 0) (In : A → A → Type 0) (d : A) (n : ℕ) (part : ℕ → Part) (rule : Rule A) (s : List A) : Type 0 where
+pub record LeastBy {A : Type 0} (fine : A → Type 0) (In : A → A → Type 0) (d : A) (n : ℕ) (part : ℕ → Part) (rule : SetsRule A) (s : List A) : Type 0 where
   pub solves : Solves fine d n part rule s
   pub within : (y : List A) → Solves fine d n part rule y → (i : ℕ) → i < n → In (getD s i d) (getD y i d)
 
 -- of sets over r symbols and x terminals: SUCCEED, ALT
-abbrev pub Least : ℕ → ℕ → ℕ → (ℕ → Part) → Rule (List ℕ) → List (List ℕ) → Type 0
+abbrev pub Least : ℕ → ℕ → ℕ → (ℕ → Part) → SetsRule (List ℕ) → List (List ℕ) → Type 0
 Least r x n part rule s = LeastBy (Set2 r x) In2 [] n part rule s
 
 -- of such sets with or without ε: BEGINNING
@@ -79,10 +79,10 @@ abbrev pub LeastBegin : ℕ → ℕ → ℕ → (ℕ → Part) → (ℕ → ℕ)
 LeastBegin r x n part root s = LeastBy (λ b. Set2 r x (b .set)) InB nothing n part (BeginRule root) s
 
 -- "ε if X's body has ε": marks that have it whenever the body has
-abbrev pub Marks : List (Exp ℕ) → List Bool → Type 0
-Marks bodies ms = (s : ℕ) → s < length bodies → hasEmpty (marked ms) (getD bodies s (ter any)) ≡ true → marked ms s ≡ true
+abbrev pub EmptyMarks : List (Exp ℕ) → List Bool → Type 0
+EmptyMarks bodies ms = (s : ℕ) → s < length bodies → hasEmpty (marked ms) (getD bodies s (ter any)) ≡ true → marked ms s ≡ true
 
 pub record LeastMarks (bodies : List (Exp ℕ)) (ms : List Bool) : Type 0 where
   pub long : length ms ≡ length bodies
   pub exact : (s : ℕ) → s < length bodies → marked ms s ≡ hasEmpty (marked ms) (getD bodies s (ter any))
-  pub within : (ks : List Bool) → length ks ≡ length bodies → Marks bodies ks → (s : ℕ) → s < length bodies → marked ms s ≡ true → marked ks s ≡ true
+  pub within : (ks : List Bool) → length ks ≡ length bodies → EmptyMarks bodies ks → (s : ℕ) → s < length bodies → marked ms s ≡ true → marked ks s ≡ true

@@ -29,13 +29,13 @@ abbrev pub FirstCalls : List (Exp ℕ) → ℕ → ℕ → Type 0
 FirstCalls bodies r x = (r < length bodies) × Calls (marked (marksOf bodies)) (getD bodies r (ter any)) x
 
 -- one step after the other leads from r to x
-pub data Reaches (Step : ℕ → ℕ → Type 0) (r : ℕ) : ℕ → Type 0 where
-  at-once : {x : ℕ} → Step r x → Reaches Step r x
-  and-on : {y x : ℕ} → Reaches Step r y → Step y x → Reaches Step r x
+pub data LeadsTo (Step : ℕ → ℕ → Type 0) (r : ℕ) : ℕ → Type 0 where
+  at-once : {x : ℕ} → Step r x → LeadsTo Step r x
+  and-on : {y x : ℕ} → LeadsTo Step r y → Step y x → LeadsTo Step r x
 
 -- "a loop is a symbol that reaches itself"
 abbrev pub OnLoop : List (Exp ℕ) → ℕ → Type 0
-OnLoop bodies r = Reaches (FirstCalls bodies) r r
+OnLoop bodies r = LeadsTo (FirstCalls bodies) r r
 
 -- 8: "smallest symbol on one"
 pub record SmallestLoop (bodies : List (Exp ℕ)) (p : ℕ) : Type 0 where

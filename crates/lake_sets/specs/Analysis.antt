@@ -58,8 +58,8 @@ abbrev pub isExpression : Analysis → ℕ → Bool
 isExpression a e = leb 1 e && leb e (length (a .begins))
 
 -- ALT of the body of symbol r
-abbrev pub altOf : Analysis → ℕ → List ℕ
-altOf a r = getD (a .alts) (getD (a .roots) r 0) empty
+abbrev pub bodyAlt : Analysis → ℕ → List ℕ
+bodyAlt a r = getD (a .alts) (getD (a .roots) r 0) empty
 
 -- whether some symbol below n is a nonterminal in the set and its body has ε
 unfoldable pub blockedBy : List Symbol → List Bool → List ℕ → ℕ → Bool
@@ -70,7 +70,7 @@ blockedBy names marks s (suc n) = (memberOf s n && (not (isLake (getD names n (n
 unfoldable pub cannotSkipBelow : Grammar → Analysis → ℕ → ℕ
 cannotSkipBelow g a zero = 0
 cannotSkipBelow g a (suc n) =
-    cannotSkipBelow g a n + cond (isLake (getD (g .names) n (name [])) && blockedBy (g .names) (a .marks) (altOf a n) (length (g .names))) (2 ^ n) 0
+    cannotSkipBelow g a n + cond (isLake (getD (g .names) n (name [])) && blockedBy (g .names) (a .marks) (bodyAlt a n) (length (g .names))) (2 ^ n) 0
 
 unfoldable pub cannotSkip : Grammar → Analysis → ℕ
 cannotSkip g a = cannotSkipBelow g a (length (g .names))

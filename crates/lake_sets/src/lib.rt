@@ -9,7 +9,7 @@ ghost use Rattle.lake_sets.specs.Beginning.{nothing, marked, beginBy};
 ghost use Rattle.lake_sets.specs.steps.Steps.{pairAt, rootIn, Small, Tame, Begun, BegunAll, MarkedOnce, MarkedAll, kept, edgesBy, Grown};
 ghost use Rattle.lake_sets.specs.steps.Steps.{handed, succeedGiven, altGiven, Fine, Gave, Flowed, FlowedAlong, FlowedFrom, RoundsAsk};
 ghost use Rattle.lake_sets.specs.Flows.{edge as edgeTo, gift as giftTo, succeedGifts, altGifts, given, when};
-ghost use Rattle.base_rounds.specs.laws.Sys.{none, edges, Solved};
+ghost use Rattle.base_rounds.specs.laws.Sys.{empties, edges, Solved};
 ghost use Rattle.base_rounds.specs.laws.Pair.{Set2};
 ghost use Rattle.base_rounds.specs.laws.Flow.{Inside};
 use grammar_table::records;
@@ -473,7 +473,7 @@ fn alt_gift(
 fn succeed_base(t: &grammar_table::Table, sets: &[[u64; 2]], base: &mut [[u64; 2]])
     requires { ⌜ length (now base) ≤ 1024 ⌝ }
     ensures { λ u. ⌜ (now (base .exit)
-        ≡ given (succeedGiven (now (t .entry)) (now (sets .entry)) (length (now (base .entry)))) (none (length (now (base .entry)))))
+        ≡ given (succeedGiven (now (t .entry)) (now (sets .entry)) (length (now (base .entry)))) (empties (length (now (base .entry)))))
         × Fine (now (base .exit)) ⌝ }
 {
     base_rounds::clear(base);
@@ -494,7 +494,7 @@ fn alt_base(
     requires { ⌜ length (now base) ≤ 1024 ⌝ }
     ensures { λ u. ⌜ (now (base .exit)
         ≡ given (altGiven (now (t .entry)) (now (sets .entry)) (now (eps .entry)) (now (succ .entry)) (length (now (base .entry))))
-        (none (length (now (base .entry))))) × Fine (now (base .exit)) ⌝ }
+        (empties (length (now (base .entry))))) × Fine (now (base .exit)) ⌝ }
 {
     base_rounds::clear(base);
     let mut e = 0;

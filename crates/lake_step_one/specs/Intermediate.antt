@@ -23,15 +23,15 @@ abbrev pub rightOr : Option (Exp ℕ) → Exp ℕ
 rightOr none = ter any
 rightOr (some e) = e
 
-abbrev pub bodyBy : Bool → Option (Exp ℕ) → Option (Exp ℕ) → Exp ℕ
-bodyBy true w o = stepOne w o
-bodyBy false w o = rightOr o
+abbrev pub intermediateBy : Bool → Option (Exp ℕ) → Option (Exp ℕ) → Exp ℕ
+intermediateBy true w o = stepOne w o
+intermediateBy false w o = rightOr o
 
 -- by symbol number: a nonterminal's right side, and each lake's by step 1
 unfoldable pub bodiesBy : Option (Exp ℕ) → List Symbol → List (Option (Exp ℕ)) → List (Exp ℕ)
 bodiesBy w [] os = []
 bodiesBy w (h ∷ hs) [] = []
-bodiesBy w (h ∷ hs) (o ∷ os) = bodyBy (isLake h) w o ∷ bodiesBy w hs os
+bodiesBy w (h ∷ hs) (o ∷ os) = intermediateBy (isLake h) w o ∷ bodiesBy w hs os
 
 unfoldable pub intermediate : Grammar → List (Exp ℕ)
 intermediate g = bodiesBy (waterIn g) (g .names) (g .rights)

@@ -14,7 +14,7 @@ use Rattle.grammar.specs.Refusal.{Refusal, refuseIf}
 use Rattle.read_tokens.specs.Bounds.{plainBound}
 use Rattle.base_words.specs.Set.{memberOf}
 use Rattle.lake_step_one.specs.Intermediate.{intermediate}
-use Rattle.lake_sets.specs.Analysis.{Analysis, altOf}
+use Rattle.lake_sets.specs.Analysis.{Analysis, bodyAlt}
 
 -- "the nonterminals of ALT(b) by number": those of the names, numbered from i on; "lakes in ALT(b) are dropped"
 unfoldable pub nonterminalsIn : List ℕ → ℕ → List Symbol → List (Exp ℕ)
@@ -38,7 +38,7 @@ plainBy false b ss = b
 unfoldable pub plainFrom : Grammar → Analysis → ℕ → List Symbol → List (Exp ℕ) → List (Exp ℕ)
 plainFrom g a r [] bs = []
 plainFrom g a r (h ∷ hs) [] = []
-plainFrom g a r (h ∷ hs) (b ∷ bs) = plainBy (isLake h) b (alternatives g (altOf a r)) ∷ plainFrom g a (suc r) hs bs
+plainFrom g a r (h ∷ hs) (b ∷ bs) = plainBy (isLake h) b (alternatives g (bodyAlt a r)) ∷ plainFrom g a (suc r) hs bs
 
 unfoldable pub plainBodies : Grammar → Analysis → List (Exp ℕ)
 plainBodies g a = plainFrom g a 0 (g .names) (intermediate g)

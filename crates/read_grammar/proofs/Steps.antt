@@ -15,7 +15,7 @@ use Rattle.read_tokens.specs.steps.Code.{literalFrom, classAt}
 use Rattle.grammar_table.specs.Table.{expressionsAt, expressionWords, expressionCount, terminalWords, symbolsAt, symbolWords, bodyAt, wordsFrom}
 use Rattle.grammar_table.specs.steps.Rows.{cap}
 use Rattle.grammar_table.specs.laws.Words.{words-length, words-at}
-use Rattle.read_grammar.specs.steps.Entries.{symbolRow, lakeOf, leafRow, bitOf, leafAt, pushBy, pushed, bodyBy, bodied, prefixOp, suffixOp}
+use Rattle.read_grammar.specs.steps.Entries.{symbolRow, lakeOf, leafRow, bitOf, leafAt, pushBy, pushed, bodiedBy, bodied, prefixOp, suffixOp}
 
 -- ── stores into a record, one after the other ──
 pub store-on : (row : List ℕ) (k i b : ℕ) (l m : List ℕ) → l ≡ b ∷ m → sets row (k + i) l ≡ sets (set row (k + i) b) (k + (i + 1)) m
@@ -157,11 +157,11 @@ pub bodied-in : (t t₁ : List ℕ) (c k : ℕ) → k < 64 → c ≡ expressionC
 unfolding bodied
 bodied-in t t₁ c k h e p =
     let at : symbolsAt + symbolWords * k + 1 ≡ bodyAt k = omega arith in
-    p ∙ ap (λ (i : ℕ). set t i c) at ∙ ap (λ (x : ℕ). set t (bodyAt k) x) e ∙ ap (λ (x : Bool). bodyBy x k t) (sym (lt-ltb k 64 h))
+    p ∙ ap (λ (i : ℕ). set t i c) at ∙ ap (λ (x : ℕ). set t (bodyAt k) x) e ∙ ap (λ (x : Bool). bodiedBy x k t) (sym (lt-ltb k 64 h))
 
 pub bodied-out : (t : List ℕ) (k : ℕ) → 64 ≤ k → t ≡ bodied k t
 unfolding bodied
-bodied-out t k h = ap (λ (x : Bool). bodyBy x k t) (sym (le-ltb k 64 h))
+bodied-out t k h = ap (λ (x : Bool). bodiedBy x k t) (sym (le-ltb k 64 h))
 
 -- ── operators ──
 pub prefix-amp : (k : ℕ) → k ≡ 6 → 7 ≡ prefixOp k

@@ -11,7 +11,7 @@ ghost use Rattle.read_tokens.specs.Tokens.{tokenAt, lexemes};
 ghost use Rattle.read_tokens.specs.steps.Code.{coded};
 ghost use Rattle.read_tokens.specs.laws.Forward.{lexemesAt};
 ghost use Rattle.grammar.specs.Same.{sameBytes, sameSymbol, isIn};
-ghost use Rattle.read_syntax.specs.Reading.{before, begins, leftsIn, second, unruled, lacks};
+ghost use Rattle.read_syntax.specs.Reading.{before, startsWith, leftsIn, second, unruled, lacks};
 ghost use Rattle.read_names.specs.steps.Names.{bytesAt, symbolBy, hitBy, walkTo, begun, placed, bad4, lakePrefix, reservedBy};
 
 pub mod lefts;
@@ -123,7 +123,7 @@ pub fn has_rule(mode: Mode, text: &[u8], kind: u8, from: usize, size: usize) -> 
 // Whether the name of n bytes from `from` on begins with `lake__`.
 fn lakelike(text: &[u8], from: usize, n: usize) -> bool
     requires { ⌜ from + n ≤ length (now text) ⌝ }
-    ensures { λ r. ⌜ r ≡ begins lakePrefix (bytesAt (now (text .entry)) from n) ⌝ }
+    ensures { λ r. ⌜ r ≡ startsWith lakePrefix (bytesAt (now (text .entry)) from n) ⌝ }
 {
     if n < 6 {
         return false;

@@ -33,7 +33,7 @@ overAt m d (x ∷ l) zero = over m d (x .is)
 overAt m d (x ∷ l) (suc k) = overAt m (opened d (x .is)) l k
 
 -- what the document says of the answer: "2 and 3: the leftmost place decides, then 2" (01, Refusal numbers)
-abbrev pub Says : Mode → List Lexeme → Judged → Type 0
-Says m xs fine = Grammatical (toksOf xs) × ((j : ℕ) → overAt m 0 xs j ≡ false)
-Says m xs (syntax k) = Offends (toksOf xs) k × ((j : ℕ) → j < k → overAt m 0 xs j ≡ false)
-Says m xs (wide k) = (overAt m 0 xs k ≡ true) × ((j : ℕ) → j < k → overAt m 0 xs j ≡ false) × ((j : ℕ) → Offends (toksOf xs) j → k < j)
+abbrev pub Judges : Mode → List Lexeme → Judged → Type 0
+Judges m xs fine = Grammatical (toksOf xs) × ((j : ℕ) → overAt m 0 xs j ≡ false)
+Judges m xs (syntax k) = Offends (toksOf xs) k × ((j : ℕ) → j < k → overAt m 0 xs j ≡ false)
+Judges m xs (wide k) = (overAt m 0 xs k ≡ true) × ((j : ℕ) → j < k → overAt m 0 xs j ≡ false) × ((j : ℕ) → Offends (toksOf xs) j → k < j)

@@ -31,13 +31,13 @@ offence n xs (syntax k) = refuseAt 2 (some (placeOf n xs k))
 offence n xs (wide k) = refuseAt 3 (some (placeOf n xs k))
 
 -- "names, a lake's too, may not begin with `lake__`" in lake mode
-unfoldable pub begins : List ℕ → List ℕ → Bool
-begins [] w = true
-begins (a ∷ l) [] = false
-begins (a ∷ l) (b ∷ w) = eqb a b && begins l w
+unfoldable pub startsWith : List ℕ → List ℕ → Bool
+startsWith [] w = true
+startsWith (a ∷ l) [] = false
+startsWith (a ∷ l) (b ∷ w) = eqb a b && startsWith l w
 
 unfoldable pub reserved : Mode → Symbol → Bool
-reserved Lake h = begins (108 ∷ 97 ∷ 107 ∷ 101 ∷ 95 ∷ 95 ∷ []) (nameOf h)
+reserved Lake h = startsWith (108 ∷ 97 ∷ 107 ∷ 101 ∷ 95 ∷ 95 ∷ []) (nameOf h)
 reserved Plain h = false
 
 -- whether an arrow comes next: "a name or lake not followed by `<-`" is a use, any other a left side

@@ -13,7 +13,7 @@ abbrev pub has : List Bool → ℕ → Bool
 has l b = getD l b false
 
 -- a run: one byte after the other in the class, and neither the byte before nor the byte behind
-pub record Run (l : List Bool) (r : Range) : Type 0 where
+pub record ClassRun (l : List Bool) (r : Range) : Type 0 where
   pub order : r .lo ≤ r .hi
   pub inside : (b : ℕ) → r .lo ≤ b → b ≤ r .hi → has l b ≡ true
   pub before : (b : ℕ) → suc b ≡ r .lo → has l b ≡ false
@@ -34,6 +34,6 @@ Ascending (r ∷ rs) = Each (λ s. r .hi < s .lo) rs × Ascending rs
 
 -- the runs of a class, ascending, and every byte of it in one of them
 pub record RunsOf (l : List Bool) (rs : List Range) : Type 0 where
-  pub each : Each (Run l) rs
+  pub each : Each (ClassRun l) rs
   pub ascending : Ascending rs
   pub all : (b : ℕ) → has l b ≡ true → Covers rs b

@@ -1,5 +1,5 @@
 use Rattle.base_words.specs.Set.{empty}
-use Rattle.base_rounds.specs.laws.Sys.{none}
+use Rattle.base_rounds.specs.laws.Sys.{empties}
 use lib.ListN.{length-replicate, getD-replicate}
 use Rattle.base_rounds.specs.laws.Fill.{fill-more}
 use mathlib.Core.Path.{_≡_, refl, sym, ap, _∙_}
@@ -47,7 +47,7 @@ returns : tie.Need-returns Inv-loop μ-loop
 returns c =
     let a = c .before in
     let n = length (a .before .args .to .now) in
-    ext-getD [] (a .loop .to) (none n) (a .loop .inv .1 ∙ sym (length-replicate n empty)) (λ i p. a .loop .inv .2 i (omega arith) ∙ sym (getD-replicate n i empty [] (omega arith)))
+    ext-getD [] (a .loop .to) (empties n) (a .loop .inv .1 ∙ sym (length-replicate n empty)) (λ i p. a .loop .inv .2 i (omega arith) ∙ sym (getD-replicate n i empty [] (omega arith)))
 
 pub clear-spec : {M : Type 1} → statement M
 clear-spec =

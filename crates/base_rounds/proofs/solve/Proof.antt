@@ -5,7 +5,7 @@ use native.Mathlib.Omega.{arith}
 use lib.ListN.{length, getD}
 use Rattle.base_rounds.specs.laws.Cells.{Every}
 use Rattle.base_rounds.specs.laws.Pair.{Set2}
-use Rattle.base_rounds.specs.laws.Sys.{none, roundOf, roundAt, Moved, round-next, moved-next, few}
+use Rattle.base_rounds.specs.laws.Sys.{empties, roundOf, roundAt, Moved, round-next, moved-next, few}
 use borrow.Author.Needs.{needs}
 use Rattle.base_rounds.proofs.solve.Statement.{statement}
 use Rattle.base_rounds.proofs.solve.Tie as tie
@@ -26,7 +26,7 @@ clear-requires c κs = search needs
 loop-holds : tie.Need-loop-holds Inv-loop μ-loop
 loop-holds c =
     let s = c .before .before .before .before .before in
-    (c .before .clear .ensures ∙ ap none (s .pre .1), λ j p. let z : ⊥ = omega arith in absurd z, omega arith, omega arith)
+    (c .before .clear .ensures ∙ ap empties (s .pre .1), λ j p. let z : ⊥ = omega arith in absurd z, omega arith, omega arith)
 
 step-requires : tie.Need-step-requires Inv-loop μ-loop
 step-requires c κs = search needs

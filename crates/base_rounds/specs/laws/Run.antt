@@ -9,7 +9,7 @@ use lib.Dec.{T, eqb, eqb→eq, eqb-refl, T-not, ltb, ltb→lt}
 use Rattle.base_words.specs.Set.{empty}
 use Rattle.base_rounds.specs.Flow.{sameWords, sameSets}
 use Rattle.base_rounds.specs.Rounds.{First, iter}
-use Rattle.base_rounds.specs.laws.Sys.{roundOf, roundAt, none}
+use Rattle.base_rounds.specs.laws.Sys.{roundOf, roundAt, empties}
 use Rattle.base_rounds.specs.laws.Pair.{Set2}
 use Rattle.base_rounds.specs.laws.Cells.{Every}
 
@@ -74,9 +74,9 @@ chain-dst = 1 ∷ 2 ∷ 3 ∷ 4 ∷ 5 ∷ 6 ∷ 7 ∷ 8 ∷ 9 ∷ 10 ∷ 11 ∷ 
 chain-base : List (List ℕ)
 chain-base = (9223372036854775808 ∷ 1 ∷ []) ∷ empty ∷ empty ∷ empty ∷ empty ∷ empty ∷ empty ∷ empty ∷ empty ∷ empty ∷ empty ∷ empty ∷ empty ∷ empty ∷ empty ∷ (1 ∷ 0 ∷ []) ∷ []
 
-chain-count : First (roundOf chain-src chain-dst chain-base) (none (length chain-base)) 16
+chain-count : First (roundOf chain-src chain-dst chain-base) (empties (length chain-base)) 16
 unfolding chain-src chain-dst chain-base
-chain-count = run-first sameSets sets-sound sets-whole (roundOf chain-src chain-dst chain-base) 16 (none (length chain-base)) tt
+chain-count = run-first sameSets sets-sound sets-whole (roundOf chain-src chain-dst chain-base) 16 (empties (length chain-base)) tt
 
 -- ---- what a caller with tables that are written out has to show, by computation
 abbrev pub allBelow : ℕ → List ℕ → Bool

@@ -34,11 +34,11 @@ pushed-more src dst m old acc = rw add-one (flow-more unionOf [] (edges src dst 
 abbrev pub roundOf : List ℕ → List ℕ → List (List ℕ) → List (List ℕ) → List (List ℕ)
 roundOf src dst base old = pushed src dst (length src) old base
 
-abbrev pub none : ℕ → List (List ℕ)
-none n = replicate n empty
+abbrev pub empties : ℕ → List (List ℕ)
+empties n = replicate n empty
 
 abbrev pub roundAt : List ℕ → List ℕ → List (List ℕ) → ℕ → List (List ℕ)
-roundAt src dst base k = iter (roundOf src dst base) (none (length base)) k
+roundAt src dst base k = iter (roundOf src dst base) (empties (length base)) k
 
 pub record Shaped (src dst : List ℕ) (n : ℕ) : Type 0 where
   pub both : length src ≡ length dst
@@ -80,7 +80,7 @@ pub record Stepped (src dst : List ℕ) (base old cur next : List (List ℕ)) (r
   pub still : r ≡ false → roundOf src dst base old ≡ old
 
 pub record Solved (src dst : List ℕ) (base : List (List ℕ)) (k : ℕ) (s t : List (List ℕ)) : Type 0 where
-  pub first : First (roundOf src dst base) (none (length base)) k
+  pub first : First (roundOf src dst base) (empties (length base)) k
   pub is : s ≡ roundAt src dst base k
   pub too : t ≡ roundAt src dst base k
 

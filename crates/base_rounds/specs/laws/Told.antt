@@ -14,7 +14,7 @@ use Rattle.base_rounds.specs.laws.Cells.{Every, Below}
 use Rattle.base_rounds.specs.Flow.{Edge}
 use Rattle.base_rounds.specs.laws.Flow.{Solution, least, solves, round-fine}
 use Rattle.base_rounds.specs.laws.Pair.{Set2, pair, pair-joins}
-use Rattle.base_rounds.specs.laws.Sys.{Shaped, Solved, few, edges, inside, roundOf, roundAt, Moved, none}
+use Rattle.base_rounds.specs.laws.Sys.{Shaped, Solved, few, edges, inside, roundOf, roundAt, Moved, empties}
 
 module _ (r t : ℕ) (src dst : List ℕ) (base : List (List ℕ)) (sh : Shaped src dst (length base)) (g : Every (Set2 r t) [] (length base) base) where
   -- y contains base and hands on along each edge
@@ -41,7 +41,7 @@ module _ (r t : ℕ) (src dst : List ℕ) (base : List (List ℕ)) (sh : Shaped 
 
 -- two answers that meet it are equal
 pub solved-count : (src dst : List ℕ) (base : List (List ℕ)) (j k : ℕ) (s u s′ u′ : List (List ℕ)) → Solved src dst base j s u → Solved src dst base k s′ u′ → j ≡ k
-solved-count src dst base j k s u s′ u′ p q = first-unique (roundOf src dst base) (none (length base)) j k (p .first) (q .first)
+solved-count src dst base j k s u s′ u′ p q = first-unique (roundOf src dst base) (empties (length base)) j k (p .first) (q .first)
 
 pub solved-sets : (src dst : List ℕ) (base : List (List ℕ)) (j k : ℕ) (s u s′ u′ : List (List ℕ)) → Solved src dst base j s u → Solved src dst base k s′ u′ → s ≡ s′
 solved-sets src dst base j k s u s′ u′ p q = p .is ∙ ap (roundAt src dst base) (solved-count src dst base j k s u s′ u′ p q) ∙ sym (q .is)

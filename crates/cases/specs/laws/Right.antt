@@ -18,7 +18,7 @@ use Rattle.grammar_table.specs.Table.{upTo}
 use Rattle.grammar.specs.Trees.{trees, treeC, treeS, treeP, treeF, treeQ}
 use Rattle.read_syntax.specs.Machine.{close, newRule, after, step, accepting, runs as reading-runs, offendsFrom, finish, over as reading-over, judge, placeOf}
 use Rattle.read_syntax.specs.Reader.{closeBy, primBy, sufBy, prefBy, choiceBy, arrowBy, ruleBy, rulesR, rulesP, choiceP, choiceR, seqP, seqR, prefP, primP}
-use Rattle.read_syntax.specs.Reading.{begins, reserved, second, leftsIn, unruled, tooMany, rulesIn, refusesText, rulesOf}
+use Rattle.read_syntax.specs.Reading.{startsWith, reserved, second, leftsIn, unruled, tooMany, rulesIn, refusesText, rulesOf}
 use Rattle.base_rounds.specs.Rounds.{settle}
 use Rattle.lake_sets.specs.Analysis.{analysed, analysis, setsAt, blockedBy, cannotSkipBelow, cannotSkip}
 use Rattle.lake_sets.specs.Beginning.{markRound, marksOf as sets-marksOf, beginningsFrom, beginnings}
@@ -46,7 +46,7 @@ unfolding cases answered text-bytes oneOf ranges kindAt textBound nameBound open
     symbolsIn leavesIn waterOf stepOne choiceOf skipOf stepTwo plainName leftSides usesOf onlyLakes looseLakes symbolsOf leavesOf terminalsOf
     expressionsOf numbered partsOf partsAll rootsOf sameBytes sameMarks sameSymbol sameLeaf isIn indexOf newIn tokens choiceToks seqToks prefToks
     sufToks primToks upTo trees treeC treeS treeP treeF treeQ close newRule after step accepting reading-runs offendsFrom finish reading-over judge
-    placeOf closeBy primBy sufBy prefBy choiceBy arrowBy ruleBy rulesR rulesP choiceP choiceR seqP seqR prefP primP begins reserved second leftsIn
+    placeOf closeBy primBy sufBy prefBy choiceBy arrowBy ruleBy rulesR rulesP choiceP choiceR seqP seqR prefP primP startsWith reserved second leftsIn
     unruled tooMany rulesIn refusesText rulesOf settle analysed analysis setsAt blockedBy cannotSkipBelow cannotSkip markRound sets-marksOf
     beginningsFrom beginnings sets-over given leastBy waterIn bodiesBy intermediate firstCalls callsOf calledBy reach loopFrom loop ranksOf ofRank
     orderFrom order nonterminalsIn terminalsIn alternatives plainFrom plainBodies sizes rulesBy plainRules bodyAt rowOf fillOf cells stands leafAt

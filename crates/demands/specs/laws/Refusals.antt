@@ -19,7 +19,7 @@ use Rattle.grammar.specs.Exp.{Exp, Rule}
 use Rattle.grammar.specs.Numbers.{symbolsOf, terminalsOf, expressionsOf}
 use Rattle.grammar.specs.Refusal.{Refusal, refusal, refuseIf, refuseAt, _▸_}
 use Rattle.read_syntax.specs.Machine.{start, Judged, fine, syntax, wide, judge, placeOf}
-use Rattle.read_syntax.specs.Offence.{Says}
+use Rattle.read_syntax.specs.Offence.{Judges}
 use Rattle.read_syntax.specs.Grammar.{GrammarOf}
 use Rattle.read_syntax.specs.Reading.{tooLong, offence, second, unruled, leftsIn, tooMany, refusesText, rulesOf}
 use Rattle.read_syntax.specs.steps.Found.{found}
@@ -53,10 +53,10 @@ module _ (m : Mode) (t : List ℕ) where
   isWide (syntax i) = false
   isWide (wide i) = true
 
-  not-both : (i j : ℕ) → Says m xs (syntax i) → Says m xs (wide j) → ⊥
+  not-both : (i j : ℕ) → Judges m xs (syntax i) → Judges m xs (wide j) → ⊥
   not-both i j u v = true≢false (sym (ap isWide (one-answer m xs (syntax i) (wide j) u v)))
 
-  sound23 : (o : Judged) → Says m xs o → (r : Refusal) → offence n xs o ≡ some r → FirstRow (Row2 m t ∷ Row3 m t ∷ []) (r .number) (r .place)
+  sound23 : (o : Judged) → Judges m xs o → (r : Refusal) → offence n xs o ≡ some r → FirstRow (Row2 m t ∷ Row3 m t ∷ []) (r .number) (r .place)
   sound23 fine s r e = absurd (some-none r (sym e))
   sound23 (syntax i) s r e =
       let z : refusal 2 (placeOf n xs i) ≡ r = same-refusal e in
@@ -65,7 +65,7 @@ module _ (m : Mode) (t : List ℕ) where
       let z : refusal 3 (placeOf n xs i) ≡ r = same-refusal e in
       inr (λ p h. not-both (h .0) i (h .1) s, inl (ap (λ (x : Refusal). x .number) z, (i, s, sym (ap (λ (x : Refusal). x .place) z))))
 
-  said : (o : Judged) → Says m xs o → {k p : ℕ} → offence n xs o ≡ some (refusal k p) → offence n xs (judge m 0 start xs) ≡ some (refusal k p)
+  said : (o : Judged) → Judges m xs o → {k p : ℕ} → offence n xs o ≡ some (refusal k p) → offence n xs (judge m 0 start xs) ≡ some (refusal k p)
   said o s e = ap (offence n xs) (one-answer m xs (judge m 0 start xs) o (judged m xs) s) ∙ e
 
   pair-is : {i j k p : ℕ} → i ≡ k → p ≡ j → some (refusal i j) ≡ some (refusal k p)

@@ -16,7 +16,7 @@ use Rattle.grammar.specs.Numbers.{Grammar, isLake}
 use Rattle.base_words.specs.Set.{bit, memberOf}
 use Rattle.base_words.specs.laws.Members.{bit-step}
 use Rattle.lake_sets.specs.Beginning.{marked}
-use Rattle.lake_sets.specs.Analysis.{Analysis, altOf, blockedBy, cannotSkipBelow, cannotSkip}
+use Rattle.lake_sets.specs.Analysis.{Analysis, bodyAlt, blockedBy, cannotSkipBelow, cannotSkip}
 use Rattle.prepare.specs.Prepare.{prepared, refuses}
 use Rattle.gurkenmond.specs.declared.Lakes.{Lakes}
 use Rattle.gurkenmond.specs.Calls.{cannotSkipOf}
@@ -86,7 +86,7 @@ module _ (names : List Symbol) (marks : List Bool) (s : List ℕ) where
 -- ── the word ──
 module _ (g : Grammar) (a : Analysis) where
   abbrev test : ℕ → Bool
-  test n = isLake (getD (g .names) n (name [])) && blockedBy (g .names) (a .marks) (altOf a n) (length (g .names))
+  test n = isLake (getD (g .names) n (name [])) && blockedBy (g .names) (a .marks) (bodyAlt a n) (length (g .names))
 
   small : (n : ℕ) → cannotSkipBelow g a n < 2 ^ n
   unfolding cannotSkipBelow
@@ -116,17 +116,17 @@ module _ (g : Grammar) (a : Analysis) where
 
   -- lake l has a nonterminal in ALT whose body has ε
   abbrev pub Cannot : ℕ → Type 0
-  Cannot l = (isLake (getD (g .names) l (name [])) ≡ true) × ((x : ℕ) × Blocks (g .names) (a .marks) (altOf a l) (length (g .names)) x)
+  Cannot l = (isLake (getD (g .names) l (name [])) ≡ true) × ((x : ℕ) × Blocks (g .names) (a .marks) (bodyAlt a l) (length (g .names)) x)
 
-  bit-so : (l : ℕ) → (b c : Bool) → isLake (getD (g .names) l (name [])) ≡ b → blockedBy (g .names) (a .marks) (altOf a l) (length (g .names)) ≡ c → _≡_ {A = ℕ} (cond (b && c) 1 0) 1 → Cannot l
-  bit-so l true true e f z = (e, blocked-by (g .names) (a .marks) (altOf a l) (length (g .names)) f)
+  bit-so : (l : ℕ) → (b c : Bool) → isLake (getD (g .names) l (name [])) ≡ b → blockedBy (g .names) (a .marks) (bodyAlt a l) (length (g .names)) ≡ c → _≡_ {A = ℕ} (cond (b && c) 1 0) 1 → Cannot l
+  bit-so l true true e f z = (e, blocked-by (g .names) (a .marks) (bodyAlt a l) (length (g .names)) f)
   bit-so l true false e f z = absurd (omega (arith, z))
   bit-so l false c e f z = absurd (omega (arith, z))
 
   so-bit : (l : ℕ) → Cannot l → test l ≡ true
   so-bit l w =
-      ap (λ (b : Bool). b && blockedBy (g .names) (a .marks) (altOf a l) (length (g .names))) (w .0)
-      ∙ by-blocked (g .names) (a .marks) (altOf a l) (length (g .names)) (w .1 .0) (w .1 .1)
+      ap (λ (b : Bool). b && blockedBy (g .names) (a .marks) (bodyAlt a l) (length (g .names))) (w .0)
+      ∙ by-blocked (g .names) (a .marks) (bodyAlt a l) (length (g .names)) (w .1 .0) (w .1 .1)
 
   pub skip-bit : (l : ℕ) → l < length (g .names) → (bit (cannotSkip g a) l ≡ 1) ↔ Cannot l
   unfolding cannotSkip

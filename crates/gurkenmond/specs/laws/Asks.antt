@@ -18,7 +18,7 @@ use Rattle.grammar_table.specs.Holds.{Holds}
 use Rattle.grammar_table.specs.laws.Lists.{up-length}
 use Rattle.read_syntax.specs.Reading.{rulesOf}
 use Rattle.base_words.specs.Set.{empty}
-use Rattle.lake_sets.specs.Analysis.{analysis, altOf}
+use Rattle.lake_sets.specs.Analysis.{analysis, bodyAlt}
 use Rattle.lake_sets.specs.steps.Steps.{rootIn}
 use Rattle.lake_analysis.specs.steps.Lent.{lakeIn}
 use Rattle.lake_analysis.specs.laws.Skip.{lake-is, alt-is}
@@ -140,7 +140,7 @@ module _ (m : Mode) (s t mid : List ℕ) (ms : List Bool) (sets : List (List ℕ
             unfolding prepared preparedBy
             cells-are = fills .are g (plainOf g) pl (clear-loop m s (st .clear))
 
-            set-is : (a : List ℕ) → a ≡ getD alts (rootIn mid l) empty → a ≡ altOf (p .analysis) l
+            set-is : (a : List ℕ) → a ≡ getD alts (rootIn mid l) empty → a ≡ bodyAlt (p .analysis) l
             unfolding prepared preparedBy
             set-is a x = x ∙ alt-is mid g (st .worked .between) (clear-good m s (st .clear) .proper) ms _ _ _ alts rounds (st .worked .analysed) l (omega (arith, there, names-long))
 
@@ -148,12 +148,12 @@ module _ (m : Mode) (s t mid : List ℕ) (ms : List Bool) (sets : List (List ℕ
             unfolding prepared preparedBy
             count-is = e ∙ bodies-are out g (plainOf g) (pl .holds)
 
-            way-all : (a : List ℕ) (w : ℕ) → a ≡ getD alts (rootIn mid l) empty → w ≡ wayIn (grammarIn t) i new n a l q → w ≡ wayIn (p .grammar) i (filled p i cs) (length (p .bodies)) (altOf (p .analysis) l) l q
+            way-all : (a : List ℕ) (w : ℕ) → a ≡ getD alts (rootIn mid l) empty → w ≡ wayIn (grammarIn t) i new n a l q → w ≡ wayIn (p .grammar) i (filled p i cs) (length (p .bodies)) (bodyAlt (p .analysis) l) l q
             unfolding prepared preparedBy
             way-all a w x y =
                 way-is t g (st .table) (clear-good m s (st .clear) .proper) i new n a l q w y
                 ∙ ap (λ (z : List ℕ). wayIn g i new n z l q) (set-is a x)
-                ∙ ap₂ (λ (cs : List ℕ) (k : ℕ). wayIn g i cs k (altOf (analysis g) l) l q) cells-are count-is
+                ∙ ap₂ (λ (cs : List ℕ) (k : ℕ). wayIn g i cs k (bodyAlt (analysis g) l) l q) cells-are count-is
 
             pub lake-answered : (a : List ℕ) (w : ℕ) (r : Way) → a ≡ getD alts (rootIn mid l) empty → w ≡ wayIn (grammarIn t) i new n a l q → waySays r ≡ w → SaysWay (record { way = r; verdict = Accepted }) new (lakeOf m s i cs l q)
             lake-answered a w r x y z =

@@ -15,7 +15,7 @@ use Rattle.base_rounds.specs.laws.Fix.{Lattice, first-exists, rounds-bound, ite
 use Rattle.base_rounds.specs.laws.Cells.{Joins, Every, Below, cells}
 use Rattle.lake_sets.specs.Beginning.{marked, markRound, marksOf}
 use Rattle.grammar_table.specs.laws.Places.{getD-any}
-use Rattle.lake_analysis.specs.Rules.{Marks, LeastMarks}
+use Rattle.lake_analysis.specs.Rules.{EmptyMarks, LeastMarks}
 
 abbrev pub Imp : Bool → Bool → Type 0
 Imp a b = a ≡ true → b ≡ true

@@ -20,7 +20,7 @@ use Rattle.grammar_table.specs.Table.{symbolCount, expressionCount, symbolWord,
 use Rattle.grammar_table.specs.Holds.{Holds}
 use Rattle.lake_step_one.specs.Intermediate.{intermediate}
 use Rattle.lake_sets.specs.Beginning.{marked}
-use Rattle.lake_sets.specs.Analysis.{Analysis, analysed, analysis, altOf, blockedBy, cannotSkipBelow, cannotSkip}
+use Rattle.lake_sets.specs.Analysis.{Analysis, analysed, analysis, bodyAlt, blockedBy, cannotSkipBelow, cannotSkip}
 use Rattle.lake_sets.specs.steps.Steps.{rootIn}
 use Rattle.lake_step_one.specs.Proper.{Proper, middle}
 use Rattle.lake_sets.specs.steps.Analysed.{Analysed}
@@ -81,13 +81,13 @@ module _ (t : List ℕ) (g : Grammar) (h : Holds t (middle g)) (proper : Proper 
   blocked-is s (suc n) l =
       ap₂ _||_ (ap₂ (λ (x y : Bool). memberOf s n && (not x && y)) (lake-is n (omega arith)) (mark-is n (omega arith))) (blocked-is s n (omega arith))
 
-  pub alt-is : (n : ℕ) → n < R → getD alts (rootIn t n) empty ≡ altOf (analysis g) n
+  pub alt-is : (n : ℕ) → n < R → getD alts (rootIn t n) empty ≡ bodyAlt (analysis g) n
   unfolding analysis analysed
   alt-is n l =
       sym (getD-take (expressionCount t) alts (rootIn t n) empty (tame t g h proper .roots n l))
       ∙ ap₂ (λ (y : List (List ℕ)) (i : ℕ). getD y i empty) (a .alts-is) (roots-is t g h proper n l)
 
-  skip-is : (n : ℕ) → n < R → skipIn t ms alts R n ≡ (isLake (getD (g .names) n (name [])) && blockedBy (g .names) (analysis g .marks) (altOf (analysis g) n) R)
+  skip-is : (n : ℕ) → n < R → skipIn t ms alts R n ≡ (isLake (getD (g .names) n (name [])) && blockedBy (g .names) (analysis g .marks) (bodyAlt (analysis g) n) R)
   skip-is n l =
       ap₂ _&&_ (lake-is n l) (blocked-is (getD alts (rootIn t n) empty) R (omega arith) ∙ ap (λ (s : List ℕ). blockedBy (g .names) (analysis g .marks) s R) (alt-is n l))
 

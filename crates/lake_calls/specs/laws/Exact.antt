@@ -20,7 +20,7 @@ use Rattle.base_words.specs.laws.Members.{bit-lt, bit-pow-same, bit-pow-other}
 use Rattle.base_words.specs.laws.Order.{sub-or-l, sub-or-r}
 use Rattle.lake_sets.specs.Beginning.{marked, marksOf}
 use Rattle.lake_calls.specs.Calls.{firstCalls, callsOf, holds, reach, loopFrom, loop}
-use Rattle.lake_calls.specs.Loops.{Calls, FirstCalls, Reaches, at-once, and-on, OnLoop, SmallestLoop}
+use Rattle.lake_calls.specs.Loops.{Calls, FirstCalls, LeadsTo, at-once, and-on, OnLoop, SmallestLoop}
 use Rattle.lake_calls.specs.laws.Ranks.{member}
 use Rattle.lake_calls.specs.laws.Reaches.{Called, either, none-in, reach-is, Found, found}
 
@@ -107,16 +107,16 @@ module _ (bodies : List (Exp ℕ)) where
       let l : r < length bodies = omega (arith, h .0, calls-long) in
       (l, calls-it m (getD bodies r (ter any)) x (subst (λ (w : ℕ). holds w x ≡ true) (word-at r l) (h .1)))
 
-  to-words : {r x : ℕ} → Reaches (FirstCalls bodies) r x → Reaches (Called calls) r x
+  to-words : {r x : ℕ} → LeadsTo (FirstCalls bodies) r x → LeadsTo (Called calls) r x
   to-words {r} {x} (at-once h) = at-once (to-word r x h)
   to-words {r} {x} (and-on {y = y} t h) = and-on (to-words t) (to-word y x h)
 
-  from-words : {r x : ℕ} → Reaches (Called calls) r x → Reaches (FirstCalls bodies) r x
+  from-words : {r x : ℕ} → LeadsTo (Called calls) r x → LeadsTo (FirstCalls bodies) r x
   from-words {r} {x} (at-once h) = at-once (from-word r x h)
   from-words {r} {x} (and-on {y = y} t h) = and-on (from-words t) (from-word y x h)
 
   -- what reaches anything has a body
-  has-body : {r x : ℕ} → Reaches (FirstCalls bodies) r x → r < length bodies
+  has-body : {r x : ℕ} → LeadsTo (FirstCalls bodies) r x → r < length bodies
   has-body (at-once h) = h .0
   has-body (and-on t h) = has-body t
 

@@ -20,7 +20,7 @@ use Rattle.base_words.specs.laws.Members.{bit-or, bit-lt, bit-pow-same, bit-pow
 use Rattle.base_words.specs.laws.Order.{Sub, sub-or-r, bit-none}
 use Rattle.base_rounds.specs.Rounds.{iter}
 use Rattle.lake_calls.specs.Calls.{holds, calledBy, reach, loopFrom}
-use Rattle.lake_calls.specs.Loops.{Reaches, at-once, and-on}
+use Rattle.lake_calls.specs.Loops.{LeadsTo, at-once, and-on}
 use Rattle.lake_calls.specs.laws.Ranks.{member, called-has, closed, reach-has, holds-up, falls}
 
 -- y calls x; calls are the first calls of each symbol, a word each
@@ -62,25 +62,25 @@ module _ (calls : List ℕ) (r : ℕ) where
       ⊎-elim (λ (l : r < length calls). l) (λ (l : length calls ≤ r). absurd (none-in x (subst (λ (w : ℕ). holds w x ≡ true) (List·getD-eq-default calls 0 {n = r} l) h)))
       (lt-or-ge r (length calls))
 
-  rounds-reach : (k x : ℕ) → holds (iter (λ w. bitOr w (calledBy calls w (length calls))) (getD calls r 0) k) x ≡ true → Reaches (Called calls) r x
+  rounds-reach : (k x : ℕ) → holds (iter (λ w. bitOr w (calledBy calls w (length calls))) (getD calls r 0) k) x ≡ true → LeadsTo (Called calls) r x
   rounds-reach zero x h = at-once (has-word x h, h)
   rounds-reach (suc k) x h = go (either w (calledBy calls w (length calls)) x h) (λ y p. rounds-reach k y p)
     where
       w : ℕ
       w = iter (λ w. bitOr w (calledBy calls w (length calls))) (getD calls r 0) k
 
-      go : (holds w x ≡ true) ⊎ (holds (calledBy calls w (length calls)) x ≡ true) → ((y : ℕ) → holds w y ≡ true → Reaches (Called calls) r y) → Reaches (Called calls) r x
+      go : (holds w x ≡ true) ⊎ (holds (calledBy calls w (length calls)) x ≡ true) → ((y : ℕ) → holds w y ≡ true → LeadsTo (Called calls) r y) → LeadsTo (Called calls) r x
       go (inl p) f = f x p
       go (inr p) f = let q = caller calls w (length calls) x p in and-on (f (q .0) (q .2)) (q .1, q .3)
 
   -- `reach` has nothing but what one call after the other leads to
-  pub reach-leads : (x : ℕ) → holds (reach calls r) x ≡ true → Reaches (Called calls) r x
+  pub reach-leads : (x : ℕ) → holds (reach calls r) x ≡ true → LeadsTo (Called calls) r x
   unfolding reach
   reach-leads x h = rounds-reach (length calls) x h
 
   module _ (small : (x : ℕ) → getD calls x 0 < 2 ^ length calls) where
     -- and all of it, where every symbol that is called has a word
-    pub reached : {x : ℕ} → Reaches (Called calls) r x → holds (reach calls r) x ≡ true
+    pub reached : {x : ℕ} → LeadsTo (Called calls) r x → holds (reach calls r) x ≡ true
     reached {x} (at-once h) = holds-up calls small (getD calls r 0) (reach calls r) x (reach-has calls small r) (h .1)
     reached {x} (and-on {y = y} t h) =
         let up : holds (calledBy calls (reach calls r) (length calls)) x ≡ true =
@@ -194,12 +194,12 @@ module _ (calls : List ℕ) where
   called-low : (y x : ℕ) → x < n → Called calls y x → Called lows y x
   called-low y x l h = (omega (arith, h .0, lows-long), ap (λ (z : ℕ). eqb z 1) (sym (agree-word y x l)) ∙ h .1)
 
-  leads-low : {r x : ℕ} → x < n → Reaches (Called calls) r x → Reaches (Called lows) r x
+  leads-low : {r x : ℕ} → x < n → LeadsTo (Called calls) r x → LeadsTo (Called lows) r x
   leads-low {r} {x} l (at-once h) = at-once (called-low r x l h)
   leads-low {r} {x} l (and-on {y = y} t h) = and-on (leads-low (h .0) t) (called-low y x l h)
 
   -- of a symbol that has a word, `reach` says just what one call after the other leads to
-  pub reach-is : (r x : ℕ) → x < n → (holds (reach calls r) x ≡ true) ↔ Reaches (Called calls) r x
+  pub reach-is : (r x : ℕ) → x < n → (holds (reach calls r) x ≡ true) ↔ LeadsTo (Called calls) r x
   reach-is r x l =
       (λ h. reach-leads calls r x h, λ t. ap (λ (z : ℕ). eqb z 1) (agree-reach r x l) ∙ reached lows r lows-small (leads-low l t))
 

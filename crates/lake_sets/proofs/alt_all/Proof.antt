@@ -8,7 +8,7 @@ use Rattle.base_words.specs.Set.{empty}
 use Rattle.lake_sets.specs.Flows.{Gift, given}
 use Rattle.lake_sets.specs.steps.Steps.{handed, succeedGiven, altGiven}
 use Rattle.lake_sets.specs.laws.Edges.{handed-inside, given-long, flowed}
-use Rattle.base_rounds.specs.laws.Sys.{none}
+use Rattle.base_rounds.specs.laws.Sys.{empties}
 use borrow.Author.Needs.{needs}
 use Rattle.lake_sets.proofs.alt_all.Statement.{statement}
 use Rattle.lake_sets.proofs.alt_all.Tie as tie
@@ -25,7 +25,7 @@ flow-requires c κs =
     let q : length (c .before .before .before .alt-base .last .1 .1 .1 .1 .0) ≡ length (c .before .before .before .before .before .before .args .base .now) = ap length
     (c .before .before .before .alt-base .ensures .0) ∙ given-long (altGiven (c .before .before .before .before .before .before .args .t .now)
     (c .before .before .before .before .before .before .args .sets .now) (c .before .before .before .before .before .before .args .eps .now)
-    (c .before .before .before .before .before .before .args .succ .now) (length (c .before .before .before .before .before .before .args .base .now))) (none (length
+    (c .before .before .before .before .before .before .args .succ .now) (length (c .before .before .before .before .before .before .args .base .now))) (empties (length
     (c .before .before .before .before .before .before .args .base .now))) ∙ length-replicate (length (c .before .before .before .before .before .before .args .base .now)) empty in
     (omega arith, omega arith, omega arith, c .before .before .before .alt-base .ensures .1)
 
@@ -41,7 +41,7 @@ returns c =
     (c .before .before .before .before .before .before .before .before .args .base .now) = ap length (c .before .before .before .before .before .alt-base .ensures .0) ∙ given-long (altGiven
     (c .before .before .before .before .before .before .before .before .args .t .now) (c .before .before .before .before .before .before .before .before .args .sets .now)
     (c .before .before .before .before .before .before .before .before .args .eps .now) (c .before .before .before .before .before .before .before .before .args .succ .now) (length
-    (c .before .before .before .before .before .before .before .before .args .base .now))) (none (length
+    (c .before .before .before .before .before .before .before .before .args .base .now))) (empties (length
     (c .before .before .before .before .before .before .before .before .args .base .now))) ∙ length-replicate (length
     (c .before .before .before .before .before .before .before .before .args .base .now)) empty in
     c .before .flow .ensures (length (c .before .before .before .before .before .before .before .before .args .base .now)) (altGiven

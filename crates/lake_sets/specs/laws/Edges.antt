@@ -19,7 +19,7 @@ use Rattle.base_rounds.specs.Rounds.{First, iter}
 use Rattle.base_rounds.specs.laws.Cells.{Every}
 use Rattle.base_rounds.specs.laws.Pair.{Set2}
 use Rattle.base_rounds.specs.laws.Flow.{Inside}
-use Rattle.base_rounds.specs.laws.Sys.{edges, Shaped, Solved, roundOf, none}
+use Rattle.base_rounds.specs.laws.Sys.{edges, Shaped, Solved, roundOf, empties}
 use Rattle.grammar.specs.Parts.{Part, terminal, occurs, sequence, choice, option, repeat, repeat1, affirms, denies}
 use Rattle.grammar_table.specs.Table.{upTo, partIn, partBy}
 use Rattle.lake_sets.specs.Beginning.{Beginning}
@@ -146,13 +146,13 @@ module _ (src dst : List ℕ) (m : ℕ) (base : List (List ℕ)) (cur next : ℕ
 
 -- what it answers, along the edges that are meant
 pub flowed : (src dst : List ℕ) (m n : ℕ) (base : List (List ℕ)) (k : ℕ) (s u : List (List ℕ)) (gifts : List Gift) (es : List Edge) → m ≤ length src
-    → edges src dst m ≡ es → base ≡ given gifts (none n) → length base ≡ n → Solved (take m src) (take m dst) base k s u → Flowed n gifts es k s
+    → edges src dst m ≡ es → base ≡ given gifts (empties n) → length base ≡ n → Solved (take m src) (take m dst) base k s u → Flowed n gifts es k s
 flowed src dst m n base k s u gifts es l p q w h =
     let long : length (take m src) ≡ m = length-take-le m src l in
     let e : edges (take m src) (take m dst) (length (take m src)) ≡ es = ap (edges (take m src) (take m dst)) long ∙ edges-take src dst m m (omega arith) ∙ p in
     let F : roundOf (take m src) (take m dst) base ≡ roundBy n gifts es = ap₂ {C = List (List ℕ) → List (List ℕ)} (λ (x : List Edge) (b : List (List ℕ)). λ (old : List (List ℕ)). flow unionOf [] x old b) e q in
     let f : First (roundBy n gifts es) (replicate n empty) k
-    = subst (λ (j : ℕ). First (roundBy n gifts es) (replicate j empty) k) w (subst (λ (G : List (List ℕ) → List (List ℕ)). First G (none (length base)) k) F (h .first)) in
+    = subst (λ (j : ℕ). First (roundBy n gifts es) (replicate j empty) k) w (subst (λ (G : List (List ℕ) → List (List ℕ)). First G (empties (length base)) k) F (h .first)) in
     record {
       first = f;
       is = h .is ∙ ap₂ (λ (G : List (List ℕ) → List (List ℕ)) (j : ℕ). iter G (replicate j empty) k) F w;
@@ -196,8 +196,8 @@ gave-nothing base = record { is = refl; fine = λ b. b }
 pub gave-two : (xs ys : List Gift) (a b c : List (List ℕ)) → Gave xs a b → Gave ys b c → Gave (xs ++ ys) a c
 gave-two xs ys a b c p q = record { is = q .is ∙ ap (given ys) (p .is) ∙ sym (given-append xs ys a); fine = λ f. q .fine (p .fine f) }
 
-pub none-fine : (n : ℕ) (s : List (List ℕ)) → s ≡ none n → Fine s
-none-fine n s e = rw e record { long = refl; each = λ i p. rw (getD-replicate n i empty [] (let l : length (none n) ≡ n = length-replicate n empty in omega arith)) record { two = refl; first = pow-pos 64; second = pow-pos 64 } }
+pub none-fine : (n : ℕ) (s : List (List ℕ)) → s ≡ empties n → Fine s
+none-fine n s e = rw e record { long = refl; each = λ i p. rw (getD-replicate n i empty [] (let l : length (empties n) ≡ n = length-replicate n empty in omega arith)) record { two = refl; first = pow-pos 64; second = pow-pos 64 } }
 
 when-two : (b : Bool) (x y : Edge) → length (y ∷ when b x) ≤ 2
 when-two true x y = omega arith

@@ -13,7 +13,7 @@ use Rattle.grammar_table.specs.Table.{symbolWord, partIn, upTo}
 use Rattle.base_rounds.specs.laws.Cells.{Every}
 use Rattle.base_rounds.specs.laws.Pair.{Set2}
 use Rattle.base_rounds.specs.laws.Flow.{Inside}
-use Rattle.base_rounds.specs.laws.Sys.{edges, none}
+use Rattle.base_rounds.specs.laws.Sys.{edges, empties}
 use Rattle.lake_sets.specs.Beginning.{Beginning, begin, nothing, marked, beginBy, beginnings}
 use Rattle.lake_sets.specs.Flows.{Gift, over, given, roundBy, succeedGifts, succeedEdges, altGifts, altEdges}
 
@@ -129,12 +129,12 @@ pub record Flowed (n : ℕ) (gifts : List Gift) (es : List Edge) (k : ℕ) (s : 
 -- rounds along the first m edges, from what the gifts give at once
 abbrev pub FlowedAlong : List ℕ → List ℕ → ℕ → List (List ℕ) → ℕ → List (List ℕ) → Type 0
 FlowedAlong src dst m base k s =
-    (n : ℕ) (gifts : List Gift) (es : List Edge) → edges src dst m ≡ es → base ≡ given gifts (none n) → length base ≡ n → Flowed n gifts es k s
+    (n : ℕ) (gifts : List Gift) (es : List Edge) → edges src dst m ≡ es → base ≡ given gifts (empties n) → length base ≡ n → Flowed n gifts es k s
 
 -- rounds along the edges of a table: of SUCCEED where `back`, else of ALT
 abbrev pub FlowedFrom : List ℕ → List Bool → Bool → List (List ℕ) → ℕ → List (List ℕ) → Type 0
 FlowedFrom t eps back base k s =
-    (n : ℕ) (gifts : List Gift) → base ≡ given gifts (none n) → length base ≡ n → Flowed n gifts (handed t eps back n n) k s
+    (n : ℕ) (gifts : List Gift) → base ≡ given gifts (empties n) → length base ≡ n → Flowed n gifts (handed t eps back n n) k s
 
 -- what rounds ask: edges between expressions, and cells for each
 pub record RoundsAsk (src dst : List ℕ) (m : ℕ) (base : List (List ℕ)) (cur next : ℕ) : Type 0 where

@@ -4,7 +4,7 @@ use Prim.Native.Nat.{ℕ, _+_, _*_, _-_, _^_, _≤_, _<_}
 use native.Mathlib.Omega.{arith}
 use mathlib.Core.Bool.{Bool, true, false}
 use lib.ListN.{length, getD, set, take}
-use Rattle.lake_step_one.specs.steps.Runs.{moved, shift, Near, Above, nil, Run, Grew, stored, CopiedOne, CopiedRun}
+use Rattle.lake_step_one.specs.steps.Runs.{moved, shift, Near, Above, nil, PartsRun, Grew, stored, CopiedOne, CopiedRun}
 use borrow.Author.Needs.{needs}
 use Rattle.lake_step_one.proofs.body.Statement.{statement}
 use Rattle.lake_step_one.proofs.body.Tie as tie

@@ -5,7 +5,7 @@ use native.Mathlib.Omega.{arith}
 use lib.ListN.{length, getD, set, take}
 use Rattle.grammar_table.specs.Table.{expressionsAt, expressionWords, partBy, partIn, tableWords}
 use Rattle.grammar.specs.Parts.{Part, partsOf}
-use Rattle.lake_step_one.specs.steps.Runs.{moved, shift, Near, Above, nil, Run, Grew, stored, CopiedOne, CopiedRun}
+use Rattle.lake_step_one.specs.steps.Runs.{moved, shift, Near, Above, nil, PartsRun, Grew, stored, CopiedOne, CopiedRun}
 use Rattle.lake_step_one.specs.laws.Stores.{grew-one, grew-none, grew-two, grew-as}
 use Rattle.lake_step_one.specs.laws.Shifts.{shift-below, shift-part, front, front-none, front-all, run-more}
 use borrow.Author.Needs.{needs}

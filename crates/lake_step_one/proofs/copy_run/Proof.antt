@@ -7,7 +7,7 @@ use Rattle.grammar_table.specs.Table.{partBy, partIn, tableWords}
 use Rattle.grammar.specs.Parts.{Part, partsOf}
 use Rattle.grammar.specs.Exp.{Exp, size}
 use Rattle.read_tokens.specs.Token.{Leaf}
-use Rattle.lake_step_one.specs.steps.Runs.{moved, shift, Near, Above, nil, Run, Grew, stored, CopiedOne, CopiedRun}
+use Rattle.lake_step_one.specs.steps.Runs.{moved, shift, Near, Above, nil, PartsRun, Grew, stored, CopiedOne, CopiedRun}
 use Rattle.lake_step_one.specs.laws.Stores.{grew-one, grew-none, grew-two, grew-as}
 use Rattle.lake_step_one.specs.laws.Shifts.{shift-below, shift-part, front, front-none, front-all, run-more}
 use borrow.Author.Needs.{needs}
@@ -19,7 +19,7 @@ use Rattle.lake_step_one.proofs.copy_one.Reads as copy-one-reads
 
 abbrev Inv-loop : tie.InvT-loop
 Inv-loop t mid₀ a k m j₀ mid j = (j ≤ k) × (length mid ≡ length mid₀)
-    × ((number : Leaf → ℕ) (e : Exp ℕ) → size e ≡ k → length mid₀ ≡ tableWords → Run number t a e → Grew mid₀ m (front number m e j) mid (m + j))
+    × ((number : Leaf → ℕ) (e : Exp ℕ) → size e ≡ k → length mid₀ ≡ tableWords → PartsRun number t a e → Grew mid₀ m (front number m e j) mid (m + j))
 
 abbrev μ-loop : tie.MeasureT-loop
 μ-loop t mid₀ a k m j₀ mid j = k - j

@@ -11,9 +11,9 @@ use Rattle.grammar.specs.Exp.{Exp, ter, alt, never, size}
 use Rattle.grammar.specs.Lakes.{waterOf, stepOne}
 use Rattle.grammar.specs.Parts.{Part, terminal, denies, choice, last, partsOf}
 use Rattle.grammar_table.specs.Table.{tableWords, partBy, partIn}
-use Rattle.lake_step_one.specs.Intermediate.{bodyBy}
+use Rattle.lake_step_one.specs.Intermediate.{intermediateBy}
 use Rattle.grammar_table.specs.laws.Parts.{size-pos, parts-long}
-use Rattle.lake_step_one.specs.steps.Runs.{stored, Grew, nil, Run, CopiedRun, BodyAt, WaterTo, BodyTo}
+use Rattle.lake_step_one.specs.steps.Runs.{stored, Grew, nil, PartsRun, CopiedRun, BodyAt, WaterTo, BodyTo}
 use Rattle.lake_step_one.specs.laws.Stores.{grew-one, grew-two, grew-as}
 
 -- `.`, terminal 0
@@ -22,7 +22,7 @@ unfolding partsOf partBy
 dot number mid b m w z e = subst (λ (x : List ℕ). Grew mid m (terminal (number any) ∷ []) x (m + 1)) (sym e) (grew-one mid m 0 0 0 (terminal (number any)) w (λ h. ap terminal (sym z)))
 
 -- a body's run, copied
-pub run : (number : Leaf → ℕ) (t mid b : List ℕ) (a k m j : ℕ) (e : Exp ℕ) → length mid ≡ tableWords → j ≡ a + size e → k ≡ j - a → Run number t a e → CopiedRun t a k mid m b → Grew mid m (partsOf number m e) b (m + k)
+pub run : (number : Leaf → ℕ) (t mid b : List ℕ) (a k m j : ℕ) (e : Exp ℕ) → length mid ≡ tableWords → j ≡ a + size e → k ≡ j - a → PartsRun number t a e → CopiedRun t a k mid m b → Grew mid m (partsOf number m e) b (m + k)
 run number t mid b a k m j e w p q h c = c number e (omega arith) w h
 
 -- `o / W` behind o and W

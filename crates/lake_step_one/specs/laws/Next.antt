@@ -17,11 +17,11 @@ use Rattle.grammar.specs.Numbers.{Grammar, isLake}
 use Rattle.grammar.specs.Parts.{Part, last, partsOf, partsAll}
 use Rattle.grammar_table.specs.Table.{tableWords, expressionsAt, symbolsAt, symbolWords, symbolCount, expressionCount, symbolWord, symbolBy, nameIn, partBy, partIn, partsIn, rootsIn, upTo}
 use Rattle.grammar_table.specs.Holds.{Holds, present, rootsFrom}
-use Rattle.lake_step_one.specs.Intermediate.{intermediate, bodiesBy, bodyBy, waterIn}
+use Rattle.lake_step_one.specs.Intermediate.{intermediate, bodiesBy, intermediateBy, waterIn}
 use Rattle.grammar.specs.Numbers.{terminalIn}
 use Rattle.grammar_table.specs.laws.Places.{upTo-at}
 use Rattle.grammar_table.specs.laws.Parts.{total, size-pos, parts-long, all-long}
-use Rattle.lake_step_one.specs.steps.Runs.{nil, Run, Grew, BodyAt, BodyTo}
+use Rattle.lake_step_one.specs.steps.Runs.{nil, PartsRun, Grew, BodyAt, BodyTo}
 use Rattle.lake_step_one.specs.steps.Made.{nextBy, lakeAt, Made, MadeOf}
 use Rattle.lake_step_one.specs.laws.Held.{by-kind, names-are, rights-long, expressions-are, part-is}
 
@@ -45,7 +45,7 @@ present-next (some e ∷ os) zero h = omega arith
 present-next (none ∷ os) (suc s) h = present-next os s (omega arith)
 present-next (some e ∷ os) (suc s) h = let q : total (present (take (suc s) os)) ≡ total (present (take s os)) + sizeBy (getD os s none) = present-next os s (omega arith) in omega arith
 
-pub bodies-at : (w : Option (Exp ℕ)) (hs : List Symbol) (os : List (Option (Exp ℕ))) (s : ℕ) → s < length hs → s < length os → getD (bodiesBy w hs os) s (ter any) ≡ bodyBy (isLake (getD hs s (name []))) w (getD os s none)
+pub bodies-at : (w : Option (Exp ℕ)) (hs : List Symbol) (os : List (Option (Exp ℕ))) (s : ℕ) → s < length hs → s < length os → getD (bodiesBy w hs os) s (ter any) ≡ intermediateBy (isLake (getD hs s (name []))) w (getD os s none)
 unfolding bodiesBy
 bodies-at w [] os s h l = let z : ⊥ = omega arith in absurd z
 bodies-at w (x ∷ hs) [] s h l = let z : ⊥ = omega arith in absurd z
@@ -190,7 +190,7 @@ made-next t r wa wb from m b p v mid one mid′ small eb to ev es g h z l wat ol
     let bodies = intermediate g in
     let ba : BodyAt number t from b o = subst (λ (i : ℕ). BodyAt number t i b o) (sym (old .from-is)) (subst (λ (y : ℕ). BodyAt number t (total (present (take r (g .rights)))) y o) (sym eb) (body-at t g h r l)) in
     let E = getD bodies r (ter any) in
-    let isE : bodyBy (lakeAt t r) w o ≡ E = sym (bodies-at w (g .names) (g .rights) r (omega (arith, names-are t g h)) (omega (arith, rights-long t g h)) ∙ ap (λ (x : Bool). bodyBy x w o) (lake-at t g h r l)) in
+    let isE : intermediateBy (lakeAt t r) w o ≡ E = sym (bodies-at w (g .names) (g .rights) r (omega (arith, names-are t g h)) (omega (arith, rights-long t g h)) ∙ ap (λ (x : Bool). intermediateBy x w o) (lake-at t g h r l)) in
     let gr : Grew mid m (partsOf number m E) one p = subst (λ (e : Exp ℕ). Grew mid m (partsOf number m e) one p) isE (to number w o (old .long) z wat ba) in
     made-more t bodies r from m b p v mid one mid′ small eb ev es g h (middle-long t g h) l gr old
 

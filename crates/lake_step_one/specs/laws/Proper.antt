@@ -12,7 +12,7 @@ use Rattle.grammar.specs.Empty.{emptyLeaf}
 use Rattle.grammar.specs.Lakes.{waterOf, stepOne}
 use Rattle.grammar.specs.Numbers.{Grammar}
 use Rattle.grammar_table.specs.Holds.{present}
-use Rattle.lake_step_one.specs.Intermediate.{intermediate, bodiesBy, bodyBy, waterIn}
+use Rattle.lake_step_one.specs.Intermediate.{intermediate, bodiesBy, intermediateBy, waterIn}
 use Rattle.grammar.specs.Numbers.{terminalIn}
 use Rattle.lake_step_one.specs.Proper.{Sound, SoundAll, Proper}
 
@@ -34,7 +34,7 @@ module _ (number : Leaf → ℕ) (r x : ℕ) (dot : number any < x) where
   water-sound none h = (dot, refl)
   water-sound (some e) h = h
 
-  body-sound : (l : Bool) (w o : Option (Exp ℕ)) → May w → May o → Sound number r x (bodyBy l w o)
+  body-sound : (l : Bool) (w o : Option (Exp ℕ)) → May w → May o → Sound number r x (intermediateBy l w o)
   unfolding stepOne emptyLeaf
   body-sound true w none h k = water-sound w h
   body-sound true w (some e) h k = (k, water-sound w h)

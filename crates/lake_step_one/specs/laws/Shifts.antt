@@ -10,7 +10,7 @@ use Rattle.grammar.specs.Exp.{Exp, sym as uses, ter, seq, alt, opt, star, plus,
 use Rattle.grammar.specs.Parts.{Part, terminal, occurs, sequence, choice, option, repeat, repeat1, affirms, denies, last, partsOf}
 use Rattle.grammar_table.specs.Table.{partBy, partIn, tableWords}
 use Rattle.grammar_table.specs.laws.Parts.{size-pos, parts-long}
-use Rattle.lake_step_one.specs.steps.Runs.{moved, shift, Near, Above, nil, Run, Grew, CopiedOne}
+use Rattle.lake_step_one.specs.steps.Runs.{moved, shift, Near, Above, nil, PartsRun, Grew, CopiedOne}
 use Rattle.lake_step_one.specs.laws.Stores.{grew-none, grew-two, grew-as}
 use Rattle.grammar_table.specs.Table.{upTo}
 use Rattle.grammar_table.specs.laws.Places.{is-upTo}
@@ -82,7 +82,7 @@ module _ (t : Leaf → ℕ) (o : ℕ) where
   above (never a) i l h = above-both o (partsOf t i a) (denies (last i a) ∷ []) (above a i l (omega arith)) (near a i l (omega arith), tt)
 
 -- what a run's record is, and what it is at m
-module _ (number : Leaf → ℕ) (t : List ℕ) (a m : ℕ) (e : Exp ℕ) (h : Run number t a e) where
+module _ (number : Leaf → ℕ) (t : List ℕ) (a m : ℕ) (e : Exp ℕ) (h : PartsRun number t a e) where
   pub run-above : (j : ℕ) → j < size e → Above a (partIn t (a + j))
   run-above j l =
       let q : j < length (partsOf number a e) = rw (parts-long number e a) l in
@@ -127,7 +127,7 @@ front-next number m e j = ap (upTo (λ i. getD (partsOf number m e) i nil)) (sym
 pub front-all : (number : Leaf → ℕ) (m : ℕ) (e : Exp ℕ) → front number m e (size e) ≡ partsOf number m e
 front-all number m e = sym (is-upTo nil (λ i. getD (partsOf number m e) i nil) (partsOf number m e) (size e) (parts-long number e m) (λ i l. refl))
 
-pub run-more : (number : Leaf → ℕ) (t mid b c : List ℕ) (a m : ℕ) (e : Exp ℕ) (j : ℕ) → j < size e → length b ≡ tableWords → Run number t a e
+pub run-more : (number : Leaf → ℕ) (t mid b c : List ℕ) (a m : ℕ) (e : Exp ℕ) (j : ℕ) → j < size e → length b ≡ tableWords → PartsRun number t a e
     → CopiedOne t (a + j) a b (m + j) m c → Grew mid m (front number m e j) b (m + j) → Grew mid m (front number m e (j + 1)) c (m + (j + 1))
 run-more number t mid b c a m e j l w h one g =
     grew-as (grew-two mid b c m (m + j) (m + j + 1) (front number m e j) (shift a m (partIn t (a + j)) ∷ []) g (one w (omega arith) (run-above number t a m e h j l)))

@@ -8,7 +8,7 @@ use lib.ListN.{length, getD, set}
 use mathlib.Core.Bool.{Bool}
 use Rattle.read_tokens.specs.Token.{Leaf, any}
 use Rattle.grammar.specs.Lakes.{waterOf}
-use Rattle.lake_step_one.specs.Intermediate.{bodyBy}
+use Rattle.lake_step_one.specs.Intermediate.{intermediateBy}
 use Rattle.grammar.specs.Exp.{Exp, size}
 use Rattle.grammar.specs.Parts.{Part, terminal, occurs, sequence, choice, option, repeat, repeat1, affirms, denies, partsOf}
 use Rattle.grammar_table.specs.Table.{tableWords, expressionsAt, partIn}
@@ -59,13 +59,13 @@ pub record Grew (mid : List ℕ) (m : ℕ) (ps : List Part) (mid′ : List ℕ) 
   pub new : (j : ℕ) → j < length ps → m + j < 1024 → partIn mid′ (m + j) ≡ getD ps j nil
 
 -- the k expressions of t from a on are those of e
-abbrev pub Run : (Leaf → ℕ) → List ℕ → ℕ → Exp ℕ → Type 0
-Run number t a e = (a + size e ≤ 1024) × ((j : ℕ) → j < length (partsOf number a e) → partIn t (a + j) ≡ getD (partsOf number a e) j nil)
+abbrev pub PartsRun : (Leaf → ℕ) → List ℕ → ℕ → Exp ℕ → Type 0
+PartsRun number t a e = (a + size e ≤ 1024) × ((j : ℕ) → j < length (partsOf number a e) → partIn t (a + j) ≡ getD (partsOf number a e) j nil)
 
 -- a copy of such a run
 abbrev pub CopiedRun : List ℕ → ℕ → ℕ → List ℕ → ℕ → List ℕ → Type 0
 CopiedRun t a k mid m mid′ =
-    (number : Leaf → ℕ) (e : Exp ℕ) → size e ≡ k → length mid ≡ tableWords → Run number t a e → Grew mid m (partsOf number m e) mid′ (m + k)
+    (number : Leaf → ℕ) (e : Exp ℕ) → size e ≡ k → length mid ≡ tableWords → PartsRun number t a e → Grew mid m (partsOf number m e) mid′ (m + k)
 
 -- one of its records
 abbrev pub CopiedOne : List ℕ → ℕ → ℕ → List ℕ → ℕ → ℕ → List ℕ → Type 0
@@ -74,7 +74,7 @@ CopiedOne t e o mid at m mid′ = length mid ≡ tableWords → m ≤ at → Abo
 -- a body: 0 where there is none, else the end of its run, which begins at a
 abbrev pub BodyAt : (Leaf → ℕ) → List ℕ → ℕ → ℕ → Option (Exp ℕ) → Type 0
 BodyAt number t a b none = b ≡ 0
-BodyAt number t a b (some e) = (b ≡ a + size e) × Run number t a e
+BodyAt number t a b (some e) = (b ≡ a + size e) × PartsRun number t a e
 
 -- w behind the first m
 abbrev pub WaterTo : List ℕ → ℕ → ℕ → List ℕ → ℕ → List ℕ → ℕ → Type 0
@@ -86,4 +86,4 @@ WaterTo t wa wb mid m mid′ m′ =
 abbrev pub BodyTo : List ℕ → Bool → ℕ → ℕ → ℕ → ℕ → List ℕ → ℕ → List ℕ → ℕ → Type 0
 BodyTo t isLake a b wa wb mid m mid′ m′ =
     (number : Leaf → ℕ) (w o : Option (Exp ℕ)) → length mid ≡ tableWords → number any ≡ 0 → BodyAt number t wa wb w → BodyAt number t a b o
-    → Grew mid m (partsOf number m (bodyBy isLake w o)) mid′ m′
+    → Grew mid m (partsOf number m (intermediateBy isLake w o)) mid′ m′

@@ -11,8 +11,8 @@ use Rattle.grammar.specs.Exp.{Exp, sym as uses, ter, size}
 use Rattle.grammar.specs.Lakes.{skipOf, stepTwo}
 use Rattle.grammar.specs.Numbers.{Grammar, isLake}
 use Rattle.base_words.specs.Set.{memberOf}
-use Rattle.lake_step_one.specs.Intermediate.{intermediate, bodiesBy, bodyBy, waterIn}
-use Rattle.lake_sets.specs.Analysis.{Analysis, altOf}
+use Rattle.lake_step_one.specs.Intermediate.{intermediate, bodiesBy, intermediateBy, waterIn}
+use Rattle.lake_sets.specs.Analysis.{Analysis, bodyAlt}
 use Rattle.grammar_table.specs.laws.Parts.{total}
 use Rattle.lake_step_two.specs.Plain.{nonterminalsIn, terminalsIn, alternatives, plainBy, plainFrom, plainBodies, sizes}
 use Rattle.lake_step_two.specs.steps.Skips.{onlyIf, each}
@@ -53,13 +53,13 @@ terminals-each s f (y ∷ xs) o h =
 -- ---- the bodies
 module _ (g : Grammar) (a : Analysis) where
   pub plain-at : (hs : List Symbol) (bs : List (Exp ℕ)) (o s : ℕ) → s < length hs → s < length bs
-      → getD (plainFrom g a o hs bs) s (ter any) ≡ plainBy (isLake (getD hs s (name []))) (getD bs s (ter any)) (alternatives g (altOf a (o + s)))
+      → getD (plainFrom g a o hs bs) s (ter any) ≡ plainBy (isLake (getD hs s (name []))) (getD bs s (ter any)) (alternatives g (bodyAlt a (o + s)))
   unfolding plainFrom
   plain-at [] bs o s h l = let z : ⊥ = omega arith in absurd z
   plain-at (x ∷ hs) [] o s h l = let z : ⊥ = omega arith in absurd z
-  plain-at (x ∷ hs) (b ∷ bs) o zero h l = ap (λ (i : ℕ). plainBy (isLake x) b (alternatives g (altOf a i))) (let q : o ≡ o + 0 = omega arith in q)
+  plain-at (x ∷ hs) (b ∷ bs) o zero h l = ap (λ (i : ℕ). plainBy (isLake x) b (alternatives g (bodyAlt a i))) (let q : o ≡ o + 0 = omega arith in q)
   plain-at (x ∷ hs) (b ∷ bs) o (suc s) h l =
-      plain-at hs bs (suc o) s (omega arith) (omega arith) ∙ ap (λ (i : ℕ). plainBy (isLake (getD hs s (name []))) (getD bs s (ter any)) (alternatives g (altOf a i))) (let q : suc o + s ≡ o + suc s = omega arith in q)
+      plain-at hs bs (suc o) s (omega arith) (omega arith) ∙ ap (λ (i : ℕ). plainBy (isLake (getD hs s (name []))) (getD bs s (ter any)) (alternatives g (bodyAlt a i))) (let q : suc o + s ≡ o + suc s = omega arith in q)
 
   pub plain-long : (hs : List Symbol) (bs : List (Exp ℕ)) (o : ℕ) → length hs ≡ length bs → length (plainFrom g a o hs bs) ≡ length bs
   unfolding plainFrom
@@ -78,7 +78,7 @@ module _ (g : Grammar) (a : Analysis) where
   from-larger w [] os r = omega arith
   from-larger w (h ∷ hs) [] r = omega arith
   from-larger w (h ∷ hs) (o ∷ os) r =
-      omega (arith, no-smaller (isLake h) (bodyBy (isLake h) w o) (alternatives g (altOf a r)), from-larger w hs os (suc r))
+      omega (arith, no-smaller (isLake h) (intermediateBy (isLake h) w o) (alternatives g (bodyAlt a r)), from-larger w hs os (suc r))
 
   -- a grammar whose intermediate form is too large is too large
   pub plain-larger : total (intermediate g) ≤ total (plainBodies g a)

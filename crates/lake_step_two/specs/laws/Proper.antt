@@ -12,7 +12,7 @@ use Rattle.grammar.specs.Lakes.{choiceOf, skipOf, stepTwo}
 use Rattle.grammar.specs.Numbers.{Grammar, isLake}
 use Rattle.base_words.specs.Set.{memberOf}
 use Rattle.lake_step_one.specs.Intermediate.{intermediate}
-use Rattle.lake_sets.specs.Analysis.{Analysis, analysis, altOf}
+use Rattle.lake_sets.specs.Analysis.{Analysis, analysis, bodyAlt}
 use Rattle.grammar.specs.Numbers.{terminalIn}
 use Rattle.lake_step_one.specs.Proper.{Sound, SoundAll, Proper}
 use Rattle.lake_step_two.specs.Plain.{nonterminalsIn, terminalsIn, alternatives, plainBy, plainFrom, plainBodies}
@@ -72,8 +72,8 @@ module _ (number : Leaf → ℕ) (r x : ℕ) (dot : number any < x) where
   from-sound g a n ls i [] bs h = tt
   from-sound g a n ls i (y ∷ hs) [] h = tt
   from-sound g a n ls i (y ∷ hs) (b ∷ bs) h = (
-    body-sound (isLake y) b (nonterminalsIn (altOf a i) 0 (g .names) ++ terminalsIn (altOf a i) 0 (g .terminals)) (h .0)
-        (both (nonterminalsIn (altOf a i) 0 (g .names)) (terminalsIn (altOf a i) 0 (g .terminals)) (symbols-sound (altOf a i) 0 (g .names) (omega arith)) (leaves-sound (altOf a i) 0 (g .terminals) ls)),
+    body-sound (isLake y) b (nonterminalsIn (bodyAlt a i) 0 (g .names) ++ terminalsIn (bodyAlt a i) 0 (g .terminals)) (h .0)
+        (both (nonterminalsIn (bodyAlt a i) 0 (g .names)) (terminalsIn (bodyAlt a i) 0 (g .terminals)) (symbols-sound (bodyAlt a i) 0 (g .names) (omega arith)) (leaves-sound (bodyAlt a i) 0 (g .terminals) ls)),
     from-sound g a n ls (suc i) hs bs (h .1),
   )
 

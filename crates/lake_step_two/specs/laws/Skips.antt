@@ -13,7 +13,7 @@ use Rattle.grammar.specs.Parts.{Part, terminal, occurs, choice, sequence, denie
 use Rattle.grammar_table.specs.Table.{tableWords, partBy, partIn}
 use Rattle.base_words.specs.Set.{memberOf}
 use Rattle.grammar_table.specs.laws.Parts.{size-pos, parts-long}
-use Rattle.lake_step_one.specs.steps.Runs.{stored, Grew, nil, Run, CopiedRun}
+use Rattle.lake_step_one.specs.steps.Runs.{stored, Grew, nil, PartsRun, CopiedRun}
 use Rattle.lake_step_one.specs.steps.Made.{lakeAt}
 use Rattle.lake_step_one.specs.laws.Stores.{grew-one, grew-none, grew-two, grew-as}
 use Rattle.lake_step_one.specs.laws.Bodies.{dot, run, both}

@@ -15,7 +15,7 @@ use Rattle.grammar_table.specs.Table.{tableWords, expressionsAt, symbolsAt, sym
 use Rattle.grammar_table.specs.Holds.{Holds, present}
 use Rattle.base_words.specs.Set.{memberOf, empty}
 use Rattle.lake_step_one.specs.Intermediate.{intermediate}
-use Rattle.lake_sets.specs.Analysis.{analysed, analysis, altOf}
+use Rattle.lake_sets.specs.Analysis.{analysed, analysis, bodyAlt}
 use Rattle.grammar.specs.Numbers.{terminalIn}
 use Rattle.lake_sets.specs.steps.Steps.{rootIn}
 use Rattle.lake_step_one.specs.Proper.{Proper, middle}
@@ -60,7 +60,7 @@ module _ (t : List ℕ) (alts : List (List ℕ)) (g : Grammar) (a : Ready t alts
   unfolding plainBodies
   plain-count = plain-long g (analysis g) (g .names) (intermediate g) 0 (omega (arith, symbols, bodies)) ∙ sym bodies
 
-  alt-is : (s : ℕ) → s < symbolCount t → setOf s ≡ altOf (analysis g) s
+  alt-is : (s : ℕ) → s < symbolCount t → setOf s ≡ bodyAlt (analysis g) s
   unfolding analysis analysed
   alt-is s l =
       sym (getD-take (expressionCount t) alts (rootIn t s) empty (tame t g H (a .proper) .roots s (omega (arith, symbols))))
@@ -80,7 +80,7 @@ module _ (t : List ℕ) (alts : List (List ℕ)) (g : Grammar) (a : Ready t alts
   unfolding plainBodies
   body-is s l =
       sym (plain-at g (analysis g) (g .names) (intermediate g) 0 s (omega (arith, symbols)) (omega (arith, bodies))
-      ∙ ap₂ (λ (b : Bool) (i : ℕ). plainBy b (getD (intermediate g) s (ter any)) (alternatives g (altOf (analysis g) i))) (lake-at t (middle g) H s l) (let q : 0 + s ≡ s = omega arith in q)
+      ∙ ap₂ (λ (b : Bool) (i : ℕ). plainBy b (getD (intermediate g) s (ter any)) (alternatives g (bodyAlt (analysis g) i))) (lake-at t (middle g) H s l) (let q : 0 + s ≡ s = omega arith in q)
       ∙ ap (plainBy (lakeAt t s) (getD (intermediate g) s (ter any))) (sym (chosen-is (setOf s) ∙ ap (alternatives g) (alt-is s l))))
 
   -- one symbol more

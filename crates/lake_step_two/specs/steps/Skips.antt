@@ -11,7 +11,7 @@ use Rattle.grammar.specs.Lakes.{choiceOf, skipOf}
 use Rattle.grammar.specs.Parts.{Part, partsOf}
 use Rattle.grammar_table.specs.Table.{tableWords, partBy}
 use Rattle.base_words.specs.Set.{memberOf}
-use Rattle.lake_step_one.specs.steps.Runs.{Grew, Run}
+use Rattle.lake_step_one.specs.steps.Runs.{Grew, PartsRun}
 use Rattle.lake_step_one.specs.steps.Made.{lakeAt}
 use Rattle.lake_step_two.specs.Plain.{plainBy}
 
@@ -81,4 +81,4 @@ SkipTo t s r x mid m mid′ m′ =
 abbrev pub PlainTo : List ℕ → Bool → List ℕ → ℕ → ℕ → ℕ → ℕ → List ℕ → ℕ → List ℕ → ℕ → Type 0
 PlainTo t isLake s r x a b mid m mid′ m′ =
     (number : Leaf → ℕ) (leaf : ℕ → Leaf) (e : Exp ℕ) → Numbered number leaf x → number any ≡ 0 → length mid ≡ tableWords → b ≡ a + size e
-    → Run number t a e → Grew mid m (partsOf number m (plainBy isLake e (chosenIn t leaf s r x))) mid′ m′
+    → PartsRun number t a e → Grew mid m (partsOf number m (plainBy isLake e (chosenIn t leaf s r x))) mid′ m′

@@ -15,7 +15,7 @@ use Rattle.grammar_table.specs.Holds.{Holds, present, rootsFrom}
 use Rattle.grammar_table.specs.laws.Lists.{up-length, is-up}
 use Rattle.grammar.specs.Numbers.{terminalIn}
 use Rattle.lake_step_one.specs.Intermediate.{waterIn, bodiesBy, intermediate}
-use Rattle.lake_step_one.specs.Intermediate.{bodyBy as bodyBy′}
+use Rattle.lake_step_one.specs.Intermediate.{intermediateBy}
 use Rattle.lake_step_one.specs.Proper.{Sound, SoundAll, Proper}
 use Rattle.grammar_table.specs.laws.Parts.{total, size-pos}
 use Rattle.lake_step_one.specs.laws.Held.{rights-long, expressions-are}
@@ -32,7 +32,7 @@ root-le (some e ∷ os) o (suc s) = omega (arith, root-le os (o + size e) s)
 
 -- the right sides are parts of the intermediate bodies
 module _ (number : Leaf → ℕ) (r x : ℕ) (w : Option (Exp ℕ)) where
-  part-sound : (b : Bool) (e : Exp ℕ) → Sound number r x (bodyBy′ b w (some e)) → Sound number r x e
+  part-sound : (b : Bool) (e : Exp ℕ) → Sound number r x (intermediateBy b w (some e)) → Sound number r x e
   unfolding stepOne
   part-sound true e h = h .0
   part-sound false e h = h

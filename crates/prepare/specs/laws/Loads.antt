@@ -24,7 +24,7 @@ use Rattle.grammar.specs.Refusal.{Refusal, refusal, refuseIf, refuseAt, _▸_}
 use Rattle.read_syntax.specs.Machine.{Judged, fine, syntax, wide, judge, start}
 use Rattle.read_syntax.specs.Reader.{ok, rulesP}
 use Rattle.read_syntax.specs.Reading.{offence, second, unruled, leftsIn, tooMany, rulesBy, rulesIn, rulesOf, refusesText}
-use Rattle.read_syntax.specs.laws.Bounds.{Says, judged}
+use Rattle.read_syntax.specs.laws.Bounds.{Judges, judged}
 use Rattle.read_syntax.specs.laws.Reads.{reads-back, cost-enough}
 use Rattle.read_syntax.specs.declared.syntax.Found.{Found}
 use Rattle.read_syntax.specs.steps.Found.{found}
@@ -104,7 +104,7 @@ module _ (m : Mode) (s : List ℕ) where
     pub grammar-of : (g : Rules) × Sound m s g × (trees g ≡ rulesOf m s)
     unfolding toks rulesOf rulesIn
     grammar-of =
-        let w : Says m xs fine = subst (Says m xs) (c .bounded) (judged m xs) in
+        let w : Judges m xs fine = subst (Judges m xs) (c .bounded) (judged m xs) in
         let g : Rules = w .0 .0 in
         let e : tokens g ≡ toksOf xs = w .0 .1 in (
           g,

@@ -20,7 +20,7 @@ use Rattle.grammar_table.specs.laws.Caps.{cap-low, cap-high}
 use Rattle.grammar_table.specs.laws.Words.{sets-out, sets-in}
 use Rattle.grammar_table.specs.laws.Rows.{At, also, All}
 use Rattle.grammar_table.specs.laws.Kept.{Kept, With, at-moved, kept-all, kept-moved, seek-index, fits-also, noted}
-use Rattle.read_grammar.specs.steps.Entries.{symbolRow, symbolRecord, FitSymbol, symbolFrom, leafRecord, FitLeaf, leafFrom, pushBy, pushed, bodyBy, bodied}
+use Rattle.read_grammar.specs.steps.Entries.{symbolRow, symbolRecord, FitSymbol, symbolFrom, leafRecord, FitLeaf, leafFrom, pushBy, pushed, bodiedBy, bodied}
 use Rattle.read_grammar.specs.steps.Lay.{St, st, lastOf, push, under, joined, leafed, used, headed, lay, Fits, Told, Rel}
 use Rattle.read_grammar.specs.laws.Entries.{symbol-read, symbol-sound, symbol-refl, symbol-alike, leaf-read}
 use Rattle.grammar.specs.laws.Same.{leaf-sound, leaf-refl}
@@ -160,7 +160,7 @@ rel-body k t s rel e = by (ltb k 64) refl
     earlier : (i : ℕ) → i < length (s .heads) → getD (s .heads ++ (length (s .parts) ∷ [])) i 0 ≡ getD (s .heads) i 0
     earlier i h = List·getD-append (s .heads) (length (s .parts) ∷ []) 0 i h
 
-    by : (b : Bool) → ltb k 64 ≡ b → Rel (bodyBy b k t) (headed s)
+    by : (b : Bool) → ltb k 64 ≡ b → Rel (bodiedBy b k t) (headed s)
     by false q = record {
       long = rel .long;
       told = λ f. let d = rel .told (record { symbols = f .symbols; leaves = f .leaves }) in record {

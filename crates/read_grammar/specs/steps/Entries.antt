@@ -81,13 +81,13 @@ pushBy false c k l r t = set t 2 1025
 unfoldable pub pushed : ℕ → ℕ → ℕ → List ℕ → List ℕ
 pushed k l r t = pushBy (ltb (getD t 2 0) 1024) (getD t 2 0) k l r t
 
-abbrev pub bodyBy : Bool → ℕ → List ℕ → List ℕ
-bodyBy true k t = set t (bodyAt k) (getD t 2 0)
-bodyBy false k t = t
+abbrev pub bodiedBy : Bool → ℕ → List ℕ → List ℕ
+bodiedBy true k t = set t (bodyAt k) (getD t 2 0)
+bodiedBy false k t = t
 
 -- the last expression is the body of symbol k
 unfoldable pub bodied : ℕ → List ℕ → List ℕ
-bodied k t = bodyBy (ltb k 64) k t
+bodied k t = bodiedBy (ltb k 64) k t
 
 -- kinds of expressions by the kind of their token; 0: no such token
 unfoldable pub prefixOp : ℕ → ℕ

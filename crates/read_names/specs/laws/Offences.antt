@@ -16,32 +16,32 @@ use Rattle.read_tokens.specs.steps.Code.{kindOf, sizeOf, coded}
 use Rattle.read_tokens.specs.laws.Forward.{lexemesAt, lex-end, lex-more}
 use Rattle.grammar.specs.Same.{sameSymbol, isIn}
 use Rattle.read_syntax.specs.Machine.{nameOf}
-use Rattle.read_syntax.specs.Reading.{before, begins, reserved, leftBy, secondBy, second, unruled, lacks}
+use Rattle.read_syntax.specs.Reading.{before, startsWith, reserved, leftBy, secondBy, second, unruled, lacks}
 use Rattle.read_names.specs.steps.Names.{bytesAt, symbolBy, begun, placed, bad4, Walk, walk, walkTo, lakePrefix, reservedBy}
 use Rattle.read_names.specs.laws.Names.{bytes-more, bytes-long, named}
 use Rattle.read_names.specs.laws.Walks.{next-some}
 use Rattle.read_tokens.specs.laws.Here.{is-token}
 
 -- ── names that begin with `lake__` ──
-short : (p w : List ℕ) → length w < length p → begins p w ≡ false
-unfolding begins
+short : (p w : List ℕ) → length w < length p → startsWith p w ≡ false
+unfolding startsWith
 short [] w h = absurd (omega arith)
 short (a ∷ p) [] h = refl
 short (a ∷ p) (b ∷ w) h = go (eqb a b) (short p w (omega arith))
   where
-    go : (t : Bool) → begins p w ≡ false → (t && begins p w) ≡ false
+    go : (t : Bool) → startsWith p w ≡ false → (t && startsWith p w) ≡ false
     go true e = e
     go false e = refl
 
-pub too-short : (s : List ℕ) (from n : ℕ) → from + n ≤ length s → n < 6 → false ≡ begins lakePrefix (bytesAt s from n)
+pub too-short : (s : List ℕ) (from n : ℕ) → from + n ≤ length s → n < 6 → false ≡ startsWith lakePrefix (bytesAt s from n)
 too-short s from n h l = sym (short lakePrefix (bytesAt s from n) (omega (arith, bytes-long s from n h)))
 
 -- the six bytes that are looked at
 pub six : (s : List ℕ) (from n : ℕ) → from + n ≤ length s → 6 ≤ n
-    → begins lakePrefix (bytesAt s from n)
+    → startsWith lakePrefix (bytesAt s from n)
     ≡ (eqb 108 (getD s from 0) && (eqb 97 (getD s (from + 1) 0) && (eqb 107 (getD s (from + 2) 0) && (eqb 101 (getD s (from + 3) 0) && (eqb 95 (getD s (from + 4) 0) && (eqb 95 (getD s (from + 5) 0) && true))))))
-unfolding begins
-six s from n h l = ap (begins lakePrefix) all-six
+unfolding startsWith
+six s from n h l = ap (startsWith lakePrefix) all-six
   where
     more : (i k : ℕ) → suc k + (from + i) ≤ length s → bytesAt s (from + i) (suc k) ≡ getD s (from + i) 0 ∷ bytesAt s (from + suc i) k
     more i k p = let e : suc (from + i) ≡ from + suc i = omega arith in bytes-more s (from + i) k (omega arith) ∙ ap (λ (j : ℕ). getD s (from + i) 0 ∷ bytesAt s j k) e
@@ -64,7 +64,7 @@ six s from n h l = ap (begins lakePrefix) all-six
 
 pub reserved-is : (m : Mode) (k : ℕ) (w : List ℕ) → reserved m (symbolBy k w) ≡ reservedBy m w
 unfolding reserved
-reserved-is Lake k w = ap (begins lakePrefix) (go (eqb k 1))
+reserved-is Lake k w = ap (startsWith lakePrefix) (go (eqb k 1))
   where
     go : (b : Bool) → nameOf (cond b (name w) (lake w)) ≡ w
     go true = refl

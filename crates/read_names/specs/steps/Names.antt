@@ -12,7 +12,7 @@ use Rattle.read_tokens.specs.Token as spec
 use Rattle.read_tokens.specs.Tokens.{tokenAt}
 use Rattle.read_tokens.specs.laws.Forward.{lexemesAt}
 use Rattle.grammar.specs.Same.{sameSymbol, isIn}
-use Rattle.read_syntax.specs.Reading.{before, leftBy, reserved, begins}
+use Rattle.read_syntax.specs.Reading.{before, leftBy, reserved, startsWith}
 
 -- n bytes from a place on
 abbrev pub bytesAt : List ℕ → ℕ → ℕ → List ℕ
@@ -81,5 +81,5 @@ abbrev pub lakePrefix : List ℕ
 lakePrefix = 108 ∷ 97 ∷ 107 ∷ 101 ∷ 95 ∷ 95 ∷ []
 
 abbrev pub reservedBy : Mode → List ℕ → Bool
-reservedBy Lake w = begins lakePrefix w
+reservedBy Lake w = startsWith lakePrefix w
 reservedBy Plain w = false

@@ -11,7 +11,7 @@ use Rattle.read_tokens.specs.Token.{Tok, symbol, leaf, pre, suf, arrow, slash, 
 use Rattle.read_tokens.specs.Tokens.{toksOf}
 use Rattle.grammar.specs.Syntax.{Offends}
 use Rattle.read_syntax.specs.Machine.{State, start, head, need, bound, prim, part, maybe, close, newRule, after, step, accepting, runs, accepts, over, openIn, Judged, fine, syntax, wide, judgeBy, judge}
-pub use Rattle.read_syntax.specs.Offence.{fewer, opened, Says}
+pub use Rattle.read_syntax.specs.Offence.{fewer, opened, Judges}
 unfoldable pub use Rattle.read_syntax.specs.Offence.{overAt}
 use Rattle.read_syntax.specs.laws.Back.{grammar}
 use Rattle.read_syntax.specs.laws.Place.{live-viable, Dies, runs-step, dies-end, dies-here, dies-on, viable-take, one-place, offends-not, dies-offends}
@@ -150,17 +150,17 @@ later xs k s e w j a =
     omega arith
 
 -- the answer is what the document says
-pub judged : (m : Mode) (xs : List Lexeme) → Says m xs (judge m 0 start xs)
+pub judged : (m : Mode) (xs : List Lexeme) → Judges m xs (judge m 0 start xs)
 judged m xs = go (judge m 0 start xs) (from m 0 start xs)
   where
-    go : (o : Judged) → From m 0 start xs o → Says m xs o
+    go : (o : Judged) → From m 0 start xs o → Judges m xs o
     go fine v = (grammar (toksOf xs) (v .0), v .1)
     go (syntax k) v = let e : v .0 ≡ k = omega (arith, v .1) in (subst (Offends (toksOf xs)) e (dies-offends (toksOf xs) (v .0) (v .2)), λ j h. v .3 j (omega (arith, v .1)))
     go (wide k) v = let e : v .0 ≡ k = omega (arith, v .1) in
         (subst (λ (n : ℕ). overAt m 0 xs n ≡ true) e (v .2), λ j h. v .3 j (omega (arith, v .1)), λ j a. later xs k (v .4 .0) (subst (λ (n : ℕ). runs (some start) (take (suc n) (toksOf xs)) ≡ some (v .4 .0)) e (v .4 .1)) (over-within m 0 xs k (subst (λ (n : ℕ). overAt m 0 xs n ≡ true) e (v .2))) j a)
 
 -- and no other answer is
-pub one-answer : (m : Mode) (xs : List Lexeme) (o p : Judged) → Says m xs o → Says m xs p → o ≡ p
+pub one-answer : (m : Mode) (xs : List Lexeme) (o p : Judged) → Judges m xs o → Judges m xs p → o ≡ p
 one-answer m xs fine fine u v = refl
 one-answer m xs fine (syntax k) u v = absurd (offends-not (toksOf xs) k (v .0) (u .0))
 one-answer m xs fine (wide k) u v = absurd (false≢true (sym (u .1 k) ∙ v .0))

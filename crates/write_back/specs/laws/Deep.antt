@@ -15,8 +15,8 @@ use Rattle.grammar.specs.Lakes.{waterOf, stepOne, choiceOf, skipOf, stepTwo}
 use Rattle.grammar.specs.Same.{sameSymbol, indexOf}
 use Rattle.grammar.specs.Numbers.{Grammar, isLake, rightBy}
 use Rattle.base_words.specs.Set.{memberOf}
-use Rattle.lake_step_one.specs.Intermediate.{rightOr, bodyBy, bodiesBy}
-use Rattle.lake_sets.specs.Analysis.{Analysis, altOf}
+use Rattle.lake_step_one.specs.Intermediate.{rightOr, intermediateBy, bodiesBy}
+use Rattle.lake_sets.specs.Analysis.{Analysis, bodyAlt}
 use Rattle.lake_step_two.specs.Plain.{nonterminalsIn, terminalsIn, alternatives, plainBy, plainFrom, rulesBy}
 use Rattle.grammar_table.specs.laws.Rows.{All}
 use Rattle.write_rules.specs.laws.Pairs.{Levels, conc, written}
@@ -154,7 +154,7 @@ module _ (k : ℕ → Symbol) where
   two-upto n b ss h l f = omega (arith, h, l, skip-flat ss f)
 
   body-upto : (m : Mode) (h : Symbol) (w o : Option (Exp ℕ)) (ss : List (Exp ℕ)) → FitName m h → Upto (openBound m) w → Upto (openBound m) o → All Flat ss
-      → deep (plainBy (isLake h) (bodyBy (isLake h) w o) ss) ≤ 33
+      → deep (plainBy (isLake h) (intermediateBy (isLake h) w o) ss) ≤ 33
   unfolding openBound
   body-upto Lake (name v) w o ss p u t f = omega (arith, right-or 32 o t)
   body-upto Plain (name v) w o ss p u t f = right-or 33 o t
@@ -170,7 +170,7 @@ module _ (k : ℕ → Symbol) where
   bodies-upto m g a w r [] os u p q = tt
   bodies-upto m g a w r (h ∷ hs) [] u p q = tt
   bodies-upto m g a w r (h ∷ hs) (o ∷ os) u p q =
-      (body-upto m h w o (alternatives g (altOf a r)) (p .0) u (q .0) (flat-all g (altOf a r)), bodies-upto m g a w (suc r) hs os u (p .1) (q .1))
+      (body-upto m h w o (alternatives g (bodyAlt a r)) (p .0) u (q .0) (flat-all g (bodyAlt a r)), bodies-upto m g a w (suc r) hs os u (p .1) (q .1))
 
   pub rules-upto : (es : List (Exp ℕ)) (r : ℕ) → All Within es → All (ShallowBy 33) (rulesBy k r es)
   unfolding rulesBy

@@ -14,7 +14,7 @@ use Rattle.grammar.specs.Lakes.{plainName}
 use Rattle.grammar.specs.Same.{sameBytes, sameSymbol, isIn, newIn}
 use Rattle.grammar.specs.Numbers.{leftSides, usesOf, onlyLakes, looseLakes, symbolsOf}
 use Rattle.read_syntax.specs.Machine.{nameOf}
-use Rattle.read_syntax.specs.Reading.{begins, reserved}
+use Rattle.read_syntax.specs.Reading.{startsWith, reserved}
 use Rattle.grammar_table.specs.laws.Rows.{All}
 use Rattle.read_grammar.specs.laws.Entries.{symbol-sound, symbol-refl}
 use Rattle.write_text.specs.laws.Fit.{FitName}
@@ -68,8 +68,8 @@ names-distinct rs d =
 abbrev pub Named : Mode → Symbol → Type 0
 Named m h = FitName m h × Unreserved m h
 
-lake-begins : (w : List ℕ) → begins (108 ∷ 97 ∷ 107 ∷ 101 ∷ 95 ∷ 95 ∷ []) (108 ∷ 97 ∷ 107 ∷ 101 ∷ 95 ∷ 95 ∷ w) ≡ true
-unfolding begins
+lake-begins : (w : List ℕ) → startsWith (108 ∷ 97 ∷ 107 ∷ 101 ∷ 95 ∷ 95 ∷ []) (108 ∷ 97 ∷ 107 ∷ 101 ∷ 95 ∷ 95 ∷ w) ≡ true
+unfolding startsWith
 lake-begins w = refl
 
 -- a name that is free is no lake's
@@ -78,14 +78,14 @@ unfolding reserved
 no-lake v w false e u = refl
 no-lake v w true e u =
     let q : name v ≡ name (108 ∷ 97 ∷ 107 ∷ 101 ∷ 95 ∷ 95 ∷ w) = symbol-sound (name v) (name (108 ∷ 97 ∷ 107 ∷ 101 ∷ 95 ∷ 95 ∷ w)) e in
-    sym (lake-begins w) ∙ sym (ap (λ (h : Symbol). begins (108 ∷ 97 ∷ 107 ∷ 101 ∷ 95 ∷ 95 ∷ []) (nameOf h)) q) ∙ u
+    sym (lake-begins w) ∙ sym (ap (λ (h : Symbol). startsWith (108 ∷ 97 ∷ 107 ∷ 101 ∷ 95 ∷ 95 ∷ []) (nameOf h)) q) ∙ u
 
 no-lake-back : (v w : List ℕ) (x : Bool) → sameSymbol (name (108 ∷ 97 ∷ 107 ∷ 101 ∷ 95 ∷ 95 ∷ w)) (name v) ≡ x → Unreserved Lake (name v) → x ≡ false
 unfolding reserved
 no-lake-back v w false e u = refl
 no-lake-back v w true e u =
     let q : name (108 ∷ 97 ∷ 107 ∷ 101 ∷ 95 ∷ 95 ∷ w) ≡ name v = symbol-sound (name (108 ∷ 97 ∷ 107 ∷ 101 ∷ 95 ∷ 95 ∷ w)) (name v) e in
-    sym (lake-begins w) ∙ ap (λ (h : Symbol). begins (108 ∷ 97 ∷ 107 ∷ 101 ∷ 95 ∷ 95 ∷ []) (nameOf h)) q ∙ u
+    sym (lake-begins w) ∙ ap (λ (h : Symbol). startsWith (108 ∷ 97 ∷ 107 ∷ 101 ∷ 95 ∷ 95 ∷ []) (nameOf h)) q ∙ u
 
 apart : (m : Mode) (h y : Symbol) → Named m h → Named m y → sameSymbol h y ≡ false → sameSymbol (plainName h) (plainName y) ≡ false
 unfolding plainName sameSymbol sameBytes

@@ -16,8 +16,8 @@ use Rattle.grammar.specs.Same.{sameSymbol, isIn, indexOf}
 use Rattle.grammar.specs.Syntax.{Rules}
 use Rattle.grammar.specs.Trees.{trees}
 use Rattle.grammar.specs.Numbers.{Grammar, isLake, leftSides, symbolsOf, rightBy, numbered}
-use Rattle.lake_step_one.specs.Intermediate.{waterIn, bodyBy, bodiesBy, intermediate}
-use Rattle.lake_sets.specs.Analysis.{Analysis, analysis, altOf}
+use Rattle.lake_step_one.specs.Intermediate.{waterIn, intermediateBy, bodiesBy, intermediate}
+use Rattle.lake_sets.specs.Analysis.{Analysis, analysis, bodyAlt}
 use Rattle.grammar.specs.Numbers.{terminalIn}
 use Rattle.lake_step_one.specs.Proper.{Sound as SoundExp, SoundAll}
 use Rattle.lake_step_two.specs.Plain.{alternatives, plainBy, plainFrom, plainBodies, rulesBy, plainRules}
@@ -68,15 +68,15 @@ module _ (number : Leaf → ℕ) (n x : ℕ) (k : ℕ → Symbol) (names : List 
   rights-back (e ∷ es) r h = ap₂ _∷_ (ap some (back e (h .0))) (rights-back es (suc r) (h .1))
 
 -- ── without lakes the translation changes nothing ──
-dry-body : (h : Symbol) (w : Option (Exp ℕ)) (e : Exp ℕ) (ss : List (Exp ℕ)) → Dry h → plainBy (isLake h) (bodyBy (isLake h) w (some e)) ss ≡ e
-dry-body h w e ss d = ap (λ (b : Bool). plainBy b (bodyBy b w (some e)) ss) d
+dry-body : (h : Symbol) (w : Option (Exp ℕ)) (e : Exp ℕ) (ss : List (Exp ℕ)) → Dry h → plainBy (isLake h) (intermediateBy (isLake h) w (some e)) ss ≡ e
+dry-body h w e ss d = ap (λ (b : Bool). plainBy b (intermediateBy b w (some e)) ss) d
 
 dry-bodies : (g : Grammar) (a : Analysis) (w : Option (Exp ℕ)) (hs : List Symbol) (es : List (Exp ℕ)) (r : ℕ) → All Dry hs → length hs ≡ length es → plainFrom g a r hs (bodiesBy w hs (map some es)) ≡ es
 unfolding plainFrom bodiesBy
 dry-bodies g a w [] [] r d l = refl
 dry-bodies g a w [] (e ∷ es) r d l = absurd (omega (arith, l))
 dry-bodies g a w (h ∷ hs) [] r d l = absurd (omega (arith, l))
-dry-bodies g a w (h ∷ hs) (e ∷ es) r d l = ap₂ _∷_ (dry-body h w e (alternatives g (altOf a r)) (d .0)) (dry-bodies g a w hs es (suc r) (d .1) (omega (arith, l)))
+dry-bodies g a w (h ∷ hs) (e ∷ es) r d l = ap₂ _∷_ (dry-body h w e (alternatives g (bodyAlt a r)) (d .0)) (dry-bodies g a w hs es (suc r) (d .1) (omega (arith, l)))
 
 all-dry : (l : List Symbol) → All Dry (map plainName l)
 all-dry [] = tt

@@ -10,7 +10,7 @@ use lib.ListN.{getD}
 use Rattle.base_facts.specs.laws.Numbers.{lt-or-ge}
 use Rattle.read_tokens.specs.Chars.{Range, range}
 use Rattle.write_rules.specs.Writing.{runs}
-use Rattle.write_rules.specs.Runs.{has, Run, Each, Covers, Ascending, RunsOf}
+use Rattle.write_rules.specs.Runs.{has, ClassRun, Each, Covers, Ascending, RunsOf}
 
 -- ── the ranges of `runs` are runs; m are the marks of the whole class, l those from byte i on ──
 module _ (m : List Bool) where
@@ -49,13 +49,13 @@ module _ (m : List Bool) where
     before = u .before;
   }
 
-  closes : (r : Range) (i : ℕ) → Opened r i → has m i ≡ false → Run m r
+  closes : (r : Range) (i : ℕ) → Opened r i → has m i ≡ false → ClassRun m r
   closes r i u e = record { order = u .order; inside = u .inside; before = u .before; behind = ap (has m) (u .until) ∙ e }
 
   shut : (i : ℕ) → has m i ≡ false → Open none (suc i)
   shut i e b q = let z : b ≡ i = omega (arith, q) in ap (has m) z ∙ e
 
-  each-run : (o : Option Range) (i : ℕ) (l : List Bool) → From i l → Open o i → Each (Run m) (runs o i l)
+  each-run : (o : Option Range) (i : ℕ) (l : List Bool) → From i l → Open o i → Each (ClassRun m) (runs o i l)
   unfolding runs
   each-run none i [] f u = tt
   each-run (some r) i [] f u = (closes r i u (past i i f (omega arith)), tt)
@@ -123,7 +123,7 @@ class-runs l = record {
 module _ (m : List Bool) where
   -- the same of the bytes from k on
   record From-on (k : ℕ) (rs : List Range) : Type 0 where
-    each : Each (Run m) rs
+    each : Each (ClassRun m) rs
     low : Each (λ s. k ≤ s .lo) rs
     ascending : Ascending rs
     all : (b : ℕ) → k ≤ b → has m b ≡ true → Covers rs b
@@ -140,13 +140,13 @@ module _ (m : List Bool) where
   -- the first of the ranges begins no later than any byte of the class
   first-low : (k : ℕ) (r s : Range) (rs ss : List Range) → From-on k (r ∷ rs) → From-on k (s ∷ ss) → r .lo < s .lo → ⊥
   first-low k r s rs ss f g h =
-      let e : Run m r = f .each .0 in
-      let t : Run m s = g .each .0 in
+      let e : ClassRun m r = f .each .0 in
+      let t : ClassRun m s = g .each .0 in
       below-all (s .lo) (r .lo) (s ∷ ss) h (omega arith, weaker (s .lo) (s .hi) ss (omega (arith, t .order)) (g .ascending .0))
       (g .all (r .lo) (f .low .0) (e .inside (r .lo) (omega arith) (e .order)))
 
   -- and none ends early
-  no-earlier : (r s : Range) → Run m r → Run m s → r .lo ≡ s .lo → r .hi < s .hi → ⊥
+  no-earlier : (r s : Range) → ClassRun m r → ClassRun m s → r .lo ≡ s .lo → r .hi < s .hi → ⊥
   no-earlier r s e t q h = false≢true (sym (e .behind) ∙ t .inside (suc (r .hi)) (omega (arith, q, e .order)) h)
 
   same-range : (r s : Range) → r .lo ≡ s .lo → r .hi ≡ s .hi → r ≡ s
@@ -166,8 +166,8 @@ module _ (m : List Bool) where
 
   only-from : (k : ℕ) (rs ss : List Range) → From-on k rs → From-on k ss → rs ≡ ss
   only-from k [] [] f g = refl
-  only-from k [] (s ∷ ss) f g = let t : Run m s = g .each .0 in absurd (f .all (s .lo) (g .low .0) (t .inside (s .lo) (omega arith) (t .order)))
-  only-from k (r ∷ rs) [] f g = let e : Run m r = f .each .0 in absurd (g .all (r .lo) (f .low .0) (e .inside (r .lo) (omega arith) (e .order)))
+  only-from k [] (s ∷ ss) f g = let t : ClassRun m s = g .each .0 in absurd (f .all (s .lo) (g .low .0) (t .inside (s .lo) (omega arith) (t .order)))
+  only-from k (r ∷ rs) [] f g = let e : ClassRun m r = f .each .0 in absurd (g .all (r .lo) (f .low .0) (e .inside (r .lo) (omega arith) (e .order)))
   only-from k (r ∷ rs) (s ∷ ss) f g =
       let a : r .lo < s .lo → ⊥ = first-low k r s rs ss f g in
       let b : s .lo < r .lo → ⊥ = first-low k s r ss rs g f in

@@ -19,7 +19,7 @@ use Rattle.grammar.specs.Exp.{Exp, sym, ter, seq, alt, opt, star, plus, ahead, 
 use Rattle.grammar.specs.Numbers.{expressionsOf}
 use Rattle.read_syntax.specs.Machine.{start, over, Judged, fine as free, judge}
 use Rattle.read_syntax.specs.Grammar.{GrammarOf}
-use Rattle.read_syntax.specs.laws.Bounds.{fewer, opened, overAt, Says, judged, one-answer}
+use Rattle.read_syntax.specs.laws.Bounds.{fewer, opened, overAt, Judges, judged, one-answer}
 use Rattle.write_rules.specs.Writing.{text}
 use Rattle.write_rules.specs.laws.Trip.{FineExpr, FineRules}
 use Rattle.write_rules.specs.laws.Fine.{fine, same-grammar}
@@ -190,7 +190,7 @@ module _ (m : Mode) (s : List ℕ) (g : List Rule) (b : Bytes s) (a : GrammarOf 
   pub judged-again : judge m 0 start (lexemes m s) ≡ free → judge m 0 start (lexemes m (text g)) ≡ free
   unfolding toks
   judged-again e =
-      let u : Says m (lexemes m s) free = subst (λ (o : Judged). Says m (lexemes m s) o) e (judged m (lexemes m s)) in
+      let u : Judges m (lexemes m s) free = subst (λ (o : Judged). Judges m (lexemes m s) o) e (judged m (lexemes m s)) in
       let r = same-grammar m s g b a in
       one-answer m (lexemes m (text g)) (judge m 0 start (lexemes m (text g))) free (judged m (lexemes m (text g))) ((r .0, r .1), within-again (u .1))
 

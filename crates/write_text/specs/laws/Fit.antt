@@ -16,7 +16,7 @@ use Rattle.grammar.specs.Trees.{trees}
 use Rattle.grammar.specs.Numbers.{isLake, leftSides, usesOf, onlyLakes, looseLakes, symbolsOf, leavesOf, terminalsOf, numbered}
 use Rattle.read_syntax.specs.Machine.{over}
 use Rattle.read_syntax.specs.Grammar.{GrammarOf}
-use Rattle.read_syntax.specs.laws.Bounds.{overAt, Says, judged}
+use Rattle.read_syntax.specs.laws.Bounds.{overAt, Judges, judged}
 use Rattle.grammar_table.specs.laws.Rows.{All, all-at}
 use Rattle.read_grammar.specs.steps.Promises.{Sound}
 use Rattle.write_rules.specs.laws.Terminals.{FineLeaf, FineSymbol}
@@ -138,7 +138,7 @@ module _ (m : Mode) (s : List ℕ) (g : Rules) (b : Bytes s) (sound : Sound m s 
   fine-rules = fine m s (trees g) b is-grammar
 
   pub none-over : (j : ℕ) → overAt m 0 (lexemes m s) j ≡ false
-  none-over = subst (λ o. Says m (lexemes m s) o) (sound .bounded) (judged m (lexemes m s)) .1
+  none-over = subst (λ o. Judges m (lexemes m s) o) (sound .bounded) (judged m (lexemes m s)) .1
 
   pub narrow-rules : Narrow m (yields (trees g))
   unfolding toks
