@@ -53,7 +53,7 @@ leaves (bad ∷ l) = leaves l
 
 -- ── an expression's tokens ──
 -- what tokens w in front of l add: no left side, these uses, these terminals
-pub record Spells (w : List Tok) (e : Exp Symbol) (l : List Tok) : Type 0 where
+pub record Yields (w : List Tok) (e : Exp Symbol) (l : List Tok) : Type 0 where
   pub lefts : gathered false (w ++ l) ≡ gathered false l
   pub used : uses (w ++ l) ≡ symbolsIn e ++ uses l
   pub terms : leaves (w ++ l) ≡ leavesIn e ++ leaves l
@@ -93,7 +93,7 @@ prefixed-says bang e = (refl, refl)
 mutual
   unfolding choiceToks treeC gathered uses leaves symbolsIn leavesIn
 
-  pub choice-says : (c : Choice) (l : List Tok) → isArrow l ≡ false → Spells (choiceToks c) (treeC c) l
+  pub choice-says : (c : Choice) (l : List Tok) → isArrow l ≡ false → Yields (choiceToks c) (treeC c) l
   choice-says (one s) l h = sequence-says s l h
   choice-says (or c s) l h =
       let a = choice-says c (slash ∷ (seqToks s ++ l)) refl in
@@ -105,7 +105,7 @@ mutual
         terms = ap leaves e ∙ a .terms ∙ ap (λ (x : List Leaf). leavesIn (treeC c) ++ x) (b .terms) ∙ sym (append-assoc (leavesIn (treeC c)) (leavesIn (treeS s)) (leaves l));
       }
 
-  sequence-says : (s : Sequence) (l : List Tok) → isArrow l ≡ false → Spells (seqToks s) (treeS s) l
+  sequence-says : (s : Sequence) (l : List Tok) → isArrow l ≡ false → Yields (seqToks s) (treeS s) l
   sequence-says (first p) l h = prefix-says p l h
   sequence-says (next s p) l h =
       let a = sequence-says s (prefToks p ++ l) (pref-first p l) in
@@ -117,7 +117,7 @@ mutual
         terms = ap leaves e ∙ a .terms ∙ ap (λ (x : List Leaf). leavesIn (treeS s) ++ x) (b .terms) ∙ sym (append-assoc (leavesIn (treeS s)) (leavesIn (treeP p)) (leaves l));
       }
 
-  prefix-says : (p : Prefixed) (l : List Tok) → isArrow l ≡ false → Spells (prefToks p) (treeP p) l
+  prefix-says : (p : Prefixed) (l : List Tok) → isArrow l ≡ false → Yields (prefToks p) (treeP p) l
   prefix-says (bare e) l h = suffix-says e l h
   prefix-says (with x e) l h =
       let a = suffix-says e l h in
@@ -127,7 +127,7 @@ mutual
         terms = a .terms ∙ ap (λ (y : List Leaf). y ++ leaves l) (sym (prefixed-says x (treeF e) .1));
       }
 
-  suffix-says : (e : Suffixed) (l : List Tok) → isArrow l ≡ false → Spells (sufToks e) (treeF e) l
+  suffix-says : (e : Suffixed) (l : List Tok) → isArrow l ≡ false → Yields (sufToks e) (treeF e) l
   suffix-says (only q) l h = primary-says q l h
   suffix-says (then q x) l h =
       let a = primary-says q (suf x ∷ l) refl in
@@ -138,7 +138,7 @@ mutual
         terms = ap leaves e ∙ a .terms ∙ ap (λ (y : List Leaf). y ++ leaves l) (sym (suffixed-says x (treeQ q) .1));
       }
 
-  primary-says : (q : Primary) (l : List Tok) → isArrow l ≡ false → Spells (primToks q) (treeQ q) l
+  primary-says : (q : Primary) (l : List Tok) → isArrow l ≡ false → Yields (primToks q) (treeQ q) l
   primary-says (psym y) l h = record { lefts = symbol-says y l false h refl .0; used = symbol-says y l false h refl .1; terms = refl }
   primary-says (term x) l h = record { lefts = refl; used = refl; terms = refl }
   primary-says (group c) l h =
