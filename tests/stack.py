@@ -10,7 +10,7 @@ import sys
 from matcher import Grammar, plain_text
 from programs import Programs
 
-STACK_KIB = 3072
+STACK_KIB = 960
 
 
 def nest(levels):

@@ -1,16 +1,22 @@
-// The node list of a match (01, Meaning of a match): a walk over the cells in two passes, by a stack of tasks.
+// The node list of a match (01, Meaning of a match): a walk over the cells in two passes, down the expressions and up their parents.
+pub mod desk;
 pub mod nodes;
 
-ghost use Prim.Native.Nat.{ℕ, _+_, _*_, _/_, _%_, _≤_, _<_};
+ghost use Prim.Native.Nat.{ℕ, _+_, _*_, _/_, _≤_, _<_};
 ghost use mathlib.Core.Path.{_≡_};
+ghost use mathlib.Core.Logic.{_⊎_};
+ghost use mathlib.Core.List.{_∷_, _++_};
 ghost use lib.ListN.{length};
+ghost use Rattle.grammar_table.specs.Table.{expressionCount};
+ghost use Rattle.grammar_table.specs.Trees.{bodiesOf, treeOf};
 ghost use Rattle.match_meaning.specs.Meaning.{nd};
+ghost use Rattle.match_eval.specs.Eval.{cellAt};
 ghost use Rattle.match_nodes.specs.Nodes.{listOf, listingOf, wordsOf, roomOf};
-ghost use Rattle.match_nodes.specs.steps.Passes.{out, putIf, note as noted, run, decode};
-ghost use Rattle.grammar_table.specs.Trees.{bodiesOf};
-ghost use Rattle.match_nodes.specs.steps.Tasks.{walk, again, enter as entering, taskWord, taskOf, takes, Able, depthOf, pushed, stackOf, Step};
+ghost use Rattle.match_nodes.specs.steps.Passes.{out, note as noted, run, decode};
+ghost use Rattle.match_nodes.specs.steps.Tasks.{enter as entering, takes, after, listed, AllAble};
+ghost use Rattle.match_nodes.specs.steps.Desk.{Desk, Silent, going, waiting, tasksOf, climb};
 ghost use Rattle.match_nodes.specs.steps.Parts.{Made, Picked, Chosen};
-ghost use Rattle.match_nodes.specs.steps.Turns.{Ready, said, Moved, State, Turned};
+ghost use Rattle.match_nodes.specs.steps.Turns.{Ready, said, Walkable, Walked, Risen, Left, State, Turned};
 
 // All: how many nodes. Deep, Full: the number of the first node that is too deep, that has no room.
 pub enum Listed {
@@ -27,20 +33,16 @@ const DEEPEST: usize = 255;
 const REFUSED: usize = 4611686018427387904;
 
 const NO_ROOM: usize = 9223372036854775808;
-// The stack: as many words as expressions, for each level.
-const STACK_WORDS: usize = 263168;
-// Kinds of a task: an expression that matches, further rounds of one, a symbol that matches.
-const TO_WALK: usize = 1;
+// How a pass stands: it is over; its expression is done, or is to be walked.
+const OVER: usize = 0;
 
-const TO_REPEAT: usize = 2;
+const DONE: usize = 1;
 
-const TO_ENTER: usize = 3;
-// A task's word: of each level so many kinds, of each kind so many numbers.
-const KINDS: usize = 4;
-
-const NUMBERS: usize = 2048;
-
-const LEVEL: usize = 8192;
+const WALK: usize = 2;
+// What walking an expression can come to beside: a symbol is to be entered.
+const ENTER: usize = 3;
+// No expression: where the start symbol is used.
+const NOWHERE: usize = 2047;
 
 // An expression's kind, its left word and its parts.
 struct Seen {
@@ -50,19 +52,11 @@ struct Seen {
     z: usize,
 }
 
-// The tasks that a task gives way to, the lower first, from which place on; 0 is none.
-struct Plan {
+// How a pass stands then, at which expression (or before which symbol) and where in the text.
+struct Next {
+    kind: usize,
+    x: usize,
     place: usize,
-    low: usize,
-    high: usize,
-}
-
-// A plan, and the count of nodes.
-struct Move {
-    place: usize,
-    low: usize,
-    high: usize,
-    at: usize,
 }
 
 // What a pass keeps: how many symbols, how many nodes there is room for, and whether it writes.
@@ -72,9 +66,20 @@ struct Setting {
     write: usize,
 }
 
-// Where a pass stands: on the stack, in the text, in the list.
+// Where a pass stands: how, on which level, at which expression; in the text, in the list.
 struct Stand {
-    height: usize,
+    mode: usize,
+    level: usize,
+    x: usize,
+    place: usize,
+    at: usize,
+}
+
+// A symbol that is to be entered: from which expression, on which level; in the text, in the list.
+struct Entry {
+    symbol: usize,
+    level: usize,
+    x: usize,
     place: usize,
     at: usize,
 }
@@ -84,10 +89,9 @@ fn look(t: &[u32], x: usize) -> Seen
     ensures { λ r. ⌜ Made (now (t .entry)) x (r .op) (r .left) (r .y) (r .z) ⌝ }
 {
     let e = x - 1;
-    let i = grammar_table::EXPRESSIONS_AT + grammar_table::EXPRESSION_WORDS * e;
-    let op = base_words::word(t, i);
-    let left = base_words::word(t, i + 1);
-    let right = base_words::word(t, i + 2);
+    let op = grammar_table::records::op(t, e);
+    let left = grammar_table::records::left(t, e);
+    let right = grammar_table::records::right(t, e);
     let y = grammar_table::part(left, e);
     let z = grammar_table::part(right, e);
     Seen {
@@ -96,14 +100,6 @@ fn look(t: &[u32], x: usize) -> Seen
         y: y,
         z: z,
     }
-}
-
-// A task in one word.
-fn task(kind: usize, d: usize, x: usize) -> usize
-    requires { ⌜ (kind < 4) × (d ≤ 257) × (x < 4294967296) ⌝ }
-    ensures { λ r. ⌜ r ≡ taskWord kind d x ⌝ }
-{
-    (d * KINDS + kind) * NUMBERS + x
 }
 
 // x where it matches at p, 4,096 where it fails.
@@ -152,18 +148,50 @@ fn choose(t: &[u32], s: &[u8], cells: &[u32], n: usize, y: usize, z: usize, p: u
     pick(t, s, cells, n, z, p)
 }
 
-// What walking expression x - 1 at p comes to: it matches there, so that nothing is evaluated but what is chosen by it.
-fn walk_plan(t: &[u32], s: &[u8], cells: &[u32], n: usize, x: usize, d: usize, p: usize) -> Plan
-    requires { ⌜ (n ≤ 64) × (x < 2048) × (d ≤ 256) × (length (now s) ≤ 65535) × (p ≤ length (now s)) × (takes (now t) (now s) (now cells) n x p ≡ 0 → ⊥) ⌝ }
-    ensures { λ r. ⌜ Step (now (t .entry)) (now (s .entry)) (now (cells .entry)) n (walk x d) p (r .low) (r .high) (r .place) × (r .low < 4294967296)
-        × (r .high < 4294967296) ⌝ }
+// What lists no node is passed over by what it takes.
+fn across(t: &[u32], s: &[u8], cells: &[u32], n: usize, desk: &[u32], x: usize, p: usize) -> Next
+    requires { ⌜ Walkable (now t) (now s) (now cells) n (now desk) x p × Silent (treeOf (now t) x) ⌝ }
+    ensures { λ r. ⌜ Walked (now (t .entry)) (now (s .entry)) (now (cells .entry)) n (now (desk .entry)) x p (r .kind) (r .x) (r .place) ⌝ }
+{
+    let a = match_eval::eval(t, s, cells, n, x, p);
+    Next {
+        kind: DONE,
+        x: x,
+        place: p + (a - 1),
+    }
+}
+
+// A guard takes nothing: it is passed over without evaluation.
+fn skip(t: &[u32], s: &[u8], cells: &[u32], n: usize, desk: &[u32], x: usize, p: usize) -> Next
+    requires { ⌜ Walkable (now t) (now s) (now cells) n (now desk) x p × Silent (treeOf (now t) x) ⌝ }
+    ensures { λ r. ⌜ Walked (now (t .entry)) (now (s .entry)) (now (cells .entry)) n (now (desk .entry)) x p (r .kind) (r .x) (r .place) ⌝ }
 {
     if x == 0 {
-        return Plan {
-            place: p + 1,
-            low: 0,
-            high: 0,
+        return across(t, s, cells, n, desk, x, p);
+    }
+    let g = look(t, x);
+    let op = g.op;
+    if grammar_table::AHEAD <= op {
+        return Next {
+            kind: DONE,
+            x: x,
+            place: p,
         };
+    }
+    across(t, s, cells, n, desk, x, p)
+}
+
+// What walking expression x at p comes to: it matches there, so that nothing is evaluated but what is chosen by it.
+fn walk(t: &[u32], s: &[u8], cells: &[u32], n: usize, desk: &[u32], x: usize, p: usize) -> Next
+    requires { ⌜ Walkable (now t) (now s) (now cells) n (now desk) x p ⌝ }
+    ensures { λ r. ⌜ Walked (now (t .entry)) (now (s .entry)) (now (cells .entry)) n (now (desk .entry)) x p (r .kind) (r .x) (r .place) ⌝ }
+{
+    let holds = base_words::word(desk, x);
+    if holds == 0 {
+        return skip(t, s, cells, n, desk, x, p);
+    }
+    if x == 0 {
+        return skip(t, s, cells, n, desk, x, p);
     }
     let g = look(t, x);
     let op = g.op;
@@ -171,88 +199,128 @@ fn walk_plan(t: &[u32], s: &[u8], cells: &[u32], n: usize, x: usize, d: usize, p
     let y = g.y;
     let z = g.z;
     match op {
-        grammar_table::TERMINAL => {
-            let a = match_eval::leaf_at(t, s, left, p);
-            Plan {
-                place: p + (a - 1),
-                low: 0,
-                high: 0,
-            }
-        }
-        grammar_table::SYMBOL => Plan {
+        grammar_table::SYMBOL => Next {
+            kind: ENTER,
+            x: left,
             place: p,
-            low: 0,
-            high: task(TO_ENTER, d, left),
         },
-        grammar_table::SEQUENCE => Plan {
+        grammar_table::SEQUENCE => Next {
+            kind: WALK,
+            x: y,
             place: p,
-            low: task(TO_WALK, d, z),
-            high: task(TO_WALK, d, y),
         },
         grammar_table::CHOICE => {
             let a = choose(t, s, cells, n, y, z, p);
-            Plan {
+            Next {
+                kind: WALK,
+                x: a,
                 place: p,
-                low: 0,
-                high: task(TO_WALK, d, a),
             }
         }
         grammar_table::OPTION => {
             let a = match_eval::eval(t, s, cells, n, y, p);
             if a == 0 {
-                return Plan {
+                return Next {
+                    kind: DONE,
+                    x: x,
                     place: p,
-                    low: 0,
-                    high: 0,
                 };
             }
-            Plan {
+            Next {
+                kind: WALK,
+                x: y,
                 place: p,
-                low: 0,
-                high: task(TO_WALK, d, y),
             }
         }
-        grammar_table::STAR => Plan {
+        grammar_table::STAR => {
+            let a = match_eval::eval(t, s, cells, n, y, p);
+            if a <= 1 {
+                return Next {
+                    kind: DONE,
+                    x: x,
+                    place: p,
+                };
+            }
+            Next {
+                kind: WALK,
+                x: y,
+                place: p,
+            }
+        }
+        grammar_table::PLUS => Next {
+            kind: WALK,
+            x: y,
             place: p,
-            low: 0,
-            high: task(TO_REPEAT, d, y),
         },
-        grammar_table::PLUS => Plan {
-            place: p,
-            low: task(TO_REPEAT, d, y),
-            high: task(TO_WALK, d, y),
-        },
-        grammar_table::AHEAD => Plan {
-            place: p,
-            low: 0,
-            high: 0,
-        },
-        _ => Plan {
-            place: p,
-            low: 0,
-            high: 0,
-        },
+        _ => skip(t, s, cells, n, desk, x, p),
     }
 }
 
-// What further rounds come to: up to the first that fails or takes nothing.
-fn again_plan(t: &[u32], s: &[u8], cells: &[u32], n: usize, x: usize, d: usize, p: usize) -> Plan
-    requires { ⌜ (n ≤ 64) × (x < 2048) × (d ≤ 256) × (length (now s) ≤ 65535) × (p ≤ length (now s)) ⌝ }
-    ensures { λ r. ⌜ Step (now (t .entry)) (now (s .entry)) (now (cells .entry)) n (again x d) p (r .low) (r .high) (r .place) × (r .low < 4294967296)
-        × (r .high < 4294967296) ⌝ }
+// A round of x, a part of e, is done: a further one, up to the first that fails or takes nothing.
+fn further(t: &[u32], s: &[u8], cells: &[u32], n: usize, x: usize, e: usize, p: usize) -> Next
+    requires { ⌜ (n ≤ 64) × (x < 4294967296) × (length (now s) ≤ 65535) × (p ≤ length (now s)) ⌝ }
+    ensures { λ r.
+        ⌜ ((takes (now (t .entry)) (now (s .entry)) (now (cells .entry)) n x p ≤ 1) × (r .kind ≡ 1) × (r .x ≡ e) × (r .place ≡ p))
+        ⊎ ((1 < takes (now (t .entry)) (now (s .entry)) (now (cells .entry)) n x p) × (r .kind ≡ 2) × (r .x ≡ x) × (r .place ≡ p)) ⌝ }
 {
     let a = match_eval::eval(t, s, cells, n, x, p);
     if a <= 1 {
-        return Plan {
+        return Next {
+            kind: DONE,
+            x: e,
             place: p,
-            low: 0,
-            high: 0,
         };
     }
-    Plan {
+    Next {
+        kind: WALK,
+        x: x,
         place: p,
-        low: task(TO_REPEAT, d, x),
-        high: task(TO_WALK, d, x),
+    }
+}
+
+// What comes behind expression x, which is done: the right part of its sequence, a further round, or its parent is done; OVER says that its body is.
+fn rise(t: &[u32], s: &[u8], cells: &[u32], n: usize, desk: &[u32], x: usize, p: usize) -> Next
+    requires { ⌜ Desk (now t) (now desk) (expressionCount (now t)) × (expressionCount (now t) ≤ 1024) × (n ≤ 64) × (x < 4294967296)
+        × (length (now s) ≤ 65535) × (p ≤ length (now s)) ⌝ }
+    ensures { λ r. ⌜ Risen (now (t .entry)) (now (s .entry)) (now (cells .entry)) n (now (desk .entry)) x p (r .kind) (r .x) × (r .kind ≤ 2)
+        × (r .place ≡ p) ⌝ }
+{
+    let e = base_words::word(desk, desk::PARENTS_AT + x);
+    if e == 0 {
+        return Next {
+            kind: OVER,
+            x: 0,
+            place: p,
+        };
+    }
+    let g = look(t, e);
+    let op = g.op;
+    let y = g.y;
+    let z = g.z;
+    if op == grammar_table::SEQUENCE {
+        if x == y {
+            return Next {
+                kind: WALK,
+                x: z,
+                place: p,
+            };
+        }
+        return Next {
+            kind: DONE,
+            x: e,
+            place: p,
+        };
+    }
+    if op == grammar_table::STAR {
+        return further(t, s, cells, n, x, e, p);
+    }
+    if op == grammar_table::PLUS {
+        return further(t, s, cells, n, x, e, p);
+    }
+    Next {
+        kind: DONE,
+        x: e,
+        place: p,
     }
 }
 
@@ -274,167 +342,230 @@ fn note(nodes: &mut [u32], g: Setting, at: usize, r: usize, p: usize, q: usize, 
     at + 1
 }
 
-// The symbol of task w, which matches: its node, and then its body.
+// A symbol that matches: its node, and then its body, unless that holds no symbol. The way back is kept for its level.
 fn enter(
     t: &[u32],
     s: &[u8],
     cells: &[u32],
     nodes: &mut [u32],
     g: Setting,
-    w: usize,
-    st: Stand,
-) -> Move
-    requires { ⌜ Ready (now t) (now s) (now cells) (g .n) × (st .at < 4611686018427387904) × (w / 8192 ≤ 256) × (st .place ≤ length (now s))
-        × (Able (now t) (now s) (now cells) (g .n) (entering (w % 2048) (w / 8192)) (st .place)) ⌝ }
-    ensures { λ m.
-        ⌜ Moved (now (t .entry)) (now (s .entry)) (now (cells .entry)) (g .n) (g .room) (g .write) (out (now (nodes .entry)) (st .at))
-        (out (now (nodes .exit)) (m .at)) (entering (w % 2048) (w / 8192)) (st .place) (m .low) (m .high) (m .place) ⌝ }
+    desk: &mut [u32],
+    e: Entry,
+) -> Stand
+    requires { ⌜ Ready (now t) (now s) (now cells) (g .n) × Desk (now t) (now desk) (expressionCount (now t)) × (e .at < 4611686018427387904)
+        × (e .level ≤ 256) × (e .x < 4294967296) × (e .place ≤ length (now s)) × (cellAt (now s) (now cells) (g .n) (e .symbol) (e .place) ≡ 0 → ⊥)
+        × AllAble (now t) (now s) (now cells) (g .n) (going (now t) (now desk) (e .level) (e .x) ++ waiting (now t) (now desk) (e .level))
+        (after (now t) (now s) (now cells) (g .n) (entering (e .symbol) (e .level)) (e .place)) ⌝ }
+    ensures { λ r.
+        ⌜ Turned (now (t .entry)) (now (s .entry)) (now (cells .entry)) (g .n) (g .room) (g .write) (out (now (nodes .entry)) (e .at))
+        (out (now (nodes .exit)) (r .at))
+        (entering (e .symbol) (e .level)
+        ∷ (going (now (t .entry)) (now (desk .entry)) (e .level) (e .x) ++ waiting (now (t .entry)) (now (desk .entry)) (e .level)))
+        (e .place) 0 (now (desk .exit)) (r .mode) (r .level) (r .x) (r .place) ⌝ }
 {
-    let r = w % NUMBERS;
-    let d = w / LEVEL;
-    let p = st.place;
+    let r = e.symbol;
+    let d = e.level;
+    let p = e.place;
     let c = match_eval::cell_at(s, cells, g.n, r, p);
-    let b = base_words::word(
-        t,
-        grammar_table::SYMBOLS_AT + grammar_table::SYMBOL_WORDS * r + grammar_table::BODY,
-    );
-    let v = note(nodes, g, st.at, r, p, p + (c - 1), d);
-    Move {
+    let b = grammar_table::records::body(t, r);
+    let v = note(nodes, g, e.at, r, p, p + (c - 1), d);
+    let holds = base_words::word(desk, b);
+    if holds == 0 {
+        return Stand {
+            mode: DONE,
+            level: d,
+            x: e.x,
+            place: p + (c - 1),
+            at: v,
+        };
+    }
+    base_words::put(desk, desk::RETURNS_AT + d, e.x);
+    Stand {
+        mode: WALK,
+        level: d + 1,
+        x: b,
         place: p,
-        low: 0,
-        high: task(TO_WALK, d + 1, b),
         at: v,
     }
 }
 
-// One task.
-fn act(
-    t: &[u32],
-    s: &[u8],
-    cells: &[u32],
-    nodes: &mut [u32],
-    g: Setting,
-    w: usize,
-    st: Stand,
-) -> Move
-    requires { ⌜ Ready (now t) (now s) (now cells) (g .n) × (st .at < 4611686018427387904) × (w < 4294967296) × (st .place ≤ length (now s))
-        × Able (now t) (now s) (now cells) (g .n) (taskOf w) (st .place) × (depthOf (taskOf w) ≤ 256) ⌝ }
-    ensures { λ m.
-        ⌜ Moved (now (t .entry)) (now (s .entry)) (now (cells .entry)) (g .n) (g .room) (g .write) (out (now (nodes .entry)) (st .at))
-        (out (now (nodes .exit)) (m .at)) (taskOf w) (st .place) (m .low) (m .high) (m .place) ⌝ }
+// A body is done: back to where its symbol was entered. Above the first level is the end.
+fn leave(desk: &[u32], st: Stand) -> Stand
+    requires { ⌜ st .level ≤ 256 ⌝ }
+    ensures { λ r. ⌜ Left (now (desk .entry)) (st .level) (st .place) (st .at) (r .mode) (r .level) (r .x) (r .place) (r .at) ⌝ }
 {
-    let x = w % NUMBERS;
-    let d = w / LEVEL;
-    let k = w / NUMBERS % KINDS;
-    if k == TO_WALK {
-        let m = walk_plan(t, s, cells, g.n, x, d, st.place);
-        return Move {
-            place: m.place,
-            low: m.low,
-            high: m.high,
+    let d = st.level;
+    if d == 0 {
+        return Stand {
+            mode: OVER,
+            level: 0,
+            x: 0,
+            place: st.place,
             at: st.at,
         };
     }
-    if k == TO_REPEAT {
-        let m = again_plan(t, s, cells, g.n, x, d, st.place);
-        return Move {
-            place: m.place,
-            low: m.low,
-            high: m.high,
-            at: st.at,
-        };
+    let e = d - 1;
+    let x = base_words::word(desk, desk::RETURNS_AT + e);
+    Stand {
+        mode: DONE,
+        level: e,
+        x: x,
+        place: st.place,
+        at: st.at,
     }
-    enter(t, s, cells, nodes, g, w, st)
 }
 
-// A word on the stack, if there is one: the new height.
-fn push(stack: &mut [u32], h: usize, w: usize) -> usize
-    requires { ⌜ (h < length (now stack)) × (w < 4294967296) ⌝ }
-    ensures { λ r. ⌜ (stackOf (now (stack .exit)) r ≡ pushed w (stackOf (now (stack .entry)) h)) × (r ≤ h + 1) ⌝ }
-{
-    if w == 0 {
-        return h;
-    }
-    stack[h] = w as u32;
-    h + 1
-}
-
-fn push_both(stack: &mut [u32], h: usize, low: usize, high: usize) -> usize
-    requires { ⌜ (h + 1 < length (now stack)) × (low < 4294967296) × (high < 4294967296) ⌝ }
-    ensures { λ r. ⌜ stackOf (now (stack .exit)) r ≡ pushed high (pushed low (stackOf (now (stack .entry)) h)) ⌝ }
-{
-    let k = push(stack, h, low);
-    push(stack, k, high)
-}
-
-// The task on top gives way to those that it comes to.
+// One turn: an expression is walked, or one that is done gives way to what comes behind it.
 fn turn(
     t: &[u32],
     s: &[u8],
     cells: &[u32],
     nodes: &mut [u32],
     g: Setting,
-    stack: &mut [u32],
+    desk: &mut [u32],
     st: Stand,
 ) -> Stand
-    requires { ⌜ Ready (now t) (now s) (now cells) (g .n) × (st .at < 4611686018427387904) × (0 < st .height) × (length (now stack) ≡ 263168)
-        × State (now t) (now s) (now cells) (g .n) (stackOf (now stack) (st .height)) (st .place) ⌝ }
+    requires { ⌜ Ready (now t) (now s) (now cells) (g .n) × (st .at < 4611686018427387904) × (0 < st .mode)
+        × State (now t) (now s) (now cells) (g .n) (now desk) (st .mode) (st .level) (st .x) (st .place) ⌝ }
     ensures { λ r.
         ⌜ Turned (now (t .entry)) (now (s .entry)) (now (cells .entry)) (g .n) (g .room) (g .write) (out (now (nodes .entry)) (st .at))
-        (out (now (nodes .exit)) (r .at)) (stackOf (now (stack .entry)) (st .height)) (st .place) (stackOf (now (stack .exit)) (r .height)) (r .place) ⌝ }
+        (out (now (nodes .exit)) (r .at)) (tasksOf (now (t .entry)) (now (desk .entry)) (st .mode) (st .level) (st .x)) (st .place)
+        (climb (st .mode) (st .level) (st .x)) (now (desk .exit)) (r .mode) (r .level) (r .x) (r .place) ⌝ }
 {
-    let h = st.height - 1;
-    let w = base_words::word(stack, h);
-    let m = act(t, s, cells, nodes, g, w, st);
-    let k = push_both(stack, h, m.low, m.high);
+    if st.mode == DONE {
+        let m = rise(t, s, cells, g.n, desk, st.x, st.place);
+        if m.kind == OVER {
+            return leave(desk, st);
+        }
+        return Stand {
+            mode: m.kind,
+            level: st.level,
+            x: m.x,
+            place: m.place,
+            at: st.at,
+        };
+    }
+    let m = walk(t, s, cells, g.n, desk, st.x, st.place);
+    if m.kind == ENTER {
+        return enter(
+            t,
+            s,
+            cells,
+            nodes,
+            g,
+            desk,
+            Entry {
+                symbol: m.x,
+                level: st.level,
+                x: st.x,
+                place: st.place,
+                at: st.at,
+            },
+        );
+    }
     Stand {
-        height: k,
+        mode: m.kind,
+        level: st.level,
+        x: m.x,
         place: m.place,
-        at: m.at,
+        at: st.at,
     }
 }
 
-// One pass: the count of all nodes or, above 2^62, the refusal. With flag 0 it only looks.
-fn pass(t: &[u32], s: &[u8], cells: &[u32], n: usize, nodes: &mut [u32], write: usize) -> usize
-    requires { ⌜ Ready (now t) (now s) (now cells) n ⌝ }
-    ensures { λ v. ⌜ out (now (nodes .exit)) v
-        ≡ run (roomOf (now (nodes .entry))) write (out (now (nodes .entry)) 0) (listOf (bodiesOf (now (t .entry))) (now (s .entry)) (now (cells .entry))) ⌝ }
+// The turns from a stand on: the count of all nodes or, above 2^62, the refusal.
+fn go_on(
+    t: &[u32],
+    s: &[u8],
+    cells: &[u32],
+    nodes: &mut [u32],
+    g: Setting,
+    desk: &mut [u32],
+    first: Stand,
+) -> usize
+    requires { ⌜ Ready (now t) (now s) (now cells) (g .n) × (first .at < 4611686018427387904)
+        × State (now t) (now s) (now cells) (g .n) (now desk) (first .mode) (first .level) (first .x) (first .place) ⌝ }
+    ensures { λ v. ⌜ (out (now (nodes .exit)) v
+        ≡ run (g .room) (g .write) (out (now (nodes .entry)) (first .at))
+        (listed (now (t .entry)) (now (s .entry)) (now (cells .entry)) (g .n)
+        (tasksOf (now (t .entry)) (now (desk .entry)) (first .mode) (first .level) (first .x)) (first .place)))
+        × Desk (now (t .entry)) (now (desk .exit)) (expressionCount (now (t .entry))) ⌝ }
+{
+    let mut at = first.at;
+    let mut mode = first.mode;
+    let mut d = first.level;
+    let mut x = first.x;
+    let mut p = first.place;
+    while 0 < mode {
+        let next = turn(
+            t,
+            s,
+            cells,
+            nodes,
+            g,
+            desk,
+            Stand {
+                mode: mode,
+                level: d,
+                x: x,
+                place: p,
+                at: at,
+            },
+        );
+        at = next.at;
+        if REFUSED <= at {
+            return at;
+        }
+        mode = next.mode;
+        d = next.level;
+        x = next.x;
+        p = next.place;
+    }
+    at
+}
+
+// One pass, from the start symbol on. With flag 0 it only looks.
+fn pass(
+    t: &[u32],
+    s: &[u8],
+    cells: &[u32],
+    n: usize,
+    nodes: &mut [u32],
+    desk: &mut [u32],
+    write: usize,
+) -> usize
+    requires { ⌜ Ready (now t) (now s) (now cells) n × Desk (now t) (now desk) (expressionCount (now t)) ⌝ }
+    ensures { λ v. ⌜ (out (now (nodes .exit)) v
+        ≡ run (roomOf (now (nodes .entry))) write (out (now (nodes .entry)) 0) (listOf (bodiesOf (now (t .entry))) (now (s .entry)) (now (cells .entry))))
+        × Desk (now (t .entry)) (now (desk .exit)) (expressionCount (now (t .entry))) ⌝ }
 {
     let c = match_eval::cell_at(s, cells, n, 0, 0);
     if c == 0 {
         return 0;
     }
-    let room = nodes.len() / nodes::NODE_WORDS;
-    let mut stack: [u32; STACK_WORDS] = [0; STACK_WORDS];
-    let mut h = push(&mut stack, 0, task(TO_ENTER, 0, 0));
-    let mut p: usize = 0;
-    let mut at: usize = 0;
-    while 0 < h {
-        let g = turn(
-            t,
-            s,
-            cells,
-            nodes,
-            Setting {
-                n: n,
-                room: room,
-                write: write,
-            },
-            &mut stack,
-            Stand {
-                height: h,
-                place: p,
-                at: at,
-            },
-        );
-        at = g.at;
-        if REFUSED <= at {
-            return at;
-        }
-        h = g.height;
-        p = g.place;
+    let g = Setting {
+        n: n,
+        room: nodes.len() / nodes::NODE_WORDS,
+        write: write,
+    };
+    let first = enter(
+        t,
+        s,
+        cells,
+        nodes,
+        g,
+        desk,
+        Entry {
+            symbol: 0,
+            level: 0,
+            x: NOWHERE,
+            place: 0,
+            at: 0,
+        },
+    );
+    if REFUSED <= first.at {
+        return first.at;
     }
-    at
+    go_on(t, s, cells, nodes, g, desk, first)
 }
 
 // A pass's number as an answer.
@@ -458,10 +589,12 @@ pub fn list(t: &[u32], s: &[u8], cells: &[u32], n: usize, nodes: &mut [u32]) -> 
         ≡ wordsOf (roomOf (now (nodes .entry))) (now (nodes .entry)) (listOf (bodiesOf (now (t .entry))) (now (s .entry)) (now (cells .entry)))) ⌝ }
 {
     let room = nodes.len() / nodes::NODE_WORDS;
-    let v = pass(t, s, cells, n, nodes, 0);
+    let mut desk: [u32; desk::WORDS] = [0; desk::WORDS];
+    desk::learn_all(t, &mut desk);
+    let v = pass(t, s, cells, n, nodes, &mut desk, 0);
     if REFUSED <= v {
         return answer(room, v);
     }
-    let i = pass(t, s, cells, n, nodes, 1);
+    let i = pass(t, s, cells, n, nodes, &mut desk, 1);
     answer(room, i)
 }

@@ -29,7 +29,7 @@ use Rattle.match_cells.specs.laws.Runs.{bodies-of, cells-right}
 use Rattle.match_nodes.specs.declared.Listed.{Listed}
 use Rattle.match_nodes.specs.declared.Listed.the-variants.{All, Deep, Full}
 use Rattle.match_nodes.specs.steps.Turns.{Ready, said}
-use Rattle.match_lake.specs.laws.Tables.{body-small}
+use Rattle.match_nodes.specs.laws.Forests.{body-in, forest-of}
 use Rattle.prepare.specs.declared.Counted.{Counted}
 use Rattle.prepare.specs.declared.Verdict.{Verdict}
 use Rattle.prepare.specs.declared.Verdict.the-variants.{Refused as VerdictRefused}
@@ -146,7 +146,9 @@ module _ (t s cs ws : List ℕ) where
             subst (λ (bs : List (Exp ℕ)). Right bs s new) (sym (bodies-of t (l .grammar) (l .bodies) (l .plain)))
             (subst (λ (x : List ℕ). Right (l .bodies) s x) (sym (fills .are (l .grammar) (l .bodies) (l .plain) (l .clear)))
             (cells-right t (l .grammar) (l .bodies) (l .plain) (l .clear) s cs (rooms (length (l .bodies)) (q ∙ bodies-are t (l .grammar) (l .bodies) (l .plain .holds)))));
-        small = λ r k. body-small t (withBodies (l .grammar) (l .bodies)) (l .plain .holds) r (omega (arith, k, q));
+        small = λ r k. body-in t (withBodies (l .grammar) (l .bodies)) (l .plain .holds) r (omega (arith, k, q));
+        fits = l .plain .holds .few-expressions;
+        forest = forest-of t (withBodies (l .grammar) (l .bodies)) (l .plain .holds);
       }
         where
           rooms : (k : ℕ) → n ≡ k → (length s + 1) * k ≤ length cs

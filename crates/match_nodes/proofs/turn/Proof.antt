@@ -1,47 +1,71 @@
--- `match_nodes::turn` meets its contract. Assumes nothing.
-use Prim.Native.Nat.{_-_}
+use Prim.Native.Nat.{ℕ}
+use mathlib.Core.Path.{refl, subst}
 use Rattle.match_nodes.specs.steps.Passes.{out}
-use Rattle.match_nodes.specs.steps.Tasks.{taskOf, stackOf}
-use Rattle.match_nodes.specs.laws.Stack.{stack-top, stack-length}
-use Rattle.match_nodes.specs.laws.Turns.{top-able, top-low, turned}
+use Rattle.match_nodes.specs.steps.Turns.{Walked, Risen}
+use Rattle.match_nodes.specs.laws.Turns.{two-up, walkable, turned-walk, rest-able, turned-enter, turned-up, turned-left}
 use borrow.Author.Needs.{needs}
 use Rattle.match_nodes.proofs.turn.Statement.{statement}
 use Rattle.match_nodes.proofs.turn.Tie as tie
 use Rattle.match_nodes.proofs.turn.Reads as reads
 use Rattle.match_nodes.proofs.turn.Lts as lts
-use Rattle.match_nodes.proofs.act.Reads as act-reads
-use Rattle.match_nodes.proofs.push_both.Reads as push-both-reads
-use Rattle.base_words.proofs.word.Reads as word-reads
+use Rattle.match_nodes.proofs.enter.Reads as enter-reads
+use Rattle.match_nodes.proofs.leave.Reads as leave-reads
+use Rattle.match_nodes.proofs.rise.Reads as rise-reads
+use Rattle.match_nodes.proofs.walk.Reads as walk-reads
 
-sub-h : tie.Need-sub-h
-sub-h c = search needs
+rise-requires : tie.Need-rise-requires
+rise-requires c κs = search needs
 
-word-requires : tie.Need-word-requires
-word-requires c κs = search needs
-
-act-requires : tie.Need-act-requires
-act-requires c κs = let a = top-able (c .before .before .before .before .before .before .before .before .before .args .t .now) (c .before .before .before .before .before .before .before .before .before .args .s .now) (c .before .before .before .before .before .before .before .before .before .args .cells .now) (c .before .before .before .before .before .before .before .before .before .args .g .n) (stackOf (c .before .before .before .before .before .before .before .before .before .args .stack .now) (c .before .before .before .before .before .before .before .before .before .args .st .height)) (stackOf (c .before .before .before .before .before .before .before .before .before .args .stack .now) (c .before .before .before .before .before .before .before .before .before .args .st .height - 1)) (c .before .word .result) (c .before .before .before .before .before .before .before .before .before .args .st .place) (stack-top (c .before .before .before .before .before .before .before .before .before .args .stack .now) (c .before .before .before .before .before .before .before .before .before .args .st .height) (c .before .word .result) (c .before .before .before .before .before .before .before .before .before .pre .2) (c .before .word .ensures .0)) (c .before .before .before .before .before .before .before .before .before .pre .4) in (c .before .before .before .before .before .before .before .before .before .pre .0, c .before .before .before .before .before .before .before .before .before .pre .1, c .before .word .ensures .1, c .before .before .before .before .before .before .before .before .before .pre .4 .place, a .0, a .1 .1)
-
-push-both-requires : tie.Need-push-both-requires
-push-both-requires c κs = let a = top-able (c .before .before .before .before .before .before .before .before .before .before .before .before .before .args .t .now) (c .before .before .before .before .before .before .before .before .before .before .before .before .before .args .s .now) (c .before .before .before .before .before .before .before .before .before .before .before .before .before .args .cells .now) (c .before .before .before .before .before .before .before .before .before .before .before .before .before .args .g .n) (stackOf (c .before .before .before .before .before .before .before .before .before .before .before .before .before .args .stack .now) (c .before .before .before .before .before .before .before .before .before .before .before .before .before .args .st .height)) (stackOf (c .before .before .before .before .before .before .before .before .before .before .before .before .before .args .stack .now) (c .before .before .before .before .before .before .before .before .before .before .before .before .before .args .st .height - 1)) (c .before .before .before .before .before .word .result) (c .before .before .before .before .before .before .before .before .before .before .before .before .before .args .st .place) (stack-top (c .before .before .before .before .before .before .before .before .before .before .before .before .before .args .stack .now) (c .before .before .before .before .before .before .before .before .before .before .before .before .before .args .st .height) (c .before .before .before .before .before .word .result) (c .before .before .before .before .before .before .before .before .before .before .before .before .before .pre .2) (c .before .before .before .before .before .word .ensures .0)) (c .before .before .before .before .before .before .before .before .before .before .before .before .before .pre .4) in (top-low (taskOf (c .before .before .before .before .before .word .result)) (stackOf (c .before .before .before .before .before .before .before .before .before .before .before .before .before .args .stack .now) (c .before .before .before .before .before .before .before .before .before .before .before .before .before .args .st .height - 1)) (c .before .before .before .before .before .before .before .before .before .before .before .before .before .args .st .height - 1) _ (stack-length (c .before .before .before .before .before .before .before .before .before .before .before .before .before .args .stack .now) (c .before .before .before .before .before .before .before .before .before .before .before .before .before .args .st .height - 1)) (a .1) (c .before .before .before .before .before .before .before .before .before .before .before .before .before .pre .3), c .before .before .before .act .ensures .low-small, c .before .before .before .act .ensures .high-small)
+leave-requires : tie.Need-leave-requires
+leave-requires c κs = search needs
 
 same-length : tie.Need-same-length
 same-length c = search needs
 
+returns : tie.Need-returns
+returns c = turned-left (c .before .before .before .before .before .before .before .before .before .before .before .before .before .args .t .now) (c .before .before .before .before .before .before .before .before .before .before .before .before .before .args .s .now) (c .before .before .before .before .before .before .before .before .before .before .before .before .before .args .cells .now) (c .before .before .before .before .before .before .before .before .before .before .before .before .before .args .g .n) (c .before .before .before .before .before .before .before .before .before .before .before .before .before .args .g .room) (c .before .before .before .before .before .before .before .before .before .before .before .before .before .args .g .write) (out (c .before .before .before .before .before .before .before .before .before .before .before .before .before .args .nodes .now) (c .before .before .before .before .before .before .before .before .before .before .before .before .before .args .st .at)) (c .before .before .before .before .before .before .before .before .before .before .before .before .before .args .desk .now) (c .before .before .before .before .before .before .before .before .before .before .before .before .before .args .st .mode) (c .before .before .before .before .before .before .before .before .before .before .before .before .before .args .st .level) (c .before .before .before .before .before .before .before .before .before .before .before .before .before .args .st .x) (c .before .before .before .before .before .before .before .before .before .before .before .before .before .args .st .place) (c .before .before .before .before .before .before .before .before .before .before .before .before .before .pre .3) (c .before .before .before .before .before .before .if1 .taken) (c .before .before .before .before .rise .result .x) (subst (λ (j : ℕ). Risen (c .before .before .before .before .before .before .before .before .before .before .before .before .before .args .t .now) (c .before .before .before .before .before .before .before .before .before .before .before .before .before .args .s .now) (c .before .before .before .before .before .before .before .before .before .before .before .before .before .args .cells .now) (c .before .before .before .before .before .before .before .before .before .before .before .before .before .args .g .n) (c .before .before .before .before .before .before .before .before .before .before .before .before .before .args .desk .now) (c .before .before .before .before .before .before .before .before .before .before .before .before .before .args .st .x) (c .before .before .before .before .before .before .before .before .before .before .before .before .before .args .st .place) j (c .before .before .before .before .rise .result .x)) (c .before .before .if2 .taken) (c .before .before .before .before .rise .ensures .0)) (c .before .before .before .before .before .before .before .before .before .before .before .before .before .args .nodes .now) (c .before .before .before .before .before .before .before .before .before .before .before .before .before .args .st .at) refl (c .leave .result .mode) (c .leave .result .level) (c .leave .result .x) (c .leave .result .place) (c .leave .result .at) (c .leave .ensures)
+
 same-length-2 : tie.Need-same-length-2
 same-length-2 c = search needs
 
-returns : tie.Need-returns
-returns c = turned (c .before .before .before .before .before .before .before .before .before .before .before .before .before .before .before .before .args .t .now) (c .before .before .before .before .before .before .before .before .before .before .before .before .before .before .before .before .args .s .now) (c .before .before .before .before .before .before .before .before .before .before .before .before .before .before .before .before .args .cells .now) (c .before .before .before .before .before .before .before .before .before .before .before .before .before .before .before .before .args .g .n) (c .before .before .before .before .before .before .before .before .before .before .before .before .before .before .before .before .args .g .room) (c .before .before .before .before .before .before .before .before .before .before .before .before .before .before .before .before .args .g .write) (out (c .before .before .before .before .before .before .before .before .before .before .before .before .before .before .before .before .args .nodes .now) (c .before .before .before .before .before .before .before .before .before .before .before .before .before .before .before .before .args .st .at)) _ (stackOf (c .before .before .before .before .before .before .before .before .before .before .before .before .before .before .before .before .args .stack .now) (c .before .before .before .before .before .before .before .before .before .before .before .before .before .before .before .before .args .st .height)) (stackOf (c .before .before .before .before .before .before .before .before .before .before .before .before .before .before .before .before .args .stack .now) (c .before .before .before .before .before .before .before .before .before .before .before .before .before .before .before .before .args .st .height - 1)) _ (c .before .before .before .before .before .before .before .before .word .result) (c .before .before .before .before .before .before .before .before .before .before .before .before .before .before .before .before .args .st .place) (c .before .before .before .before .before .before .act .result .low) (c .before .before .before .before .before .before .act .result .high) (c .before .before .before .before .before .before .act .result .place) (stack-top (c .before .before .before .before .before .before .before .before .before .before .before .before .before .before .before .before .args .stack .now) (c .before .before .before .before .before .before .before .before .before .before .before .before .before .before .before .before .args .st .height) (c .before .before .before .before .before .before .before .before .word .result) (c .before .before .before .before .before .before .before .before .before .before .before .before .before .before .before .before .pre .2) (c .before .before .before .before .before .before .before .before .word .ensures .0)) (c .before .before .before .before .before .before .before .before .before .before .before .before .before .before .before .before .pre .4) (c .before .before .before .before .before .before .act .ensures) (c .before .before .push-both .ensures)
+returns-2 : tie.Need-returns-2
+returns-2 c = rw (c .before .before .rise .ensures .2) (turned-up (c .before .before .before .before .before .before .before .before .before .before .before .args .t .now) (c .before .before .before .before .before .before .before .before .before .before .before .args .s .now) (c .before .before .before .before .before .before .before .before .before .before .before .args .cells .now) (c .before .before .before .before .before .before .before .before .before .before .before .args .g .n) (c .before .before .before .before .before .before .before .before .before .before .before .args .g .room) (c .before .before .before .before .before .before .before .before .before .before .before .args .g .write) (out (c .before .before .before .before .before .before .before .before .before .before .before .args .nodes .now) (c .before .before .before .before .before .before .before .before .before .before .before .args .st .at)) (c .before .before .before .before .before .before .before .before .before .before .before .args .desk .now) (c .before .before .before .before .before .before .before .before .before .before .before .args .st .mode) (c .before .before .before .before .before .before .before .before .before .before .before .args .st .level) (c .before .before .before .before .before .before .before .before .before .before .before .args .st .x) (c .before .before .before .before .before .before .before .before .before .before .before .args .st .place) (c .before .before .before .before .before .before .before .before .before .before .before .pre .3) (c .before .before .before .before .if1 .taken) (c .before .before .rise .result .kind) (c .before .before .rise .result .x) (c .before .before .rise .ensures .0) (c .if2 .left) (c .before .before .rise .ensures .1))
+
+walk-requires : tie.Need-walk-requires
+walk-requires c κs = walkable (c .before .before .before .before .before .before .before .before .args .t .now) (c .before .before .before .before .before .before .before .before .args .s .now) (c .before .before .before .before .before .before .before .before .args .cells .now) (c .before .before .before .before .before .before .before .before .args .g .n) (c .before .before .before .before .before .before .before .before .args .g .room) (c .before .before .before .before .before .before .before .before .args .g .write) (out (c .before .before .before .before .before .before .before .before .args .nodes .now) (c .before .before .before .before .before .before .before .before .args .st .at)) (c .before .before .before .before .before .before .before .before .args .desk .now) (c .before .before .before .before .before .before .before .before .args .st .mode) (c .before .before .before .before .before .before .before .before .args .st .level) (c .before .before .before .before .before .before .before .before .args .st .x) (c .before .before .before .before .before .before .before .before .args .st .place) (c .before .before .before .before .before .before .before .before .pre .3) (two-up (c .before .before .before .before .before .before .before .before .args .st .mode) (c .before .before .before .before .before .before .before .before .pre .2) (c .before .if1 .left)) (c .before .before .before .before .before .before .before .before .pre .0)
+
+enter-requires : tie.Need-enter-requires
+enter-requires c κs = let a = rest-able (c .before .before .before .before .before .before .before .before .before .before .before .before .before .args .t .now) (c .before .before .before .before .before .before .before .before .before .before .before .before .before .args .s .now) (c .before .before .before .before .before .before .before .before .before .before .before .before .before .args .cells .now) (c .before .before .before .before .before .before .before .before .before .before .before .before .before .args .g .n) (c .before .before .before .before .before .before .before .before .before .before .before .before .before .args .g .room) (c .before .before .before .before .before .before .before .before .before .before .before .before .before .args .g .write) (out (c .before .before .before .before .before .before .before .before .before .before .before .before .before .args .nodes .now) (c .before .before .before .before .before .before .before .before .before .before .before .before .before .args .st .at)) (c .before .before .before .before .before .before .before .before .before .before .before .before .before .args .desk .now) (c .before .before .before .before .before .before .before .before .before .before .before .before .before .args .st .mode) (c .before .before .before .before .before .before .before .before .before .before .before .before .before .args .st .level) (c .before .before .before .before .before .before .before .before .before .before .before .before .before .args .st .x) (c .before .before .before .before .before .before .before .before .before .before .before .before .before .args .st .place) (c .before .before .before .before .before .before .before .before .before .before .before .before .before .pre .3) (two-up (c .before .before .before .before .before .before .before .before .before .before .before .before .before .args .st .mode) (c .before .before .before .before .before .before .before .before .before .before .before .before .before .pre .2) (c .before .before .before .before .before .before .if1 .left)) (c .before .before .before .before .walk .result .x) (c .before .before .before .before .walk .result .place) (subst (λ (j : ℕ). Walked (c .before .before .before .before .before .before .before .before .before .before .before .before .before .args .t .now) (c .before .before .before .before .before .before .before .before .before .before .before .before .before .args .s .now) (c .before .before .before .before .before .before .before .before .before .before .before .before .before .args .cells .now) (c .before .before .before .before .before .before .before .before .before .before .before .before .before .args .g .n) (c .before .before .before .before .before .before .before .before .before .before .before .before .before .args .desk .now) (c .before .before .before .before .before .before .before .before .before .before .before .before .before .args .st .x) (c .before .before .before .before .before .before .before .before .before .before .before .before .before .args .st .place) j (c .before .before .before .before .walk .result .x) (c .before .before .before .before .walk .result .place)) (c .before .before .if3 .taken) (c .before .before .before .before .walk .ensures)) in (c .before .before .before .before .before .before .before .before .before .before .before .before .before .pre .0, c .before .before .before .before .before .before .before .before .before .before .before .before .before .pre .3 .desk, c .before .before .before .before .before .before .before .before .before .before .before .before .before .pre .1, c .before .before .before .before .before .before .before .before .before .before .before .before .before .pre .3 .level, c .before .before .before .before .before .before .before .before .before .before .before .before .before .pre .3 .small, c .before .before .before .before .before .before .before .before .before .before .before .before .before .pre .3 .place, a .0, a .1)
+
+same-length-3 : tie.Need-same-length-3
+same-length-3 c = search needs
+
+same-length-4 : tie.Need-same-length-4
+same-length-4 c = search needs
+
+returns-3 : tie.Need-returns-3
+returns-3 c = turned-enter (c .before .before .before .before .before .before .before .before .before .before .before .before .before .before .before .before .before .before .args .t .now) (c .before .before .before .before .before .before .before .before .before .before .before .before .before .before .before .before .before .before .args .s .now) (c .before .before .before .before .before .before .before .before .before .before .before .before .before .before .before .before .before .before .args .cells .now) (c .before .before .before .before .before .before .before .before .before .before .before .before .before .before .before .before .before .before .args .g .n) (c .before .before .before .before .before .before .before .before .before .before .before .before .before .before .before .before .before .before .args .g .room) (c .before .before .before .before .before .before .before .before .before .before .before .before .before .before .before .before .before .before .args .g .write) (out (c .before .before .before .before .before .before .before .before .before .before .before .before .before .before .before .before .before .before .args .nodes .now) (c .before .before .before .before .before .before .before .before .before .before .before .before .before .before .before .before .before .before .args .st .at)) (c .before .before .before .before .before .before .before .before .before .before .before .before .before .before .before .before .before .before .args .desk .now) (c .before .before .before .before .before .before .before .before .before .before .before .before .before .before .before .before .before .before .args .st .mode) (c .before .before .before .before .before .before .before .before .before .before .before .before .before .before .before .before .before .before .args .st .level) (c .before .before .before .before .before .before .before .before .before .before .before .before .before .before .before .before .before .before .args .st .x) (c .before .before .before .before .before .before .before .before .before .before .before .before .before .before .before .before .before .before .args .st .place) (c .before .before .before .before .before .before .before .before .before .before .before .before .before .before .before .before .before .before .pre .3) (two-up (c .before .before .before .before .before .before .before .before .before .before .before .before .before .before .before .before .before .before .args .st .mode) (c .before .before .before .before .before .before .before .before .before .before .before .before .before .before .before .before .before .before .pre .2) (c .before .before .before .before .before .before .before .before .before .before .before .if1 .left)) _ (c .before .before .before .before .before .before .before .before .before .walk .result .x) (c .before .before .before .before .before .before .before .before .before .walk .result .place) _ (c .before .before .before .before .enter .result .mode) (c .before .before .before .before .enter .result .level) (c .before .before .before .before .enter .result .x) (c .before .before .before .before .enter .result .place) (subst (λ (j : ℕ). Walked (c .before .before .before .before .before .before .before .before .before .before .before .before .before .before .before .before .before .before .args .t .now) (c .before .before .before .before .before .before .before .before .before .before .before .before .before .before .before .before .before .before .args .s .now) (c .before .before .before .before .before .before .before .before .before .before .before .before .before .before .before .before .before .before .args .cells .now) (c .before .before .before .before .before .before .before .before .before .before .before .before .before .before .before .before .before .before .args .g .n) (c .before .before .before .before .before .before .before .before .before .before .before .before .before .before .before .before .before .before .args .desk .now) (c .before .before .before .before .before .before .before .before .before .before .before .before .before .before .before .before .before .before .args .st .x) (c .before .before .before .before .before .before .before .before .before .before .before .before .before .before .before .before .before .before .args .st .place) j (c .before .before .before .before .before .before .before .before .before .walk .result .x) (c .before .before .before .before .before .before .before .before .before .walk .result .place)) (c .before .before .before .before .before .before .before .if3 .taken) (c .before .before .before .before .before .before .before .before .before .walk .ensures)) (c .before .before .before .before .enter .ensures)
+
+same-length-5 : tie.Need-same-length-5
+same-length-5 c = search needs
+
+returns-4 : tie.Need-returns-4
+returns-4 c = turned-walk (c .before .before .before .before .before .before .before .before .before .before .before .args .t .now) (c .before .before .before .before .before .before .before .before .before .before .before .args .s .now) (c .before .before .before .before .before .before .before .before .before .before .before .args .cells .now) (c .before .before .before .before .before .before .before .before .before .before .before .args .g .n) (c .before .before .before .before .before .before .before .before .before .before .before .args .g .room) (c .before .before .before .before .before .before .before .before .before .before .before .args .g .write) (out (c .before .before .before .before .before .before .before .before .before .before .before .args .nodes .now) (c .before .before .before .before .before .before .before .before .before .before .before .args .st .at)) (c .before .before .before .before .before .before .before .before .before .before .before .args .desk .now) (c .before .before .before .before .before .before .before .before .before .before .before .args .st .mode) (c .before .before .before .before .before .before .before .before .before .before .before .args .st .level) (c .before .before .before .before .before .before .before .before .before .before .before .args .st .x) (c .before .before .before .before .before .before .before .before .before .before .before .args .st .place) (c .before .before .before .before .before .before .before .before .before .before .before .pre .3) (two-up (c .before .before .before .before .before .before .before .before .before .before .before .args .st .mode) (c .before .before .before .before .before .before .before .before .before .before .before .pre .2) (c .before .before .before .before .if1 .left)) (c .before .before .walk .result .kind) (c .before .before .walk .result .x) (c .before .before .walk .result .place) (c .before .before .walk .ensures) (c .if3 .left)
 
 pub turn-spec : {M : Type 1} → statement M
 turn-spec =
     tie.close
     (tie.spec
-    sub-h
-    word-requires
-    act-requires
-    push-both-requires
+    rise-requires
+    leave-requires
     same-length
+    returns
     same-length-2
-    returns)
+    returns-2
+    walk-requires
+    enter-requires
+    same-length-3
+    same-length-4
+    returns-3
+    same-length-5
+    returns-4)

@@ -5,10 +5,9 @@ use mathlib.Core.Path.{sym as flip}
 use mathlib.Core.Logic.{inl, inr}
 use mathlib.Core.List.{List}
 use native.Mathlib.Omega.{arith}
-use lib.ListN.{getD}
 use Rattle.read_tokens.specs.Token.{Leaf}
 use Rattle.grammar.specs.Exp.{Exp, alt}
-use Rattle.grammar_table.specs.Table.{expressionsAt, expressionWords, leafIn, nodeBy}
+use Rattle.grammar_table.specs.Table.{opOf, leftOf, rightOf, leafIn, nodeBy}
 use Rattle.match_meaning.specs.Meaning.{Node}
 use Rattle.match_eval.specs.Eval.{ev}
 use Rattle.match_nodes.specs.Nodes.{walkOf}
@@ -17,6 +16,7 @@ use Rattle.match_nodes.specs.laws.NodeSteps.{alt-left as list-left, alt-
 use Rattle.grammar_table.specs.Trees.{treeOf, below}
 use Rattle.grammar_table.specs.laws.Trees.{node-at, below-le}
 use Rattle.match_nodes.specs.steps.Parts.{shape, Made, Picked, Chosen}
+use Rattle.match_nodes.specs.laws.Desks.{choice-left, choice-right}
 
 node-shape : (k l r : ℕ) (leaf : ℕ → Leaf) (part : ℕ → Exp ℕ) → shape k (leaf l) l (part l) (part r) ≡ nodeBy k l r leaf part
 unfolding shape nodeBy
@@ -31,29 +31,31 @@ node-shape (suc (suc (suc (suc (suc (suc (suc zero))))))) l r leaf part = refl
 node-shape (suc (suc (suc (suc (suc (suc (suc (suc k)))))))) l r leaf part = refl
 
 -- the words of expression x - 1, as code has read them
-pub made-of : (t : List ℕ) (x k l r y z : ℕ) → 0 < x → k ≡ getD t (expressionsAt + expressionWords * (x - 1)) 0 → l ≡ getD t (expressionsAt + expressionWords * (x - 1) + 1) 0 → r ≡ getD t (expressionsAt + expressionWords * (x - 1) + 2) 0
+pub made-of : (t : List ℕ) (x k l r y z : ℕ) → 0 < x → k ≡ opOf t (x - 1) → l ≡ leftOf t (x - 1) → r ≡ rightOf t (x - 1)
     → l < 4294967296 → y ≡ below l (x - 1) → z ≡ below r (x - 1) → Made t x k l y z
 made-of t x k l r y z o a b c e f g =
-    let i : expressionsAt + expressionWords * (x - 1) ≡ expressionsAt + expressionWords * (x - 1) + 0 = omega arith in
     record {
       tree =
           ap (λ (j : ℕ). shape k (leafIn t l) l (treeOf t j) (treeOf t z)) f ∙ ap (λ (j : ℕ). shape k (leafIn t l) l (treeOf t (below l (x - 1))) (treeOf t j)) g
           ∙ node-shape k l r (leafIn t) (λ (j : ℕ). treeOf t (below j (x - 1)))
-          ∙ node-at t x k l r (λ j. omega (arith, j)) (a ∙ ap (λ (j : ℕ). getD t j 0) i) b c;
+          ∙ node-at t x k l r (λ j. omega (arith, j)) a b c;
       left = omega (arith, f, below-le l (x - 1));
       right = omega (arith, g, below-le r (x - 1));
       small = e;
+      kind = a;
+      first = f ∙ ap (λ (j : ℕ). below j (x - 1)) b;
+      second = g ∙ ap (λ (j : ℕ). below j (x - 1)) c;
     }
 
 module _ (t s cs : List ℕ) (n x p : ℕ) where
   -- x itself
   pub pick-fails : (v : ℕ) → v ≡ ev s cs n (treeOf t x) p → v ≡ 0 → Picked t s cs n x p 4096
   pick-fails v e h =
-      record { fails = λ i. flip e ∙ h; small = λ f. absurd (f refl); works = λ f. absurd (f refl); takes = λ f. absurd (f refl); lists = λ f w. absurd (f refl) }
+      record { fails = λ i. flip e ∙ h; small = λ f. absurd (f refl); works = λ f. absurd (f refl); takes = λ f. absurd (f refl); lists = λ f w. absurd (f refl); up = λ f k m d a b c. absurd (f refl) }
 
   pub pick-whole : (v : ℕ) → v ≡ ev s cs n (treeOf t x) p → (v ≡ 0 → ⊥) → x < 2048 → Picked t s cs n x p x
   pick-whole v e h l =
-      record { fails = λ i. absurd (omega (arith, i)); small = λ f. omega arith; works = λ f i. h (e ∙ i); takes = λ f. refl; lists = λ f w. refl }
+      record { fails = λ i. absurd (omega (arith, i)); small = λ f. omega arith; works = λ f i. h (e ∙ i); takes = λ f. refl; lists = λ f w. refl; up = λ f k m d a b c. refl }
 
   -- a choice
   module _ (k l y z : ℕ) (made : Made t x k l y z) (is : k ≡ 3) where
@@ -79,6 +81,7 @@ module _ (t s cs : List ℕ) (n x p : ℕ) where
           lists = λ i w.
               h .lists f w ∙ list-left (ev s cs n (treeOf t y) p) (walkOf s (λ e i. ev s cs n e i) w (treeOf t y) p) (walkOf s (λ e i. ev s cs n e i) w (treeOf t z) p) (ev s cs n (treeOf t y) p) refl g
               ∙ lists-is w;
+          up = λ i b m d desk few known. h .up f b m d desk few (omega (arith, known, made .left)) ∙ choice-left t b m desk few x k l y z d made known is;
         }
 
     pub pick-second : (a b : ℕ) → Picked t s cs n y p a → a ≡ 4096 → Picked t s cs n z p b → Picked t s cs n x p b
@@ -95,6 +98,7 @@ module _ (t s cs : List ℕ) (n x p : ℕ) where
           lists = λ f w.
               h .lists f w ∙ list-right (ev s cs n (treeOf t y) p) (walkOf s (λ e i. ev s cs n e i) w (treeOf t y) p) (walkOf s (λ e i. ev s cs n e i) w (treeOf t z) p) (ev s cs n (treeOf t y) p) refl g
               ∙ lists-is w;
+          up = λ f c m d desk few known. h .up f c m d desk few (omega (arith, known, made .right)) ∙ choice-right t c m desk few x k l y z d made known is;
         }
 
 -- a choice by its parts
@@ -108,6 +112,7 @@ module _ (t s cs : List ℕ) (n y z p : ℕ) where
         takes = λ i. h .takes f ∙ alt-left (ev s cs n (treeOf t y) p) (λ m. ev s cs n (treeOf t z) p) (ev s cs n (treeOf t y) p) refl g;
         lists = λ i w.
             h .lists f w ∙ list-left (ev s cs n (treeOf t y) p) (walkOf s (λ e i. ev s cs n e i) w (treeOf t y) p) (walkOf s (λ e i. ev s cs n e i) w (treeOf t z) p) (ev s cs n (treeOf t y) p) refl g;
+        up = λ i k m d l desk few c e u v. h .up f k m d desk few c ∙ u;
       }
 
   pub choose-second : (a b : ℕ) → Picked t s cs n y p a → a ≡ 4096 → Picked t s cs n z p b → Chosen t s cs n y z p b
@@ -122,4 +127,5 @@ module _ (t s cs : List ℕ) (n y z p : ℕ) where
         takes = λ f. h .takes (k f) ∙ u;
         lists = λ f w.
             h .lists (k f) w ∙ list-right (ev s cs n (treeOf t y) p) (walkOf s (λ e i. ev s cs n e i) w (treeOf t y) p) (walkOf s (λ e i. ev s cs n e i) w (treeOf t z) p) (ev s cs n (treeOf t y) p) refl g;
+        up = λ f i m d l desk few c e u v. h .up (k f) i m d desk few e ∙ v;
       }

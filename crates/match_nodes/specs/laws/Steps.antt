@@ -3,13 +3,12 @@ use Prim.Native.Nat.{ℕ, zero, suc, _+_, _-_, _*_, _≤_, _<_}
 use mathlib.Core.Path.{_≡_, ap, _∙_, subst}
 use mathlib.Core.Path.{sym as flip}
 use mathlib.Core.Logic.{_⊎_, inl, inr}
-use mathlib.Core.List.{List, [], _++_, append-assoc}
+use mathlib.Core.List.{List, [], _∷_, _++_, append-assoc}
 use native.Mathlib.Omega.{arith}
 use native.Mathlib.Nat.{eq-or-lt-of-le, mul-le-mul, mul-le-mul-right, suc-mul}
 use lib.ListN.{length}
 use Rattle.match_meaning.specs.Meaning.{Node}
-use Rattle.match_nodes.specs.steps.Tasks.{Task, taskOf, pushed, nodes, after, Able, listed, AllAble, depthOf, weight, Top, Fits, cost, costOf, toDo, Step}
-use Rattle.match_nodes.specs.laws.Stack.{push-some}
+use Rattle.match_nodes.specs.steps.Tasks.{Task, nodes, after, Able, listed, AllAble, cost, costOf, toDo, Step, Moves}
 
 -- ── the bound on tasks ──
 pub cost-one : (m k : ℕ) → 1 ≤ cost m k
@@ -49,77 +48,82 @@ cost-again m p j c h g =
     let u : suc (m - (p + j)) * (c + 1) ≤ (m - p) * (c + 1) = mul-le-mul-right (c + 1) (omega arith) in
     omega (arith, u, suc-mul (m - (p + j)) (c + 1))
 
--- ── a word of a task ──
-abbrev pub Word : ℕ → Task → Type 0
-Word w x = (w ≡ 0 → ⊥) × (taskOf w ≡ x)
-
-pub push-fits : (w : ℕ) (x : Task) (ws : List ℕ) → Word w x → Top x (length ws) → Fits ws → Fits (pushed w ws)
-push-fits w x ws e a b = subst Fits (flip (push-some w ws (e .0))) (subst (λ (y : Task). Top y (length ws)) (flip (e .1)) a, b)
-
 module _ (t s cs : List ℕ) (n : ℕ) where
-  -- the words of a task on the others
-  module _ (w : ℕ) (x : Task) (e : Word w x) (ws : List ℕ) (p : ℕ) where
-    pub push-listed : listed t s cs n (pushed w ws) p ≡ nodes t s cs n x p ++ listed t s cs n ws (after t s cs n x p)
-    unfolding listed
-    push-listed = ap (λ (l : List ℕ). listed t s cs n l p) (push-some w ws (e .0)) ∙ ap (λ (y : Task). nodes t s cs n y p ++ listed t s cs n ws (after t s cs n y p)) (e .1)
-
-    pub push-to-do : toDo t s cs n (pushed w ws) p ≡ costOf (length s) x p + toDo t s cs n ws (after t s cs n x p)
-    unfolding toDo
-    push-to-do = ap (λ (l : List ℕ). toDo t s cs n l p) (push-some w ws (e .0)) ∙ ap (λ (y : Task). costOf (length s) y p + toDo t s cs n ws (after t s cs n y p)) (e .1)
-
-    pub push-able : Able t s cs n x p → AllAble t s cs n ws (after t s cs n x p) → AllAble t s cs n (pushed w ws) p
-    push-able a b =
-        subst (λ (l : List ℕ). AllAble t s cs n l p) (flip (push-some w ws (e .0)))
-        (subst (λ (y : Task). Able t s cs n y p × AllAble t s cs n ws (after t s cs n y p)) (flip (e .1)) (a, b))
-
   -- no other task
   module _ (x : Task) (p q : ℕ) where
-    pub step-none : q ≤ length s → [] ≡ nodes t s cs n x p → q ≡ after t s cs n x p → 1 ≤ costOf (length s) x p → Step t s cs n x p 0 0 q
-    unfolding pushed
+    pub step-none : q ≤ length s → [] ≡ nodes t s cs n x p → q ≡ after t s cs n x p → 1 ≤ costOf (length s) x p → Step t s cs n x p [] q
     step-none l a b c =
         record {
           place = l;
-          same = λ ws. ap (λ (i : ℕ). listed t s cs n ws i) b ∙ ap (λ (y : List Node). y ++ listed t s cs n ws (after t s cs n x p)) a;
-          able = λ ws h. subst (λ (i : ℕ). AllAble t s cs n ws i) (flip b) h;
-          fits = λ ws h g. g;
-          less = λ ws. omega (arith, c, ap (λ (i : ℕ). toDo t s cs n ws i) b);
+          same = λ zs. ap (λ (i : ℕ). listed t s cs n zs i) b ∙ ap (λ (y : List Node). y ++ listed t s cs n zs (after t s cs n x p)) a;
+          able = λ zs h. subst (λ (i : ℕ). AllAble t s cs n zs i) (flip b) h;
+          less = λ zs. omega (arith, c, ap (λ (i : ℕ). toDo t s cs n zs i) b);
         }
 
   -- one
-  module _ (x y : Task) (p w : ℕ) (e : Word w y) where
+  module _ (x y : Task) (p : ℕ) where
     pub step-one : p ≤ length s → nodes t s cs n y p ≡ nodes t s cs n x p → after t s cs n y p ≡ after t s cs n x p → Able t s cs n y p
-        → weight y ≤ weight x → depthOf y ≡ depthOf x → costOf (length s) y p + 1 ≤ costOf (length s) x p → Step t s cs n x p 0 w p
-    unfolding pushed
-    step-one l a b f g d c =
+        → costOf (length s) y p + 1 ≤ costOf (length s) x p → Step t s cs n x p (y ∷ []) p
+    unfolding listed toDo
+    step-one l a b f c =
         record {
           place = l;
-          same = λ ws. push-listed w y e ws p ∙ ap (λ (i : ℕ). nodes t s cs n y p ++ listed t s cs n ws i) b ∙ ap (λ (u : List Node). u ++ listed t s cs n ws (after t s cs n x p)) a;
-          able = λ ws h. push-able w y e ws p f (subst (λ (i : ℕ). AllAble t s cs n ws i) (flip b) h);
-          fits = λ ws h i. push-fits w y ws e (omega (arith, h .0, g, d), omega (arith, h .1, d)) i;
-          less = λ ws. omega (arith, c, push-to-do w y e ws p, ap (λ (i : ℕ). toDo t s cs n ws i) b);
+          same = λ zs. ap (λ (i : ℕ). nodes t s cs n y p ++ listed t s cs n zs i) b ∙ ap (λ (u : List Node). u ++ listed t s cs n zs (after t s cs n x p)) a;
+          able = λ zs h. (f, subst (λ (i : ℕ). AllAble t s cs n zs i) (flip b) h);
+          less = λ zs. omega (arith, c, ap (λ (i : ℕ). toDo t s cs n zs i) b);
         }
 
   -- two: y, and z behind it
-  module _ (x y z : Task) (p w v : ℕ) (e : Word w y) (f : Word v z) where
+  module _ (x y z : Task) (p : ℕ) where
     pub step-two : p ≤ length s
         → nodes t s cs n y p ++ nodes t s cs n z (after t s cs n y p) ≡ nodes t s cs n x p
         → after t s cs n z (after t s cs n y p) ≡ after t s cs n x p
         → Able t s cs n y p → Able t s cs n z (after t s cs n y p)
-        → suc (weight y) ≤ weight x → weight z ≤ weight x → depthOf y ≡ depthOf x → depthOf z ≡ depthOf x
         → costOf (length s) y p + costOf (length s) z (after t s cs n y p) + 1 ≤ costOf (length s) x p
-        → Step t s cs n x p v w p
-    unfolding pushed
-    step-two l a b i j g h d k c =
+        → Step t s cs n x p (y ∷ z ∷ []) p
+    unfolding listed toDo
+    step-two l a b i j c =
         record {
           place = l;
-          same = λ ws.
-              push-listed w y e (pushed v ws) p ∙ ap (λ (u : List Node). nodes t s cs n y p ++ u) (push-listed v z f ws (after t s cs n y p))
-              ∙ flip (append-assoc (nodes t s cs n y p) (nodes t s cs n z (after t s cs n y p)) (listed t s cs n ws (after t s cs n z (after t s cs n y p))))
-              ∙ ap (λ (u : List Node). u ++ listed t s cs n ws (after t s cs n z (after t s cs n y p))) a
-              ∙ ap (λ (u : ℕ). nodes t s cs n x p ++ listed t s cs n ws u) b;
-          able = λ ws m. push-able w y e (pushed v ws) p i (push-able v z f ws (after t s cs n y p) j (subst (λ (u : ℕ). AllAble t s cs n ws u) (flip b) m));
-          fits = λ ws m o.
-              push-fits w y (pushed v ws) e (omega (arith, m .0, g, d, ap length (push-some v ws (f .0))), omega (arith, m .1, d))
-              (push-fits v z ws f (omega (arith, m .0, h, k), omega (arith, m .1, k)) o);
-          less = λ ws. omega (arith, c, push-to-do w y e (pushed v ws) p, push-to-do v z f ws (after t s cs n y p), ap (λ (u : ℕ). toDo t s cs n ws u) b);
+          same = λ zs.
+              flip (append-assoc (nodes t s cs n y p) (nodes t s cs n z (after t s cs n y p)) (listed t s cs n zs (after t s cs n z (after t s cs n y p))))
+              ∙ ap (λ (u : List Node). u ++ listed t s cs n zs (after t s cs n z (after t s cs n y p))) a
+              ∙ ap (λ (u : ℕ). nodes t s cs n x p ++ listed t s cs n zs u) b;
+          able = λ zs m. (i, (j, subst (λ (u : ℕ). AllAble t s cs n zs u) (flip b) m));
+          less = λ zs. omega (arith, c, ap (λ (u : ℕ). toDo t s cs n zs u) b);
         }
+
+  -- a task that comes to one, which comes to others
+  module _ (x y : Task) (p q r : ℕ) (ys : List Task) where
+    pub step-then : Step t s cs n x p (y ∷ []) q → Step t s cs n y q ys r → Step t s cs n x p ys r
+    unfolding listed toDo
+    step-then a b =
+        record {
+          place = b .place;
+          same = λ zs. b .same zs ∙ a .same zs;
+          able = λ zs m. b .able zs (a .able zs m .1);
+          less = λ zs. omega (arith, a .less zs, b .less zs);
+        }
+
+  -- a step before others
+  pub step-moves : (x : Task) (p q : ℕ) (ys zs : List Task) → Step t s cs n x p ys q → Moves t s cs n (x ∷ zs) p (ys ++ zs) q 1
+  unfolding listed toDo
+  step-moves x p q ys zs h = record { place = h .place; same = h .same zs; able = λ a. h .able zs (a .1); less = h .less zs }
+
+  -- the same tasks
+  pub moves-same : (xs ys : List Task) (p : ℕ) → p ≤ length s → ys ≡ xs → Moves t s cs n xs p ys p 0
+  moves-same xs ys p l e =
+      record {
+        place = l;
+        same = ap (λ (zs : List Task). listed t s cs n zs p) e;
+        able = subst (λ (zs : List Task). AllAble t s cs n zs p) (flip e);
+        less = omega (arith, ap (λ (zs : List Task). toDo t s cs n zs p) e);
+      }
+
+  -- one behind the other
+  pub moves-on : (xs ys zs : List Task) (p q r c : ℕ) → Moves t s cs n xs p ys q c → zs ≡ ys → q ≡ r → Moves t s cs n xs p zs r c
+  moves-on xs ys zs p q r c h e f =
+      subst (λ (i : ℕ). Moves t s cs n xs p zs i c) f (subst (λ (l : List Task). Moves t s cs n xs p l q c) (flip e) h)
+
+  pub moves-less : (xs ys : List Task) (p q : ℕ) → Moves t s cs n xs p ys q 1 → Moves t s cs n xs p ys q 0
+  moves-less xs ys p q h = record { place = h .place; same = h .same; able = h .able; less = omega (arith, h .less) }
