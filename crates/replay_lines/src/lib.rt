@@ -7,6 +7,11 @@ ghost use lib.ListN.{length, drop};
 ghost use Rattle.io.specs.Counts.{Counts};
 ghost use Rattle.replay_lines.specs.steps.Fields.{untilOf, afterOf, begins, shiftedBy, decimalOf, isDigit, bytesOf};
 
+// The largest number that a field may have, and what is said where it has none.
+pub const NUMBER_MOST: usize = 4294967295;
+
+const NO_NUMBER: usize = 4294967296;
+
 // The value of a hexadecimal digit; 16 for any other byte.
 fn digit(b: u8) -> u8
     ensures { λ r. ⌜ r ≤ 16 ⌝ }
@@ -152,15 +157,15 @@ pub fn decode(s: &[u8], from: usize, to: usize, out: &mut [u8]) -> usize
     n
 }
 
-// The decimal number of a field; 4,294,967,296 where it is none, or not below that.
+// The decimal number of a field; NO_NUMBER where it is none, or larger than may be.
 pub fn decimal(s: &[u8], from: usize, to: usize) -> usize
     ensures { λ r. ⌜ r ≡ decimalOf (now (s .entry)) from to ⌝ }
 {
     if s.len() < to {
-        return 4294967296;
+        return NO_NUMBER;
     }
     if to <= from {
-        return 4294967296;
+        return NO_NUMBER;
     }
     let mut v: usize = 0;
     let mut i = from;
@@ -176,17 +181,17 @@ fn shifted(v: usize, b: u8) -> usize
     ensures { λ r. ⌜ (r ≡ shiftedBy v b) × (r ≤ 4294967296) ⌝ }
 {
     if b < 48 {
-        return 4294967296;
+        return NO_NUMBER;
     }
     if 57 < b {
-        return 4294967296;
+        return NO_NUMBER;
     }
     if 429496729 < v {
-        return 4294967296;
+        return NO_NUMBER;
     }
     let n = v * 10 + (b - 48) as usize;
-    if 4294967295 < n {
-        return 4294967296;
+    if NUMBER_MOST < n {
+        return NO_NUMBER;
     }
     n
 }
@@ -231,7 +236,7 @@ pub fn words(s: &[u8], from: usize, to: usize, out: &mut [u32]) -> usize
     while n < out.len() {
         let end = comma(s, i, to);
         let w = decimal(s, i, end);
-        if 4294967295 < w {
+        if NUMBER_MOST < w {
             return out.len() + 1;
         }
         out[n] = w as u32;
