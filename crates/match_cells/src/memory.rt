@@ -20,6 +20,7 @@ use match_eval::memory::PLACES;
 use match_eval::memory::TEXT;
 use match_eval::memory::key;
 use match_eval::memory::slot;
+use match_eval::memory::word_of;
 
 // The entry of key k at place p says from now on that rounds take c bytes from there.
 fn remember(mem: &mut [u32], k: usize, p: usize, c: usize)
@@ -34,15 +35,31 @@ fn remember(mem: &mut [u32], k: usize, p: usize, c: usize)
     }
 }
 
-// The rounds of part y from p on, if it has a key.
+// Whether a byte decides that no round of part y begins where it stands.
+fn idles(mem: &[u32], y: usize, b: usize) -> bool
+    requires { ⌜ b ≤ 256 ⌝ }
+{
+    let w = word_of(mem, y, b);
+    0 < w && w < 3
+}
+
+// The rounds of part y from p on, if it has a key; where the byte decides that there is none, nothing need be remembered.
 fn learn(t: &[u32], s: &[u8], cells: &[u32], mem: &mut [u32], n: usize, y: usize, p: usize)
     requires { ⌜ ((n ≤ 64) × (y < 4294967296) × (length (now s) ≤ 65535) × (p ≤ length (now s))) × Knows (now t) (now s) (now cells) n (now mem) p p ⌝ }
     ensures { λ _. ⌜ Knows (now (t .entry)) (now (s .entry)) (now (cells .entry)) n (now (mem .exit)) p p × Front (now (mem .entry)) (now (mem .exit)) ⌝ }
 {
     let k = key(mem, y);
     if k != 0 {
-        let c = match_eval::many(t, s, cells, mem, n, y, p);
-        remember(mem, k, p, c);
+        let b = match_eval::byte_at(s, p);
+        if !idles(mem, y, b) {
+            let a = match_eval::round(t, s, cells, mem, n, y, p);
+            if a <= 1 {
+                remember(mem, k, p, 0);
+            } else {
+                let c = match_eval::many(t, s, cells, mem, n, y, p + (a - 1));
+                remember(mem, k, p, a - 1 + c);
+            }
+        }
     }
 }
 

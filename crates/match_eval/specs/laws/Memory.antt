@@ -15,6 +15,7 @@ use Rattle.match_eval.specs.laws.Within.{ev-within, rep-within}
 use Rattle.grammar_table.specs.Trees.{treeOf}
 use Rattle.match_eval.specs.steps.Firsts.{byteAt, bodiesAt, wordOf, Heard, Sure}
 use Rattle.match_eval.specs.steps.Memory.{countAt, keysAt, seenAt, roundsAt, entriesAt, roundsOf, Key, Alike, Words, Fresh, Ready, Says, Told, Worded, Knows, Front, Same, Noted}
+use Rattle.match_eval.specs.laws.EvalSteps.{rep-more}
 use Rattle.match_eval.specs.laws.Frame.{rounds-same, rep-enough}
 
 -- ── words ──
@@ -185,6 +186,16 @@ module _ (old : List ℕ) (i k p c : ℕ) (room : entriesAt + 2 * i + 1 < length
 
 pub rounds-within : (t s cs : List ℕ) (n x q : ℕ) → q ≤ length s → roundsOf t s cs n x q + q ≤ length s
 rounds-within t s cs n x q h = rep-within (length s) (length s) (λ (i : ℕ). ev s cs n (treeOf t x) i) (λ i g. ev-within s cs n (treeOf t x) i g) q h
+
+-- a round, and what follows it
+pub rounds-next : (t s cs : List ℕ) (n x p a : ℕ) → p ≤ length s → a ≡ ev s cs n (treeOf t x) p → 1 < a
+    → (a - 1) + roundsOf t s cs n x (p + (a - 1)) ≡ roundsOf t s cs n x p
+rounds-next t s cs n x p a h e l =
+    let w : a + p ≤ length s + 1 = omega (arith, ev-within s cs n (treeOf t x) p h, e) in
+    let f : roundsOf t s cs n x (p + (a - 1)) ≡ rep (length s - 1) (λ (i : ℕ). ev s cs n (treeOf t x) i) (p + (a - 1)) =
+    rep-enough (length s) (λ (i : ℕ). ev s cs n (treeOf t x) i) (λ i g. ev-within s cs n (treeOf t x) i g) (length s) (length s - 1) (p + (a - 1))
+    (omega arith) (omega arith) (omega arith) in
+    ap (λ (y : ℕ). (a - 1) + y) f ∙ rep-more (λ (i : ℕ). ev s cs n (treeOf t x) i) (length s) p a (omega arith) e l
 
 -- ── nothing but 0 ──
 pub zeros : (n j : ℕ) → _≡_ {A = ℕ} (getD (replicate {A = ℕ} n 0) j 0) 0
