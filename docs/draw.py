@@ -76,7 +76,7 @@ class Picture:
 STAGES = {
     "read": ("a text into a table", ["read_tokens", "read_spelling", "read_syntax", "read_names", "read_grammar"]),
     "lake": ("lakes made plain", ["lake_step_one", "lake_sets", "lake_analysis", "lake_step_two", "lake_calls"]),
-    "match": ("a text into spans", ["match_meaning", "match_eval", "match_cells", "match_nodes", "match_lake"]),
+    "match": ("a text into spans", ["match_meaning", "match_eval", "match_cells", "match_list", "match_nodes", "match_lake"]),
     "write": ("a table into a text", ["write_rules", "write_text", "write_back"]),
 }
 BELOW = ["grammar", "grammar_table", "base_facts", "base_words", "base_rounds"]
@@ -108,7 +108,7 @@ def stages():
     picture.text(480, 83, "gurkenmond: the public calls", "head", "middle")
     picture.box(110, 116, 440, 222, "frame")
     picture.text(330, 134, "prepare: what every call does first, refusals 1 to 8", "small soft", "middle")
-    for name, x, y, height in (("read", 130, 146, 180), ("lake", 360, 146, 180), ("match", 610, 106, 162), ("write", 610, 272, 126)):
+    for name, x, y, height in (("read", 130, 146, 180), ("lake", 360, 146, 180), ("match", 610, 100, 176), ("write", 610, 280, 122)):
         stage(picture, name, x, y, height)
     picture.text(62, 220, "grammar", "small", "middle")
     picture.text(62, 236, "as text", "small", "middle")

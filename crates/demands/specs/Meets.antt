@@ -10,7 +10,7 @@ use Rattle.read_tokens.specs.Bounds.{nodeWords}
 use Rattle.grammar.specs.Exp.{sym}
 use Rattle.grammar.specs.Refusal.{refusal}
 use Rattle.match_meaning.specs.Meaning.{Node, Derives}
-use Rattle.match_nodes.specs.Nodes.{roomOf, nodesAt}
+use Rattle.match_list.specs.Nodes.{roomOf, nodesAt}
 use Rattle.prepare.specs.Prepare.{prepared}
 use Rattle.gurkenmond.specs.Answers.{value as Matched, nomatch as NoMatch, refused as OutcomeRefused}
 use Rattle.gurkenmond.specs.Calls.{Matching, matching, LakeAnswer, lakeAnswer}

@@ -18,7 +18,7 @@ use Rattle.read_syntax.specs.Reading.{before, reserved}
 use Rattle.lake_step_two.specs.Plain.{sizes}
 use Rattle.lake_calls.specs.Loops.{SmallestLoop}
 use Rattle.match_meaning.specs.Meaning.{Node, Derives}
-use Rattle.match_nodes.specs.Nodes.{roomOf}
+use Rattle.match_list.specs.Nodes.{roomOf}
 use Rattle.prepare.specs.Prepare.{prepared, preparedBy}
 use Rattle.gurkenmond.specs.Calls.{cellsNeeded}
 use Rattle.demands.specs.Meant.{meant}

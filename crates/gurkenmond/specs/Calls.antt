@@ -20,7 +20,7 @@ use Rattle.lake_step_two.specs.Plain.{plainRules}
 use Rattle.lake_calls.specs.Calls.{order}
 use Rattle.match_lake.specs.Asking.{wayIn}
 use Rattle.match_cells.specs.Cells.{cells}
-use Rattle.match_nodes.specs.Nodes.{Listing, all, deep, full, listOf, listingOf, wordsOf, roomOf}
+use Rattle.match_list.specs.Nodes.{Listing, all, deep, full, listOf, listingOf, wordsOf, roomOf}
 use Rattle.write_rules.specs.Writing.{symbolText, text}
 use Rattle.gurkenmond.specs.declared.SetsOf.{SetsOf}
 use Rattle.gurkenmond.specs.declared.Lakes.{Lakes}

@@ -8,7 +8,7 @@ ghost use Prim.Native.Nat.{_≤_, _<_};
 ghost use Rattle.gurkenmond.specs.Answers.{waySays};
 ghost use Rattle.gurkenmond.specs.Calls.{SaysRead, noSets, SaysSets, SaysLakes, matchOf, SaysMatch, lakeOf, SaysWay, writeOwnOf, writePlainOf};
 ghost use Rattle.gurkenmond.specs.Calls.{symbolNameOf, SaysText};
-ghost use Rattle.match_nodes.specs.Nodes.{soundAt, Handed};
+ghost use Rattle.match_list.specs.Nodes.{soundAt, Handed};
 ghost use Rattle.gurkenmond.specs.steps.Runs.{Loopless, Ran, listedMatch, notMatched};
 ghost use Rattle.gurkenmond.specs.steps.Asks.{notAsked, Standing, Asked};
 ghost use Rattle.gurkenmond.specs.steps.Puts.{notWritten, Put};
@@ -377,14 +377,14 @@ pub fn match_input(
 pub fn node_sound(nodes: &[u32], k: usize, n: usize) -> bool
     ensures { λ r. ⌜ r ≡ soundAt (now (nodes .entry)) k n ⌝ }
 {
-    match_nodes::nodes::sound(nodes, k, n)
+    match_list::sound(nodes, k, n)
 }
 
 // The text of a node, as that part of the lent input; for an unsound node the empty part at 0.
 pub fn node_text<'a>(input: &'a [u8], nodes: &[u32], k: usize) -> &'a [u8]
     ensures { λ r. ⌜ Handed (now r) (r .ptr) (now (input .entry)) (input .entry .ptr) (now (nodes .entry)) k ⌝ }
 {
-    match_nodes::nodes::text(input, nodes, k)
+    match_list::text(input, nodes, k)
 }
 
 // A refusal, handed on.

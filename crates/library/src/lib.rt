@@ -2,7 +2,7 @@
 // library_numbers/specs/Words.antt defines from the answer of the public call, and returns the first of them: 0, a refusal's number, or 100 for no match.
 // `mode` is 0 for lake, every other byte is plain. `include/gurkenmond.h` declares them for C; `tests/library.py` compares the two.
 ghost use mathlib.Core.Path.{_≡_};
-ghost use Rattle.match_nodes.specs.Nodes.{soundAt};
+ghost use Rattle.match_list.specs.Nodes.{soundAt};
 ghost use Rattle.prepare.specs.Reads.{readOf};
 ghost use Rattle.gurkenmond.specs.Calls.{setsOf, cannotSkipOf, matchOf, lakeOf, writeOwnOf, writePlainOf, symbolNameOf};
 ghost use Rattle.library_numbers.specs.Words.{modeOf, Answers, readWords, setsWords, lakesWords, soundWords, spanWords, SaysMatch, SaysLake, SaysText};

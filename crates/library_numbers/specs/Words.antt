@@ -11,7 +11,7 @@ use Rattle.read_tokens.specs.declared.Mode.the-variants.{Lake, Plain}
 use Rattle.grammar.specs.Refusal.{Refusal}
 use Rattle.lake_sets.specs.declared.Sets.{Sets}
 use Rattle.match_meaning.specs.Meaning.{Node}
-use Rattle.match_nodes.specs.Nodes.{nodeAt, soundAt}
+use Rattle.match_list.specs.Nodes.{nodeAt, soundAt}
 use Rattle.prepare.specs.declared.Counted.{Counted}
 use Rattle.prepare.specs.declared.Verdict.{Verdict}
 use Rattle.prepare.specs.declared.Verdict.the-variants.{Accepted, Refused as VerdictRefused}

@@ -6,9 +6,9 @@ use gurkenmond::Mode;
 use gurkenmond::Outcome;
 use gurkenmond::Verdict;
 use gurkenmond::Way;
-use match_nodes::nodes::END;
-use match_nodes::nodes::NODE_WORDS;
-use match_nodes::nodes::START;
+use match_list::END;
+use match_list::NODE_WORDS;
+use match_list::START;
 
 // 0 is lake, every other byte plain.
 pub fn mode_of(m: u8) -> Mode

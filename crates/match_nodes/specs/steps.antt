@@ -3,5 +3,4 @@ pub mod Tasks
 pub mod Desk
 pub mod Parts
 pub mod Passes
-pub mod Spans
 pub mod Turns

@@ -1,6 +1,5 @@
 // The node list of a match (01, Meaning of a match): a walk over the cells in two passes, down the expressions and up their parents.
 pub mod desk;
-pub mod nodes;
 
 ghost use Prim.Native.Nat.{ℕ, _+_, _*_, _/_, _≤_, _<_};
 ghost use mathlib.Core.Path.{_≡_};
@@ -11,7 +10,7 @@ ghost use Rattle.grammar_table.specs.Table.{expressionCount};
 ghost use Rattle.grammar_table.specs.Trees.{bodiesOf, treeOf};
 ghost use Rattle.match_meaning.specs.Meaning.{nd};
 ghost use Rattle.match_eval.specs.Eval.{cellAt};
-ghost use Rattle.match_nodes.specs.Nodes.{listOf, listingOf, wordsOf, roomOf};
+ghost use Rattle.match_list.specs.Nodes.{listOf, listingOf, wordsOf, roomOf};
 ghost use Rattle.match_nodes.specs.steps.Passes.{out, note as noted, run, decode};
 ghost use Rattle.match_nodes.specs.steps.Tasks.{enter as entering, takes, after, listed, AllAble};
 ghost use Rattle.match_nodes.specs.steps.Desk.{Desk, Silent, going, waiting, tasksOf, climb};
@@ -338,7 +337,7 @@ fn note(nodes: &mut [u32], g: Setting, at: usize, r: usize, p: usize, q: usize, 
     if g.write == 0 {
         return at + 1;
     }
-    nodes::put_node(nodes, at, r, p, q, d);
+    match_list::put_node(nodes, at, r, p, q, d);
     at + 1
 }
 
@@ -544,7 +543,7 @@ fn pass(
     }
     let g = Setting {
         n: n,
-        room: nodes.len() / nodes::NODE_WORDS,
+        room: nodes.len() / match_list::NODE_WORDS,
         write: write,
     };
     let first = enter(
@@ -588,7 +587,7 @@ pub fn list(t: &[u32], s: &[u8], cells: &[u32], n: usize, nodes: &mut [u32]) -> 
         × (now (nodes .exit)
         ≡ wordsOf (roomOf (now (nodes .entry))) (now (nodes .entry)) (listOf (bodiesOf (now (t .entry))) (now (s .entry)) (now (cells .entry)))) ⌝ }
 {
-    let room = nodes.len() / nodes::NODE_WORDS;
+    let room = nodes.len() / match_list::NODE_WORDS;
     let mut desk: [u32; desk::WORDS] = [0; desk::WORDS];
     desk::learn_all(t, &mut desk);
     let v = pass(t, s, cells, n, nodes, &mut desk, 0);

@@ -28,8 +28,8 @@ use Rattle.lake_calls.specs.Calls.{firstCalls, callsOf, calledBy, reach, loopFr
 use Rattle.lake_step_two.specs.Plain.{nonterminalsIn, terminalsIn, alternatives, plainFrom, plainBodies, sizes, rulesBy, plainRules}
 use Rattle.match_cells.specs.Cells.{bodyAt, rowOf, fillOf, cells}
 use Rattle.match_eval.specs.Eval.{stands, leafAt, cellAt, joinOf, seqOf, altOf, stepOf, rep, plusOf, optOf, aheadOf, neverOf, ev}
-use Rattle.match_nodes.specs.Nodes.{seqN, altN, optN, stepN, repN, walkOf, nodeIf, nodesOf, levels, listOf, listingOf, inWords, putNode, written}
-use Rattle.match_nodes.specs.Nodes.{wordsOf, roomOf, nodeAt, nodesAt, soundAt, nodeText}
+use Rattle.match_list.specs.Nodes.{seqN, altN, optN, stepN, repN, walkOf, nodeIf, nodesOf, levels, listOf, listingOf, inWords, putNode, written}
+use Rattle.match_list.specs.Nodes.{wordsOf, roomOf, nodeAt, nodesAt, soundAt, nodeText}
 use Rattle.write_rules.specs.Writing.{byteText, litChar, classChar, litChars, runs as writing-runs, runText, runsText, leafText, symbolText}
 use Rattle.write_rules.specs.Writing.{exprText, ruleText, text}
 use Rattle.prepare.specs.Reads.{verdictOf, readOf}

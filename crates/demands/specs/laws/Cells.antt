@@ -30,7 +30,7 @@ use Rattle.match_cells.specs.laws.Full.{calls-small, markings}
 use Rattle.prepare.specs.Prepare.{prepared, preparedBy, refuses}
 use Rattle.prepare.specs.laws.Reads.{clear-sound, clear-loop}
 use Rattle.gurkenmond.specs.Calls.{Matching, cellsNeeded, refusesInput, listingBy, matchBy, filled, matchAfter, matchOf}
-use Rattle.match_nodes.specs.Nodes.{Listing, all, deep, full, listingOf, listOf, wordsOf, roomOf}
+use Rattle.match_list.specs.Nodes.{Listing, all, deep, full, listingOf, listOf, wordsOf, roomOf}
 use Rattle.demands.specs.Meant.{meant}
 use Rattle.demands.specs.laws.Meant.{bodies-many, from-plain}
 

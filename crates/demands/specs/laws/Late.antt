@@ -14,7 +14,7 @@ use Rattle.grammar.specs.Exp.{sym}
 use Rattle.grammar.specs.Refusal.{Refusal, refusal, _▸_}
 use Rattle.match_meaning.specs.Meaning.{Node, Derives}
 use Rattle.match_meaning.specs.laws.One.{one}
-use Rattle.match_nodes.specs.Nodes.{Listing, all, deep, full, listingOf, roomOf}
+use Rattle.match_list.specs.Nodes.{Listing, all, deep, full, listingOf, roomOf}
 use Rattle.prepare.specs.Prepare.{prepared, refuses}
 use Rattle.prepare.specs.laws.Loads.{some-none}
 use Rattle.gurkenmond.specs.Calls.{Matching, cellsNeeded, refusesInput, matchAfter, matchOf}

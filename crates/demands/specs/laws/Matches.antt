@@ -19,10 +19,10 @@ use Rattle.read_syntax.specs.Reading.{rulesOf}
 use Rattle.write_text.specs.laws.Own.{lefts-long}
 use Rattle.match_meaning.specs.Meaning.{Node, Derives}
 use Rattle.match_meaning.specs.laws.One.{one}
-use Rattle.match_nodes.specs.Nodes.{Listing, deep, full, listingOf, wordsOf, roomOf, nodesAt, soundAt, nodeText, partOf}
-use Rattle.match_nodes.specs.laws.Cut.{IsAll}
-use Rattle.match_nodes.specs.laws.Words.{words-length, words-behind, words-refused, words-back, match-sound, match-text}
-use Rattle.match_nodes.specs.laws.Whole.{listed}
+use Rattle.match_list.specs.Nodes.{Listing, deep, full, listingOf, wordsOf, roomOf, nodesAt, soundAt, nodeText, partOf}
+use Rattle.match_list.specs.laws.Cut.{IsAll}
+use Rattle.match_list.specs.laws.Words.{words-length, words-behind, words-refused, words-back, match-sound, match-text}
+use Rattle.match_list.specs.laws.Whole.{listed}
 use Rattle.prepare.specs.Prepare.{prepared, preparedBy, refuses}
 use Rattle.prepare.specs.laws.Reads.{grammar-read, clear-text}
 use Rattle.gurkenmond.specs.Answers.{Says as Outcome, value as Matched, nomatch as NoMatch, refused as OutcomeRefused}

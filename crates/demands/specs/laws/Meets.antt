@@ -20,7 +20,7 @@ use Rattle.grammar.specs.Refusal.{Refusal, _▸_}
 use Rattle.match_meaning.specs.Meaning.{Node, Derives}
 use Rattle.match_meaning.specs.laws.One.{one}
 use Rattle.lake_calls.specs.Calls.{order}
-use Rattle.match_nodes.specs.Nodes.{roomOf, wordsOf, nodeAt, nodesAt}
+use Rattle.match_list.specs.Nodes.{roomOf, wordsOf, nodeAt, nodesAt}
 use Rattle.match_cells.specs.laws.Filled.{filled-length}
 use Rattle.prepare.specs.Prepare.{prepared, refuses}
 use Rattle.gurkenmond.specs.Answers.{value as Matched, nomatch as NoMatch, refused as OutcomeRefused}

@@ -10,8 +10,8 @@ use lib.Dec.{ltb}
 use borrow.Author.Tests.{ltb-true, ltb-false}
 use Rattle.read_tokens.specs.Bounds.{depthBound}
 use Rattle.match_meaning.specs.Meaning.{Node}
-use Rattle.match_nodes.specs.Nodes.{all, deep, full, listingOf}
-use Rattle.match_nodes.specs.laws.Cut.{listing-deep, listing-full, listing-next}
+use Rattle.match_list.specs.Nodes.{all, deep, full, listingOf}
+use Rattle.match_list.specs.laws.Cut.{listing-deep, listing-full, listing-next}
 use Rattle.demands.specs.Offends.{Shallow, Fits, Reaches, TooDeep, NoRoom}
 
 -- nodes that do not offend are passed over

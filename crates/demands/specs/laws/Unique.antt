@@ -5,7 +5,7 @@ use mathlib.Core.Path.{_≡_, sym, ap₂, _∙_}
 use mathlib.Core.Bool.{Bool}
 use mathlib.Core.List.{List}
 use Rattle.read_tokens.specs.declared.Mode.{Mode}
-use Rattle.match_nodes.specs.Nodes.{soundAt, Handed}
+use Rattle.match_list.specs.Nodes.{soundAt, Handed}
 use Rattle.prepare.specs.declared.Counted.{Counted}
 use Rattle.prepare.specs.declared.Verdict.{Verdict}
 use Rattle.gurkenmond.specs.declared.SetsOf.{SetsOf}

@@ -22,7 +22,7 @@ use Rattle.lake_step_two.specs.steps.Stepped.{plainOf}
 use Rattle.grammar_table.specs.Trees.{bodiesOf}
 use Rattle.lake_calls.specs.laws.Trees.{bodies-are}
 use Rattle.match_cells.specs.Cells.{cells}
-use Rattle.match_nodes.specs.Nodes.{Listing, listOf, listingOf, wordsOf, roomOf}
+use Rattle.match_list.specs.Nodes.{Listing, listOf, listingOf, wordsOf, roomOf}
 use Rattle.match_cells.specs.laws.Agrees.{Right}
 use Rattle.match_cells.specs.steps.Runs.{Plain, Fills}
 use Rattle.match_cells.specs.laws.Runs.{bodies-of, cells-right}

@@ -3,7 +3,7 @@ use native.Mathlib.Omega.{arith}
 use mathlib.Core.Path.{sym, _∙_}
 use lib.ListN.{length}
 use Rattle.read_tokens.specs.Bounds.{nodeWords}
-use Rattle.match_nodes.specs.laws.Reading.{sound-short, span-is}
+use Rattle.match_list.specs.laws.Reading.{sound-short, span-is}
 use Rattle.library_numbers.specs.laws.Parts.{span-none, span-some}
 use borrow.Author.Needs.{needs}
 use Rattle.library_numbers.proofs.of_span.Statement.{statement}

@@ -7,7 +7,7 @@ use mathlib.Core.List.{List, []}
 use lib.ListN.{length, getD, take, drop}
 use Rattle.read_tokens.specs.Bounds.{nodeWords}
 use Rattle.match_meaning.specs.Meaning.{Node}
-use Rattle.match_nodes.specs.Nodes.{nodeAt, soundAt, partOf, nodeText}
+use Rattle.match_list.specs.Nodes.{nodeAt, soundAt, partOf, nodeText}
 use Rattle.library_numbers.specs.Words.{four, spanBy, spanWords}
 
 -- the part of s that such numbers say

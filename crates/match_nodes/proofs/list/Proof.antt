@@ -4,7 +4,7 @@ use mathlib.Core.Path.{ap, _∙_}
 use lib.ListN.{length}
 use Rattle.read_tokens.specs.Bounds.{nodeWords}
 use Rattle.grammar_table.specs.Trees.{bodiesOf}
-use Rattle.match_nodes.specs.Nodes.{listOf, roomOf}
+use Rattle.match_list.specs.Nodes.{listOf, roomOf}
 use Rattle.match_nodes.specs.steps.Passes.{out, run}
 use Rattle.match_nodes.specs.laws.Passes.{pass-refused, pass-written}
 use Rattle.match_nodes.specs.laws.Learns.{desk-empty}

@@ -12,7 +12,7 @@ use Rattle.match_nodes.proofs.note.Statement.{statement}
 use Rattle.match_nodes.proofs.note.Tie as tie
 use Rattle.match_nodes.proofs.note.Reads as reads
 use Rattle.match_nodes.proofs.note.Lts as lts
-use Rattle.match_nodes.proofs.nodes.put_node.Reads as put-node-reads
+use Rattle.match_list.proofs.put_node.Reads as put-node-reads
 
 add-result : tie.Need-add-result
 add-result c = search needs

@@ -1,7 +1,7 @@
 use native.Mathlib.Omega.{arith}
 use mathlib.Core.Path.{ap, _∙_}
 use Rattle.read_tokens.specs.Bounds.{nodeWords}
-use Rattle.match_nodes.specs.Nodes.{roomOf}
+use Rattle.match_list.specs.Nodes.{roomOf}
 use Rattle.match_nodes.specs.steps.Passes.{out, run}
 use Rattle.match_nodes.specs.laws.Passes.{run-stopped}
 use Rattle.match_nodes.specs.laws.Turns.{start-able, start-list, fail-list}

@@ -19,7 +19,8 @@ use Rattle.grammar_table.specs.Trees.{below}
 use Rattle.grammar_table.specs.laws.Places.{upTo-long, upTo-at}
 use Rattle.grammar_table.specs.laws.Parts.{parts-long, size-pos, total, Seg, seg-left, seg-right, seg-one}
 use Rattle.grammar_table.specs.laws.Trees.{below-in}
-use Rattle.lake_calls.specs.laws.Rights.{rights-long, expressions-are, root-at}
+use Rattle.lake_step_one.specs.laws.Held.{rights-long, expressions-are}
+use Rattle.lake_calls.specs.laws.Rights.{root-at}
 use Rattle.match_nodes.specs.steps.Desk.{kindOf, leftPart, rightPart, Parted, Forest}
 
 -- ── the parent of number i: 1 + its number, top for the root of the tree. The tree's numbers begin at o ──

@@ -15,7 +15,7 @@ use Rattle.grammar.specs.Exp.{Exp, ter, seq, alt, opt, star, plus, ahead, never
 use Rattle.grammar_table.specs.Table.{leafIn, symbolWord, expressionCount}
 use Rattle.grammar_table.specs.Trees.{treeOf}
 use Rattle.match_meaning.specs.Meaning.{Node}
-use Rattle.match_nodes.specs.Nodes.{seqN, altN, optN, stepN, repN, walkOf}
+use Rattle.match_list.specs.Nodes.{seqN, altN, optN, stepN, repN, walkOf}
 use Rattle.match_nodes.specs.steps.Desk.{parentsAt, deskWords, markOf, parentOf, kindOf, leftPart, rightPart, Parted, Forest, Silent, Desk}
 use Rattle.match_nodes.specs.steps.Parts.{shape, Made}
 use Rattle.match_nodes.specs.laws.Desks.{keep}

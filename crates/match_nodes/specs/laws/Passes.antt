@@ -11,10 +11,10 @@ use lib.Dec.{ltb}
 use borrow.Author.Tests.{lt-ltb, le-ltb, ltb-true, ltb-false}
 use Rattle.read_tokens.specs.Bounds.{depthBound}
 use Rattle.match_meaning.specs.Meaning.{Node}
-use Rattle.match_nodes.specs.Nodes.{Listing, all, deep, full, listingOf, putNode, written, wordsOf}
+use Rattle.match_list.specs.Nodes.{Listing, all, deep, full, listingOf, putNode, written, wordsOf}
 use Rattle.match_nodes.specs.steps.Passes.{big, Out, out, putIf, note, run, numberOf, decode}
-use Rattle.match_nodes.specs.laws.Cut.{listing-deep, listing-full, listing-next, IsAll, high}
-use Rattle.match_nodes.specs.laws.Words.{if-all, words-refused}
+use Rattle.match_list.specs.laws.Cut.{listing-deep, listing-full, listing-next, IsAll, high}
+use Rattle.match_list.specs.laws.Words.{if-all, words-refused}
 
 -- ── the flag ──
 pub put-off : (w : ℕ) (ws : List ℕ) (k : ℕ) (n : Node) → w ≡ 0 → ws ≡ putIf w ws k n

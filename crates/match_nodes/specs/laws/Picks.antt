@@ -10,9 +10,9 @@ use Rattle.grammar.specs.Exp.{Exp, alt}
 use Rattle.grammar_table.specs.Table.{opOf, leftOf, rightOf, leafIn, nodeBy}
 use Rattle.match_meaning.specs.Meaning.{Node}
 use Rattle.match_eval.specs.Eval.{ev}
-use Rattle.match_nodes.specs.Nodes.{walkOf}
+use Rattle.match_list.specs.Nodes.{walkOf}
 use Rattle.match_eval.specs.laws.EvalSteps.{alt-left, alt-right}
-use Rattle.match_nodes.specs.laws.NodeSteps.{alt-left as list-left, alt-right as list-right}
+use Rattle.match_list.specs.laws.NodeSteps.{alt-left as list-left, alt-right as list-right}
 use Rattle.grammar_table.specs.Trees.{treeOf, below}
 use Rattle.grammar_table.specs.laws.Trees.{node-at, below-le}
 use Rattle.match_nodes.specs.steps.Parts.{shape, Made, Picked, Chosen}

@@ -14,13 +14,13 @@ use Rattle.grammar_table.specs.Table.{symbolWord, symbolCount, expressionCount}
 use Rattle.match_meaning.specs.Meaning.{Node, nd}
 use Rattle.match_meaning.specs.laws.One.{one}
 use Rattle.match_eval.specs.Eval.{bodyOf, cellAt, ev}
-use Rattle.match_nodes.specs.Nodes.{walkOf, nodesOf, levels, listOf}
+use Rattle.match_list.specs.Nodes.{walkOf, nodesOf, levels, listOf}
 use Rattle.match_nodes.specs.steps.Passes.{big, Out, out, note, run}
 use Rattle.match_cells.specs.laws.Sound.{plainly, sym-is}
 use Rattle.match_cells.specs.laws.Agrees.{ev-sound}
 use Rattle.match_eval.specs.laws.EvalSteps.{cell-past}
 use Rattle.match_eval.specs.laws.Within.{cell-within}
-use Rattle.match_nodes.specs.laws.NodeSteps.{nodes-more, nodes-fails}
+use Rattle.match_list.specs.laws.NodeSteps.{nodes-more, nodes-fails}
 use Rattle.match_nodes.specs.laws.Passes.{run-none, note-deep}
 use Rattle.grammar_table.specs.Trees.{treeOf, bodiesOf}
 use Rattle.match_cells.specs.laws.Rows.{bodies-length, body-at}

@@ -12,15 +12,15 @@ use borrow.Author.Tests.{ltb-true, ltb-false}
 use Rattle.grammar.specs.Exp.{Exp, sym, ter, seq, alt, opt, star, plus, ahead, never}
 use Rattle.grammar_table.specs.Table.{leafIn}
 use Rattle.match_eval.specs.Eval.{leafAt, cellAt, seqOf, rep, plusOf, aheadOf, neverOf, ev}
-use Rattle.match_nodes.specs.Nodes.{repN, walkOf}
+use Rattle.match_list.specs.Nodes.{repN, walkOf}
 use Rattle.match_eval.specs.laws.Within.{ev-within}
 use Rattle.match_eval.specs.laws.EvalSteps.{seq-left, seq-right, seq-both, plus-fails, plus-takes, opt-fails, opt-takes, rep-ends, cell-past}
-use Rattle.match_nodes.specs.laws.NodeSteps.{seq-both as list-both, opt-none as list-none, opt-some as list-some, rep-ends as list-ends}
+use Rattle.match_list.specs.laws.NodeSteps.{seq-both as list-both, opt-none as list-none, opt-some as list-some, rep-ends as list-ends}
 use Rattle.grammar_table.specs.Trees.{treeOf}
 use Rattle.match_nodes.specs.steps.Tasks.{Task, walk, again, enter, under, walked, takes, nodes, after, rank, cost, costOf, Step}
 use Rattle.match_nodes.specs.steps.Desk.{Silent}
 use Rattle.match_nodes.specs.steps.Parts.{shape, Made, Chosen}
-use Rattle.match_nodes.specs.laws.Rounds.{rounds-step, nodes-step}
+use Rattle.match_list.specs.laws.Rounds.{rounds-step, nodes-step}
 use Rattle.match_nodes.specs.laws.Steps.{cost-one, cost-less, cost-two, cost-rounds, cost-again, step-none, step-one, step-two, step-then}
 
 rank-less : (x y d : ℕ) → y < x → rank y d < rank x d

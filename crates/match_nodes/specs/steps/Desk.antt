@@ -11,7 +11,7 @@ use Rattle.grammar.specs.Exp.{Exp}
 use Rattle.grammar_table.specs.Table.{opOf, leftOf, rightOf, symbolWord, symbolCount, expressionCount}
 use Rattle.grammar_table.specs.Trees.{treeOf, below}
 use Rattle.match_meaning.specs.Meaning.{Node}
-use Rattle.match_nodes.specs.Nodes.{walkOf}
+use Rattle.match_list.specs.Nodes.{walkOf}
 use Rattle.match_nodes.specs.steps.Tasks.{Task, walk, again, Step, Moves}
 
 -- marks stand first, then returns; parents stand last, so that what is no expression has none

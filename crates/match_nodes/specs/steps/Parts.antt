@@ -8,7 +8,7 @@ use Rattle.grammar.specs.Exp.{Exp, sym, ter, seq, alt, opt, star, plus, ahead, 
 use Rattle.grammar_table.specs.Table.{leafIn}
 use Rattle.match_meaning.specs.Meaning.{Node}
 use Rattle.match_eval.specs.Eval.{ev}
-use Rattle.match_nodes.specs.Nodes.{walkOf}
+use Rattle.match_list.specs.Nodes.{walkOf}
 use Rattle.grammar_table.specs.Trees.{treeOf}
 use Rattle.match_nodes.specs.steps.Tasks.{Task}
 use Rattle.match_nodes.specs.steps.Desk.{kindOf, leftPart, rightPart, Desk, going}

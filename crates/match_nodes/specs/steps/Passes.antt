@@ -7,7 +7,7 @@ use mathlib.Core.List.{List, [], _∷_}
 use lib.Dec.{ltb}
 use Rattle.read_tokens.specs.Bounds.{depthBound}
 use Rattle.match_meaning.specs.Meaning.{Node}
-use Rattle.match_nodes.specs.Nodes.{Listing, all, deep, full, putNode}
+use Rattle.match_list.specs.Nodes.{Listing, all, deep, full, putNode}
 
 -- above every count of nodes: a quarter of a slice's length is always below it
 abbrev pub big : ℕ

@@ -7,7 +7,7 @@ use mathlib.Core.List.{List, [], _∷_, _++_}
 use lib.ListN.{length}
 use Rattle.match_meaning.specs.Meaning.{Node}
 use Rattle.match_eval.specs.Eval.{cellAt, rep, ev}
-use Rattle.match_nodes.specs.Nodes.{repN, walkOf, nodesOf, levels}
+use Rattle.match_list.specs.Nodes.{repN, walkOf, nodesOf, levels}
 use Rattle.grammar_table.specs.Trees.{treeOf, bodiesOf}
 
 -- walk: expression x - 1, which matches there, and `.` for 0; again: rounds of it; enter: symbol r, which matches there. The second number is the depth

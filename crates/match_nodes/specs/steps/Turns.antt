@@ -4,7 +4,7 @@ use mathlib.Core.Path.{_≡_}
 use mathlib.Core.List.{List, [], _∷_}
 use lib.ListN.{length}
 use Rattle.grammar_table.specs.Table.{symbolWord, symbolCount, expressionCount}
-use Rattle.match_nodes.specs.Nodes.{Listing, all, deep, full}
+use Rattle.match_list.specs.Nodes.{Listing, all, deep, full}
 use Rattle.match_nodes.specs.steps.Passes.{big, Out, run}
 use Rattle.match_cells.specs.laws.Agrees.{Right}
 use Rattle.grammar_table.specs.Trees.{bodiesOf}

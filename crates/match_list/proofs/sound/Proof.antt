@@ -1,13 +1,13 @@
--- `match_nodes::nodes::sound` meets its contract. Assumes nothing.
+-- `match_list::sound` meets its contract. Assumes nothing.
 use native.Mathlib.Omega.{arith}
 use Rattle.read_tokens.specs.Bounds.{nodeWords}
-use Rattle.match_nodes.specs.laws.Reading.{sound-short, sound-turned, sound-else}
+use Rattle.match_list.specs.laws.Reading.{sound-short, sound-turned, sound-else}
 use borrow.Author.Needs.{needs}
-use Rattle.match_nodes.proofs.nodes.sound.Statement.{statement}
-use Rattle.match_nodes.proofs.nodes.sound.Tie as tie
-use Rattle.match_nodes.proofs.nodes.sound.Reads as reads
-use Rattle.match_nodes.proofs.nodes.sound.Lts as lts
-use Rattle.match_nodes.proofs.nodes.node_word.Reads as node-word-reads
+use Rattle.match_list.proofs.sound.Statement.{statement}
+use Rattle.match_list.proofs.sound.Tie as tie
+use Rattle.match_list.proofs.sound.Reads as reads
+use Rattle.match_list.proofs.sound.Lts as lts
+use Rattle.match_list.proofs.node_word.Reads as node-word-reads
 
 returns : tie.Need-returns
 unfolding nodeWords

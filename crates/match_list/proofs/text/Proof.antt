@@ -1,13 +1,13 @@
--- `match_nodes::nodes::text` meets its contract. Assumes nothing.
+-- `match_list::text` meets its contract. Assumes nothing.
 use Prim.Native.Nat.{ℕ}
 use mathlib.Core.Path.{refl, ap}
 use native.Mathlib.Omega.{arith}
 use borrow.Author.Needs.{needs}
-use Rattle.match_nodes.proofs.nodes.text.Statement.{statement}
-use Rattle.match_nodes.proofs.nodes.text.Tie as tie
-use Rattle.match_nodes.proofs.nodes.text.Reads as reads
-use Rattle.match_nodes.proofs.nodes.text.Lts as lts
-use Rattle.match_nodes.proofs.nodes.span.Reads as span-reads
+use Rattle.match_list.proofs.text.Statement.{statement}
+use Rattle.match_list.proofs.text.Tie as tie
+use Rattle.match_list.proofs.text.Reads as reads
+use Rattle.match_list.proofs.text.Lts as lts
+use Rattle.match_list.proofs.span.Reads as span-reads
 
 span-requires : tie.Need-span-requires
 span-requires c κs = search needs

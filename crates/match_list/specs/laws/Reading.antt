@@ -10,8 +10,8 @@ use lib.ListN.{length, take, drop}
 use borrow.Author.Tests.{le-leb, lt-leb, leb-true}
 use Rattle.base_facts.specs.laws.Bools.{and-parts}
 use Rattle.read_tokens.specs.Bounds.{nodeWords}
-use Rattle.match_nodes.specs.Nodes.{nodeWord, nodeAt, soundAt, partOf, nodeText, nodeStart}
-use Rattle.match_nodes.specs.steps.Spans.{Spans}
+use Rattle.match_list.specs.Nodes.{nodeWord, nodeAt, soundAt, partOf, nodeText, nodeStart}
+use Rattle.match_list.specs.steps.Spans.{Spans}
 
 module _ (ws : List ℕ) (k n : ℕ) where
   pub sound-short : length ws / nodeWords ≤ k → false ≡ soundAt ws k n

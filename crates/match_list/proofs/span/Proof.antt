@@ -1,15 +1,15 @@
--- `match_nodes::nodes::span` meets its contract. Assumes nothing.
+-- `match_list::span` meets its contract. Assumes nothing.
 use native.Mathlib.Omega.{arith}
 use Rattle.read_tokens.specs.Bounds.{nodeWords}
 use mathlib.Core.Path.{sym, _∙_}
-use Rattle.match_nodes.specs.laws.Reading.{sound-short, span-is, span-none}
+use Rattle.match_list.specs.laws.Reading.{sound-short, span-is, span-none}
 use borrow.Author.Needs.{needs}
-use Rattle.match_nodes.proofs.nodes.span.Statement.{statement}
-use Rattle.match_nodes.proofs.nodes.span.Tie as tie
-use Rattle.match_nodes.proofs.nodes.span.Reads as reads
-use Rattle.match_nodes.proofs.nodes.span.Lts as lts
-use Rattle.match_nodes.proofs.nodes.sound.Reads as sound-reads
-use Rattle.match_nodes.proofs.nodes.node_word.Reads as node-word-reads
+use Rattle.match_list.proofs.span.Statement.{statement}
+use Rattle.match_list.proofs.span.Tie as tie
+use Rattle.match_list.proofs.span.Reads as reads
+use Rattle.match_list.proofs.span.Lts as lts
+use Rattle.match_list.proofs.sound.Reads as sound-reads
+use Rattle.match_list.proofs.node_word.Reads as node-word-reads
 
 returns : tie.Need-returns
 unfolding nodeWords

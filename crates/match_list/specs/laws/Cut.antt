@@ -11,7 +11,7 @@ use borrow.Author.Tests.{lt-ltb, le-ltb, ltb-true, ltb-false}
 use Rattle.read_tokens.specs.Bounds.{depthBound}
 use Rattle.match_meaning.specs.Meaning.{Node}
 use Rattle.match_meaning.specs.laws.Shape.{From, Climb}
-use Rattle.match_nodes.specs.Nodes.{levels, Listing, all, deep, full, listingOf, written, ifAll, wordsOf}
+use Rattle.match_list.specs.Nodes.{levels, Listing, all, deep, full, listingOf, written, ifAll, wordsOf}
 
 -- the nodes above depth c
 unfoldable pub cut : ℕ → List Node → List Node

@@ -1,11 +1,11 @@
--- `match_nodes::nodes::node_word` meets its contract. Assumes nothing.
+-- `match_list::node_word` meets its contract. Assumes nothing.
 use native.Mathlib.Omega.{arith}
 use Rattle.read_tokens.specs.Bounds.{nodeWords}
 use borrow.Author.Needs.{needs}
-use Rattle.match_nodes.proofs.nodes.node_word.Statement.{statement}
-use Rattle.match_nodes.proofs.nodes.node_word.Tie as tie
-use Rattle.match_nodes.proofs.nodes.node_word.Reads as reads
-use Rattle.match_nodes.proofs.nodes.node_word.Lts as lts
+use Rattle.match_list.proofs.node_word.Statement.{statement}
+use Rattle.match_list.proofs.node_word.Tie as tie
+use Rattle.match_list.proofs.node_word.Reads as reads
+use Rattle.match_list.proofs.node_word.Lts as lts
 use Rattle.base_words.proofs.word.Reads as word-reads
 
 mul-word : tie.Need-mul-word

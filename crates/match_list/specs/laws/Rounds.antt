@@ -6,10 +6,10 @@ use mathlib.Core.List.{List, [], _++_}
 use native.Mathlib.Omega.{arith}
 use Rattle.match_meaning.specs.Meaning.{Node}
 use Rattle.match_eval.specs.Eval.{stepOf, rep}
-use Rattle.match_nodes.specs.Nodes.{stepN, repN}
+use Rattle.match_list.specs.Nodes.{stepN, repN}
 use Rattle.match_eval.specs.laws.Within.{Within}
 use Rattle.match_eval.specs.laws.EvalSteps.{rep-more}
-use Rattle.match_nodes.specs.laws.NodeSteps.{rep-more as list-more}
+use Rattle.match_list.specs.laws.NodeSteps.{rep-more as list-more}
 
 module _ (m : ℕ) (f : ℕ → ℕ) (w : ℕ → List Node) (h : (q : ℕ) → q ≤ m → Within m q (f q)) where
   no-bytes : (p : ℕ) → p ≤ m → m ≤ p → f p ≤ 1

@@ -3,7 +3,7 @@ use Prim.Native.Nat.{ℕ, _-_, _≤_}
 use mathlib.Core.Path.{_≡_}
 use mathlib.Core.List.{List}
 use lib.ListN.{length, take, drop}
-use Rattle.match_nodes.specs.Nodes.{nodeText, nodeStart}
+use Rattle.match_list.specs.Nodes.{nodeText, nodeStart}
 
 -- of any text of n bytes, from a to b
 pub record Spans (ws : List ℕ) (k n a b : ℕ) : Type 0 where

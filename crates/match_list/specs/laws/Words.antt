@@ -13,8 +13,8 @@ use borrow.Author.Tests.{le-leb}
 use Rattle.grammar.specs.Exp.{Exp}
 use Rattle.match_meaning.specs.Meaning.{Meant, Node, nd, Derives}
 use Rattle.match_meaning.specs.laws.Shape.{Spans, spans}
-use Rattle.match_nodes.specs.Nodes.{Listing, all, deep, full, listingOf, inWords, putNode, written, ifAll, wordsOf, roomOf, nodeWord, nodeAt, nodesAt, soundAt, partOf, nodeText}
-use Rattle.match_nodes.specs.laws.Cut.{IsAll, all-fit}
+use Rattle.match_list.specs.Nodes.{Listing, all, deep, full, listingOf, inWords, putNode, written, ifAll, wordsOf, roomOf, nodeWord, nodeAt, nodesAt, soundAt, partOf, nodeText}
+use Rattle.match_list.specs.laws.Cut.{IsAll, all-fit}
 
 -- ── a run of words, stored from i on ──
 sets-other : (ws : List ℕ) (i : ℕ) (vs : List ℕ) (j : ℕ) → (i ≤ j → j < i + length vs → ⊥) → getD (sets ws i vs) j 0 ≡ getD ws j 0

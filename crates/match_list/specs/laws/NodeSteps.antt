@@ -11,7 +11,7 @@ use Rattle.read_tokens.specs.Bounds.{nodeWords}
 use Rattle.grammar.specs.Exp.{Exp}
 use Rattle.match_meaning.specs.Meaning.{Node, nd}
 use Rattle.match_eval.specs.Eval.{bodyOf, cellAt, ev}
-use Rattle.match_nodes.specs.Nodes.{seqN, altN, optN, stepN, repN, walkOf, nodeIf, nodesOf, inWords, putNode}
+use Rattle.match_list.specs.Nodes.{seqN, altN, optN, stepN, repN, walkOf, nodeIf, nodesOf, inWords, putNode}
 use Rattle.match_eval.specs.laws.EvalSteps.{less-one}
 
 pub seq-none : (x : ℕ) (l : List Node) (k : ℕ → List Node) (a : ℕ) → a ≡ x → a ≡ 0 → [] ≡ seqN x l k

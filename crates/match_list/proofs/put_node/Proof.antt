@@ -1,11 +1,11 @@
--- `match_nodes::nodes::put_node` meets its contract. Assumes nothing.
+-- `match_list::put_node` meets its contract. Assumes nothing.
 use Rattle.read_tokens.specs.Bounds.{nodeWords}
-use Rattle.match_nodes.specs.laws.NodeSteps.{put-words}
+use Rattle.match_list.specs.laws.NodeSteps.{put-words}
 use borrow.Author.Needs.{needs}
-use Rattle.match_nodes.proofs.nodes.put_node.Statement.{statement}
-use Rattle.match_nodes.proofs.nodes.put_node.Tie as tie
-use Rattle.match_nodes.proofs.nodes.put_node.Reads as reads
-use Rattle.match_nodes.proofs.nodes.put_node.Lts as lts
+use Rattle.match_list.proofs.put_node.Statement.{statement}
+use Rattle.match_list.proofs.put_node.Tie as tie
+use Rattle.match_list.proofs.put_node.Reads as reads
+use Rattle.match_list.proofs.put_node.Lts as lts
 use Rattle.base_words.proofs.put.Reads as put-reads
 
 mul-i : tie.Need-mul-i

@@ -5,8 +5,8 @@ ghost use mathlib.Core.Path.{_≡_};
 ghost use lib.ListN.{length, take, drop};
 ghost use Rattle.read_tokens.specs.Bounds.{nodeWords};
 ghost use Rattle.match_meaning.specs.Meaning.{nd};
-ghost use Rattle.match_nodes.specs.Nodes.{putNode, nodeWord, soundAt, Handed};
-ghost use Rattle.match_nodes.specs.steps.Spans.{Spans};
+ghost use Rattle.match_list.specs.Nodes.{putNode, nodeWord, soundAt, Handed};
+ghost use Rattle.match_list.specs.steps.Spans.{Spans};
 
 // How many words a node has.
 pub const NODE_WORDS: usize = 4;
