@@ -409,6 +409,12 @@ fn way_of(k: usize) -> Way
     }
 }
 
+// The lake and the position of a lake question.
+struct Question {
+    lake: usize,
+    place: usize,
+}
+
 // The lake question on the tables of a grammar: 9, 10, then 14; then the cells are filled.
 fn ask(
     t: &Table,
@@ -417,14 +423,15 @@ fn ask(
     plain: &Table,
     input: &[u8],
     cells: &mut [u32],
-    lake: usize,
-    place: usize,
+    q: Question,
 ) -> LakeWay
     requires { ⌜ Standing (now t) (now mid) (now alts) (now plain) ⌝ }
     ensures { λ r.
-        ⌜ Asked (now (t .entry)) (now (mid .entry)) (now (alts .entry)) (now (plain .entry)) (now (input .entry)) (now (cells .entry)) lake place
-        (now (cells .exit)) r ⌝ }
+        ⌜ Asked (now (t .entry)) (now (mid .entry)) (now (alts .entry)) (now (plain .entry)) (now (input .entry)) (now (cells .entry))
+        (q .lake) (q .place) (now (cells .exit)) r ⌝ }
 {
+    let lake = q.lake;
+    let place = q.place;
     if 65535 < input.len() {
         return not_asked(Verdict::Refused {
             number: 9,
@@ -503,5 +510,9 @@ pub fn lake_at(
     if prepare::is_refused(v) {
         return not_asked(v);
     }
-    ask(&t, &mid, &alts, &plain, input, cells, lake, place)
+    let q = Question {
+        lake: lake,
+        place: place,
+    };
+    ask(&t, &mid, &alts, &plain, input, cells, q)
 }
