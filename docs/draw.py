@@ -108,7 +108,7 @@ def stages():
     picture.text(480, 83, "gurkenmond: the public calls", "head", "middle")
     picture.box(110, 116, 440, 222, "frame")
     picture.text(330, 134, "prepare: what every call does first, refusals 1 to 8", "small soft", "middle")
-    for name, x, y, height in (("read", 130, 146, 180), ("lake", 360, 146, 180), ("match", 610, 100, 176), ("write", 610, 280, 122)):
+    for name, x, y, height in (("read", 130, 146, 180), ("lake", 360, 146, 180), ("match", 610, 102, 184), ("write", 610, 290, 116)):
         stage(picture, name, x, y, height)
     picture.text(62, 220, "grammar", "small", "middle")
     picture.text(62, 236, "as text", "small", "middle")

@@ -11,3 +11,4 @@ pub mod Trees
 pub mod Rights
 pub mod Marks
 pub mod LoopsLoops
+pub mod Ordering

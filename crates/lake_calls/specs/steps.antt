@@ -2,3 +2,4 @@
 pub mod Firsts
 pub mod Marks
 pub mod Place
+pub mod Ordering

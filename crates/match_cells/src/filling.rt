@@ -1,4 +1,4 @@
-// The work cells of a plain grammar's table on a text: symbols in the order of ranks, then every cell (01, Meaning of a match).
+// The work cells of a plain grammar's table on a text, symbols in the order of ranks (01, Meaning of a match).
 ghost use Prim.Native.Nat.{ℕ, _+_, _*_, _<_, _≤_};
 ghost use mathlib.Core.Path.{_≡_};
 ghost use lib.ListN.{getD, length, set};
@@ -7,56 +7,13 @@ ghost use Rattle.grammar_table.specs.Trees.{bodiesOf};
 ghost use Rattle.match_cells.specs.Cells.{bodyAt, rowOf};
 ghost use Rattle.match_eval.specs.steps.Firsts.{byteAt, presetOf};
 ghost use Rattle.match_eval.specs.steps.Memory.{Knows, Calm};
-ghost use Rattle.match_cells.specs.steps.Runs.{OrderedIn, fillBy, FilledBy, Fills};
+ghost use Rattle.match_cells.specs.steps.Runs.{fillBy, FilledBy, Fills};
 use base_words::put;
 use base_words::word;
 use match_eval::memory::BODIES_AT;
 use match_eval::memory::BYTE_WORDS;
 use match_eval::memory::Memory;
 use match_eval::memory::WORDS;
-
-// The symbols of a table by rank, then by number, at the front of `order`: how many.
-pub fn order_in(
-    t: &[u32],
-    marks: &mut [bool],
-    next: &mut [bool],
-    calls: &mut [u64],
-    ranks: &mut [usize],
-    order: &mut [u32],
-) -> usize
-    requires { ⌜ (length (now calls) ≤ 64) × (length (now marks) ≡ length (now calls)) × (length (now next) ≡ length (now calls))
-        × (length (now ranks) ≡ length (now calls)) × (length (now calls) ≤ length (now order)) ⌝ }
-    ensures { λ z. ⌜ OrderedIn (now (t .entry)) (length (now (calls .entry))) (now (order .entry)) (now (order .exit)) ⌝ }
-{
-    lake_calls::loops::mark_all(t, marks, next);
-    lake_calls::calls_of(t, marks, calls);
-    lake_calls::ranks(calls, ranks);
-    lake_calls::order(ranks, order)
-}
-
-// The same at the front of longer runs.
-fn order_front(
-    t: &[u32],
-    n: usize,
-    marks: &mut [bool],
-    next: &mut [bool],
-    calls: &mut [u64],
-    ranks: &mut [usize],
-    order: &mut [u32],
-) -> usize
-    requires { ⌜ (n ≤ 64) × (n ≤ length (now marks)) × (n ≤ length (now next)) × (n ≤ length (now calls)) × (n ≤ length (now ranks))
-        × (n ≤ length (now order)) ⌝ }
-    ensures { λ z. ⌜ OrderedIn (now (t .entry)) n (now (order .entry)) (now (order .exit)) ⌝ }
-{
-    order_in(
-        t,
-        &mut marks[..n],
-        &mut next[..n],
-        &mut calls[..n],
-        &mut ranks[..n],
-        order,
-    )
-}
 
 // Sets the cells of n symbols from i on to what is decided where byte b stands. The others keep what they have: it is never asked for.
 fn preset(cells: &mut [u32], mem: &[u32], n: usize, b: usize, i: usize)
@@ -175,7 +132,7 @@ pub fn fill(t: &[u32], s: &[u8], cells: &mut [u32])
     let mut ranks: [usize; 64] = [0; 64];
     let mut order: [u32; 64] = [0; 64];
     let n = grammar_table::records::symbols(t);
-    let k = order_front(
+    let k = lake_calls::ordering::order_front(
         t,
         n,
         &mut marks,

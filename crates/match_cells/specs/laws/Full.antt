@@ -1,4 +1,4 @@
--- The order by rank has every symbol once where there is no loop, and nothing but symbols ever. Assumes nothing.
+-- The order by rank has every symbol once where there is no loop. Assumes nothing.
 use Prim.Native.Nat.{ℕ, zero, suc, _+_, _^_, _≤_, _<_}
 use mathlib.Core.Path.{_≡_, refl, sym, ap, _∙_, subst}
 use mathlib.Core.Bool.{Bool, true, false, cond}
@@ -78,32 +78,6 @@ under-all n [] h = refl
 under-all n (x ∷ xs) h =
     let e : one (ltb x n) ≡ 1 = ap one (lt-ltb x n (h 0 (omega arith))) in
     omega (arith, e, under-all n xs (λ i l. h (suc i) (omega arith)))
-
--- ── every entry is a symbol ──
-abbrev pub All : ℕ → List ℕ → Type 0
-All n xs = (i : ℕ) → i < length xs → getD xs i 0 < n
-
-all-cons : (n x : ℕ) (b : List ℕ) → x < n → All n b → All n (x ∷ b)
-all-cons n x b h q zero l = h
-all-cons n x b h q (suc i) l = q i (omega arith)
-
-all-append : (n : ℕ) (a b : List ℕ) → All n a → All n b → All n (a ++ b)
-all-append n [] b p q = q
-all-append n (x ∷ a) b p q = all-cons n x (a ++ b) (p 0 (omega arith)) (all-append n a b (λ j k. p (suc j) (omega arith)) q)
-
-all-if : (n r : ℕ) (b : Bool) (l : List ℕ) → r < n → All n l → All n (elim b as (λ c. List ℕ) [ true ↦ r ∷ l | false ↦ l ])
-all-if n r true l h q = all-cons n r l h q
-all-if n r false l h q = q
-
-rank-all : (n k r : ℕ) (xs : List ℕ) → r + length xs ≤ n → All n (ofRank k r xs)
-unfolding ofRank
-rank-all n k r [] h = λ i l. absurd (omega arith)
-rank-all n k r (x ∷ xs) h = all-if n r (eqb x k) (ofRank k (suc r) xs) (omega (arith, h)) (rank-all n k (suc r) xs (omega (arith, h)))
-
-pub order-all : (ranks : List ℕ) (n k : ℕ) → All (length ranks) (orderFrom ranks n k)
-unfolding orderFrom
-order-all ranks zero k = λ i l. absurd (omega arith)
-order-all ranks (suc n) k = all-append (length ranks) (ofRank k 0 ranks) (orderFrom ranks n (suc k)) (rank-all (length ranks) k 0 ranks (omega arith)) (order-all ranks n (suc k))
 
 -- ── first calls are among the symbols ──
 cond-small : (r : ℕ) (t : Bool) (w : ℕ) → w < 2 ^ r → cond t w 0 < 2 ^ r

@@ -1,4 +1,4 @@
--- The order and the cells that code makes are those of the bodies that a table holds, and the cells are right. Assumes nothing.
+-- The cells that code makes are those of the bodies that a table holds, and they are right. Assumes nothing.
 use Prim.Native.Nat.{ℕ, zero, suc, _+_, _*_, _≤_, _<_}
 use mathlib.Core.Path.{_≡_, refl, sym, ap, ap₂, _∙_, subst}
 use mathlib.Core.Bool.{Bool}
@@ -6,7 +6,6 @@ use mathlib.Core.List.{List, [], _∷_, _++_}
 use mathlib.Core.Option.{none}
 use native.Mathlib.Omega.{arith}
 use lib.ListN.{length, getD, drop, replicate}
-use lib.Seq.{getD-drop}
 use Rattle.read_tokens.specs.Token.{any}
 use Rattle.grammar.specs.Exp.{Exp, ter}
 use Rattle.grammar.specs.Numbers.{Grammar}
@@ -15,45 +14,18 @@ use Rattle.grammar.specs.Numbers.{terminalIn}
 use Rattle.lake_sets.specs.Beginning.{marked, marksOf}
 use Rattle.lake_step_one.specs.Proper.{SoundAll}
 use Rattle.grammar_table.specs.laws.Places.{is-upTo, upTo-long}
-use Rattle.lake_calls.specs.Calls.{callsOf, loop, ranksOf, orderFrom, order}
+use Rattle.lake_calls.specs.Calls.{loop, order}
 use Rattle.grammar_table.specs.Trees.{treeOf, bodiesOf}
-use Rattle.lake_calls.specs.steps.Firsts.{AllFirsts}
-use Rattle.lake_calls.specs.steps.Marks.{AllMarks}
 use Rattle.lake_calls.specs.laws.Trees.{bodies-are, trees-are}
-use Rattle.lake_calls.specs.laws.LoopsLoops.{calls-are}
 use Rattle.match_cells.specs.Cells.{cells}
 use Rattle.match_cells.specs.First.{Ordered}
 use Rattle.match_cells.specs.laws.Agrees.{Right}
 use Rattle.match_cells.specs.laws.Filled.{filled-right}
 use Rattle.match_cells.specs.laws.Preset.{filled-same}
-use Rattle.match_cells.specs.steps.Runs.{Plain, OrderedIn, FilledBy, Fills}
+use Rattle.lake_calls.specs.steps.Ordering.{OrderedIn}
+use Rattle.match_cells.specs.steps.Runs.{Plain, FilledBy, Fills}
 use Rattle.match_cells.specs.laws.Order.{ordered}
-use Rattle.match_cells.specs.laws.Full.{All, order-all, order-full, calls-small, markings}
-
--- ── the order ──
--- entries of a list in front of nothing but 0
-front-at : (n : ℕ) (a b : List ℕ) → All n a → ((j : ℕ) → getD b j 0 ≡ 0) → (j : ℕ) → j < n → getD (a ++ b) j 0 < n
-front-at n [] b p z j l = subst (λ (v : ℕ). v < n) (sym (z j)) (omega arith)
-front-at n (x ∷ a) b p z zero l = p 0 (omega arith)
-front-at n (x ∷ a) b p z (suc j) l = front-at n a b (λ i k. p (suc i) (omega arith)) z j (omega arith)
-
-pub order-made : (t : List ℕ) (n m : ℕ) (ms : List Bool) (calls ranks old new : List ℕ) (k : ℕ) → m ≡ n → AllMarks t m ms → AllFirsts t (marked ms) n calls → ranks ≡ ranksOf calls
-    → length ranks ≡ n → k ≡ length (orderFrom ranks (length ranks) 0) → new ≡ orderFrom ranks (length ranks) 0 ++ drop k old → OrderedIn t n old new
-unfolding order
-order-made t n m ms calls ranks old new k q a c r lr z e = record {
-  entries =
-      λ zs j l.
-      subst (λ (v : List ℕ). getD v j 0 < n) (sym e)
-      (front-at n (orderFrom ranks (length ranks) 0) (drop k old) (subst (λ (i : ℕ). All i (orderFrom ranks (length ranks) 0)) lr (order-all ranks (length ranks) 0))
-      (λ i. getD-drop k old i 0 ∙ zs (k + i)) j l);
-  are =
-      λ g bodies p b.
-      let f : ranks ≡ ranksOf (callsOf bodies) = r ∙ ap ranksOf (calls-are t g bodies (p .holds) (p .sound) n b ms calls (subst (λ (i : ℕ). AllMarks t i ms) q a) c) in
-      e ∙ ap (λ (i : ℕ). orderFrom ranks (length ranks) 0 ++ drop i old) z ∙ ap (λ (l : List ℕ). orderFrom l (length l) 0 ++ drop (length (orderFrom l (length l) 0)) old) f;
-}
-
-pub of-count : {t old new : List ℕ} {m n : ℕ} → m ≡ n → OrderedIn t m old new → OrderedIn t n old new
-of-count {t} {old} {new} e o = subst (λ (k : ℕ). OrderedIn t k old new) e o
+use Rattle.match_cells.specs.laws.Full.{order-full, calls-small, markings}
 
 pub zeros : (n j : ℕ) → _≡_ {A = ℕ} (getD (replicate {A = ℕ} n 0) j 0) 0
 zeros zero j = refl
@@ -101,7 +73,8 @@ fills t s old new order₀ front n q o e = record {
       λ g bodies p clear.
       let b : n ≡ length bodies = q ∙ bodies-are t g bodies (p .holds) in
       let f : wordsFrom front 0 n ≡ order bodies =
-      ap₂ (λ (l : List ℕ) (k : ℕ). wordsFrom l 0 k) (o .are g bodies p b) (b ∙ sym (full t g bodies p clear)) ∙ words-front (order bodies) (drop (length (order bodies)) order₀) in
+      ap₂ (λ (l : List ℕ) (k : ℕ). wordsFrom l 0 k) (o .are g bodies (p .holds) (p .sound) b) (b ∙ sym (full t g bodies p clear))
+      ∙ words-front (order bodies) (drop (length (order bodies)) order₀) in
       filled-same bodies s (marked (marksOf bodies)) (markings (terminalIn g) (length (g .terminals)) bodies (sound-in t g bodies p)) (order bodies) old new (in-order t g bodies p clear)
       (subst (λ (k : ℕ). FilledBy bodies s k (order bodies) old new) b
       (subst (λ (l : List ℕ). FilledBy bodies s n l old new) f (subst (λ (bs : List (Exp ℕ)). FilledBy bs s n (wordsFrom front 0 n) old new) (bodies-of t g bodies p) e)));

@@ -1,9 +1,9 @@
--- The order of a table's symbols and its filled cells, as code says them. Assumes nothing: these are definitions.
-use Prim.Native.Nat.{ℕ, zero, suc, _+_, _*_, _<_}
+-- The filled cells of a table, as code says them. Assumes nothing: these are definitions.
+use Prim.Native.Nat.{ℕ, zero, suc, _+_, _*_}
 use mathlib.Core.Path.{_≡_}
-use mathlib.Core.List.{List, _++_}
+use mathlib.Core.List.{List}
 use mathlib.Core.Option.{none}
-use lib.ListN.{length, getD, drop}
+use lib.ListN.{length}
 use Rattle.grammar.specs.Exp.{Exp}
 use Rattle.grammar.specs.Numbers.{Grammar}
 use Rattle.grammar_table.specs.Holds.{Holds}
@@ -19,11 +19,6 @@ use Rattle.match_eval.specs.steps.Memory.{Roomy}
 pub record Plain (t : List ℕ) (g : Grammar) (bodies : List (Exp ℕ)) : Type 0 where
   pub holds : Holds t (withBodies g bodies)
   pub sound : SoundAll (terminalIn g) (length (g .names)) (length (g .terminals)) bodies
-
--- the order of the n symbols of a table, in front of what was there; over nothing but 0, each entry is a symbol
-pub record OrderedIn (t : List ℕ) (n : ℕ) (old new : List ℕ) : Type 0 where
-  pub entries : ((j : ℕ) → getD old j 0 ≡ 0) → (j : ℕ) → j < n → getD new j 0 < n
-  pub are : (g : Grammar) (bodies : List (Exp ℕ)) → Plain t g bodies → n ≡ length bodies → new ≡ order bodies ++ drop (length (order bodies)) old
 
 -- the cells after the places below the first number have been stored, the last first, each after its cells were set to what the words say by its byte
 unfoldable pub fillBy : List ℕ → List (Exp ℕ) → List ℕ → ℕ → ℕ → List ℕ → List ℕ → List ℕ

@@ -9,7 +9,7 @@ use Rattle.match_cells.proofs.filling.fill.Tie as tie
 use Rattle.match_cells.proofs.filling.fill.Reads as reads
 use Rattle.match_cells.proofs.filling.fill.Lts as lts
 use Rattle.grammar_table.proofs.records.symbols.Reads as symbols-reads
-use Rattle.match_cells.proofs.filling.order_front.Reads as order-front-reads
+use Rattle.lake_calls.proofs.ordering.order_front.Reads as order-front-reads
 use Rattle.match_cells.proofs.filling.rows_in.Reads as rows-in-reads
 
 symbols-requires : tie.Need-symbols-requires

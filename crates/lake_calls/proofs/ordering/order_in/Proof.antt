@@ -1,17 +1,17 @@
--- `match_cells::filling::order_in` meets its contract. Assumes nothing.
+-- `lake_calls::ordering::order_in` meets its contract. Assumes nothing.
 use mathlib.Core.Path.{_≡_, sym, _∙_}
 use native.Mathlib.Omega.{arith}
 use lib.ListN.{length}
-use Rattle.match_cells.specs.laws.Runs.{order-made}
+use Rattle.lake_calls.specs.laws.Ordering.{order-made}
 use borrow.Author.Needs.{needs}
-use Rattle.match_cells.proofs.filling.order_in.Statement.{statement}
-use Rattle.match_cells.proofs.filling.order_in.Tie as tie
-use Rattle.match_cells.proofs.filling.order_in.Reads as reads
-use Rattle.match_cells.proofs.filling.order_in.Lts as lts
+use Rattle.lake_calls.proofs.ordering.order_in.Statement.{statement}
+use Rattle.lake_calls.proofs.ordering.order_in.Tie as tie
+use Rattle.lake_calls.proofs.ordering.order_in.Reads as reads
+use Rattle.lake_calls.proofs.ordering.order_in.Lts as lts
 use Rattle.lake_calls.proofs.calls_of.Reads as calls-of-reads
 use Rattle.lake_calls.proofs.order.Reads as order-reads
 use Rattle.lake_calls.proofs.ranks.Reads as ranks-reads
 use Rattle.lake_calls.proofs.loops.mark_all.Reads as mark-all-reads
 
 mark-all-requires : tie.Need-mark-all-requires
 mark-all-requires c κs = search needs

@@ -1,17 +1,17 @@
--- `match_cells::filling::order_front` meets its contract. Assumes nothing.
-use Rattle.match_cells.specs.laws.Runs.{of-count}
+-- `lake_calls::ordering::order_front` meets its contract. Assumes nothing.
+use Rattle.lake_calls.specs.laws.Ordering.{of-count}
 use Prim.Native.Nat.{ℕ}
 use mathlib.Core.Path.{_≡_, sym, _∙_, subst}
 use native.Mathlib.Omega.{arith}
 use lib.ListN.{length, take}
 use lib.Seq.{length-take-le}
-use Rattle.match_cells.specs.steps.Runs.{OrderedIn}
+use Rattle.lake_calls.specs.steps.Ordering.{OrderedIn}
 use borrow.Author.Needs.{needs}
-use Rattle.match_cells.proofs.filling.order_front.Statement.{statement}
-use Rattle.match_cells.proofs.filling.order_front.Tie as tie
-use Rattle.match_cells.proofs.filling.order_front.Reads as reads
-use Rattle.match_cells.proofs.filling.order_front.Lts as lts
-use Rattle.match_cells.proofs.filling.order_in.Reads as order-in-reads
+use Rattle.lake_calls.proofs.ordering.order_front.Statement.{statement}
+use Rattle.lake_calls.proofs.ordering.order_front.Tie as tie
+use Rattle.lake_calls.proofs.ordering.order_front.Reads as reads
+use Rattle.lake_calls.proofs.ordering.order_front.Lts as lts
+use Rattle.lake_calls.proofs.ordering.order_in.Reads as order-in-reads
 
 slice-relend-prefix-order-in : tie.Need-slice-relend-prefix-order-in
 slice-relend-prefix-order-in c = search needs
