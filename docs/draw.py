@@ -101,14 +101,14 @@ def stage(picture, name, x, y, height):
 
 
 def stages():
-    picture = Picture(960, 452, "The stages: a grammar's text is read, its lakes are made plain; then a text is matched, or the grammar is written")
+    picture = Picture(960, 466, "The stages: a grammar's text is read, its lakes are made plain; then a text is matched, or the grammar is written")
     picture.text(480, 34, "programs: spans, plain_text, replay", "mono small soft", "middle")
     picture.way((480, 42), (480, 58))
     picture.box(20, 60, 920, 36, "box")
     picture.text(480, 83, "gurkenmond: the public calls", "head", "middle")
     picture.box(110, 116, 440, 222, "frame")
     picture.text(330, 134, "prepare: what every call does first, refusals 1 to 8", "small soft", "middle")
-    for name, x, y, height in (("read", 130, 146, 180), ("lake", 360, 146, 180), ("match", 610, 102, 184), ("write", 610, 290, 116)):
+    for name, x, y, height in (("read", 130, 146, 180), ("lake", 360, 146, 180), ("match", 610, 102, 184), ("write", 610, 290, 126)):
         stage(picture, name, x, y, height)
     picture.text(62, 220, "grammar", "small", "middle")
     picture.text(62, 236, "as text", "small", "middle")
@@ -129,8 +129,8 @@ def stages():
     picture.way((780, 335), (826, 335))
     picture.text(880, 332, "plain PEG,", "small", "middle")
     picture.text(880, 348, "or its own text", "small", "middle")
-    picture.box(20, 410, 920, 30, "box")
-    picture.text(480, 430, "under all: " + ", ".join(BELOW), "mono small", "middle")
+    picture.box(20, 424, 920, 30, "box")
+    picture.text(480, 444, "under all: " + ", ".join(BELOW), "mono small", "middle")
     return picture.svg()
 
 
