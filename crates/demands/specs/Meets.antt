@@ -31,7 +31,7 @@ pub record Tabled (m : Mode) (t s cs c : List ℕ) : Type 0 where
   pub later : (i : ℕ) → (length s + 1) * symbolsIn m t ≤ i → getD c i 0 ≡ getD cs i 0
 
 -- the words are those nodes: "node words .. behind the last one written, stay as they were"
-pub record Listed (ws : List ℕ) (ns : List Node) (w : List ℕ) : Type 0 where
+pub record NodesIn (ws : List ℕ) (ns : List Node) (w : List ℕ) : Type 0 where
   pub long : length w ≡ length ws
   pub nodes : nodesAt w 0 (length ns) ≡ ns
   pub behind : (i : ℕ) → nodeWords * length ns ≤ i → getD w i 0 ≡ getD ws i 0
@@ -45,7 +45,7 @@ pub data Meets (m : Mode) (t s cs ws : List ℕ) : Matching → Type 0 where
       → Meets m t s cs ws (matching 0 NoMatch c ws)
   -- the start symbol takes k bytes, and its nodes fit
   takes : {k : ℕ} {c w : List ℕ} {ns : List Node} → NoRow (inputChecks m t s cs) → Tabled m t s cs c → Derives (meant m t) s 0 (sym 0) 0 (suc k) ns
-      → Fits (roomOf ws) ns → Listed ws ns w
+      → Fits (roomOf ws) ns → NodesIn ws ns w
       → Meets m t s cs ws (matching (length ns) (Matched k) c w)
   -- "after one of a match that is checked later the cells hold the table"
   too-deep : {k j : ℕ} {c : List ℕ} {ns : List Node} → NoRow (inputChecks m t s cs) → Tabled m t s cs c → Derives (meant m t) s 0 (sym 0) 0 (suc k) ns

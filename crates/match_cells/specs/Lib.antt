@@ -1,4 +1,3 @@
 pub mod laws
 pub mod steps
 pub mod Cells
-pub mod First

@@ -1,6 +1,7 @@
 -- Laws of the definitions beside this file.
 pub mod Rows
 pub mod Sound
+pub mod First
 pub mod Agrees
 pub mod Filled
 pub mod Keys

@@ -100,9 +100,9 @@ pub data UpTo (close : ℕ) {A : Type 0} (One : A → List ℕ → List ℕ → 
   more : {x : A} {xs : List A} {l k r : List ℕ} → ¬ First (λ (b : ℕ). b ≡ close) l → One x l k → UpTo close One xs k r → UpTo close One (x ∷ xs) l r
 
 -- ── tokens ──
-abbrev pub Listed : List Range → ℕ → Type 0
-Listed [] b = ⊥
-Listed (x ∷ xs) b = Between (x .lo) (x .hi) b ⊎ Listed xs b
+abbrev pub InItems : List Range → ℕ → Type 0
+InItems [] b = ⊥
+InItems (x ∷ xs) b = Between (x .lo) (x .hi) b ⊎ InItems xs b
 
 -- "256 yes-or-no marks", and "a class without bytes" is a bad token
 pub record Marks (In : ℕ → Type 0) (k : List Bool) : Type 0 where
@@ -136,10 +136,10 @@ pub data Reads : Mode → Tok → List ℕ → List ℕ → Type 0 where
   -- "a lake is `<name>` without blanks inside"; plain mode: "no lakes"
   a-lake : {b : ℕ} {w l r : List ℕ} → Letter b → Run NameByte w l (62 ∷ r) → Reads Lake (symbol (lake (b ∷ w))) (60 ∷ b ∷ l) r
   a-literal : {m : Mode} {q b : ℕ} {bs l r : List ℕ} → OneOf quotes q → UpTo q Spells (b ∷ bs) l r → Reads m (leaf (literal (b ∷ bs))) (q ∷ l) r
-  a-class : {m : Mode} {x : Range} {xs : List Range} {k : List Bool} {l r : List ℕ} → ¬ Caret m l → UpTo 93 Item (x ∷ xs) l r → Marks (Listed (x ∷ xs)) k
+  a-class : {m : Mode} {x : Range} {xs : List Range} {k : List Bool} {l r : List ℕ} → ¬ Caret m l → UpTo 93 Item (x ∷ xs) l r → Marks (InItems (x ∷ xs)) k
       → Reads m (leaf (class k)) (91 ∷ l) r
   -- "the complement"
-  a-complement : {x : Range} {xs : List Range} {k : List Bool} {l r : List ℕ} → UpTo 93 Item (x ∷ xs) l r → Marks (λ (b : ℕ). ¬ Listed (x ∷ xs) b) k
+  a-complement : {x : Range} {xs : List Range} {k : List Bool} {l r : List ℕ} → UpTo 93 Item (x ∷ xs) l r → Marks (λ (b : ℕ). ¬ InItems (x ∷ xs) b) k
       → Reads Lake (leaf (class k)) (91 ∷ 94 ∷ l) r
 
 abbrev pub tokenIs : Option Tok → ℕ → ℕ → Token

@@ -22,7 +22,7 @@ use Rattle.lake_step_one.specs.Proper.{SoundAll}
 use Rattle.lake_calls.specs.Calls.{order, loop}
 use Rattle.match_meaning.specs.Meaning.{Node, Derives}
 use Rattle.match_meaning.specs.laws.One.{one}
-use Rattle.match_cells.specs.First.{Markings, Ordered}
+use Rattle.match_cells.specs.laws.First.{Markings, Ordered}
 use Rattle.match_cells.specs.laws.Agrees.{Right}
 use Rattle.match_cells.specs.laws.Filled.{filled-right, filled-behind, filled-length}
 use Rattle.match_cells.specs.laws.Order.{ordered}

@@ -28,7 +28,7 @@ use Rattle.gurkenmond.specs.Calls.{Matching, matching, cellsNeeded, refusesInpu
 use Rattle.demands.specs.Meant.{meant}
 use Rattle.demands.specs.Offends.{Fits}
 use Rattle.demands.specs.Checks.{NoRow, inputChecks}
-use Rattle.demands.specs.Meets.{symbolsIn, Tabled, Listed, Meets, refused, fails, takes, too-deep, no-room}
+use Rattle.demands.specs.Meets.{symbolsIn, Tabled, NodesIn, Meets, refused, fails, takes, too-deep, no-room}
 use Rattle.demands.specs.laws.Meant.{bodies-many, from-plain}
 use Rattle.demands.specs.laws.Offends.{OneOf, one-of}
 use Rattle.demands.specs.laws.Cells.{filled-as-meant, filled-later}
@@ -89,7 +89,7 @@ word-same v w k e i (suc (suc zero)) l h = subst (λ (x : ℕ). getD v x 0 ≡ g
 word-same v w k e i (suc (suc (suc zero))) l h = subst (λ (x : ℕ). getD v x 0 ≡ getD w x 0) h (ap (λ (n : Node). n .depth) e)
 word-same v w k e i (suc (suc (suc (suc j)))) l h = absurd (omega arith)
 
-listed-one : (ws : List ℕ) (ns : List Node) (v w : List ℕ) → Listed ws ns v → Listed ws ns w → v ≡ w
+listed-one : (ws : List ℕ) (ns : List Node) (v w : List ℕ) → NodesIn ws ns v → NodesIn ws ns w → v ≡ w
 unfolding nodeWords
 listed-one ws ns v w a b = ext-getD 0 v w (a .long ∙ flip (b .long)) (λ i l. at i (ltb i (4 * length ns)) refl)
   where
@@ -130,11 +130,11 @@ module _ (m : Mode) (t s cs ws : List ℕ) where
           (subst (λ (k : ℕ). k * (length s + 1) ≤ i) (flip (bodies-many m t)) (omega (arith, l, mul-comm R (length s + 1))));
     }
 
-    words : {k : ℕ} {ns : List Node} (d : Derives (meant m t) s 0 (sym 0) 0 (suc k) ns) → Fits (roomOf ws) ns → Listed ws ns (matchOf m t s cs ws .nodes)
+    words : {k : ℕ} {ns : List Node} (d : Derives (meant m t) s 0 (sym 0) 0 (suc k) ns) → Fits (roomOf ws) ns → NodesIn ws ns (matchOf m t s cs ws .nodes)
     words d f = record { long = nodes-many m t s cs ws ok short room d f; nodes = nodes-back m t s cs ws ok short room d f; behind = nodes-behind m t s cs ws ok short room d f }
 
-    words-at : {k : ℕ} {ns : List Node} (d : Derives (meant m t) s 0 (sym 0) 0 (suc k) ns) → Fits (roomOf ws) ns → Listed ws ns (wordsOf (roomOf ws) ws ns)
-    words-at {ns = ns} d f = subst (Listed ws ns) (ap (λ (x : Matching). x .nodes) (matched m t s cs ws ok short room d f)) (words d f)
+    words-at : {k : ℕ} {ns : List Node} (d : Derives (meant m t) s 0 (sym 0) 0 (suc k) ns) → Fits (roomOf ws) ns → NodesIn ws ns (wordsOf (roomOf ws) ws ns)
+    words-at {ns = ns} d f = subst (NodesIn ws ns) (ap (λ (x : Matching). x .nodes) (matched m t s cs ws ok short room d f)) (words d f)
 
     by-list : {k : ℕ} {ns : List Node} → Derives (meant m t) s 0 (sym 0) 0 (suc k) ns → OneOf (roomOf ws) ns → Meets m t s cs ws (matchOf m t s cs ws)
     by-list d (inl f) = subst (Meets m t s cs ws) (flip (matched m t s cs ws ok short room d f)) (takes z table d f (words-at d f))

@@ -14,7 +14,7 @@ use lib.Seq.{getD-set-same, getD-set-other}
 use Rattle.grammar.specs.Exp.{Exp, sym}
 use Rattle.match_eval.specs.Eval.{bodyOf}
 use Rattle.match_cells.specs.Cells.{bodyAt, rowOf, fillOf, cells}
-use Rattle.match_cells.specs.First.{Markings, In, Ordered}
+use Rattle.match_cells.specs.laws.First.{Markings, In, Ordered}
 use Rattle.match_cells.specs.laws.Sound.{Means, sym-is}
 use Rattle.match_cells.specs.laws.Agrees.{Known, After, FirstAt, ev-right, Right}
 

@@ -26,7 +26,7 @@ use Rattle.lake_calls.specs.Calls.{firstCalls, callsOf, reach, loop, ranksOf, o
 use Rattle.lake_calls.specs.laws.Reaches.{pow-below}
 use Rattle.lake_calls.specs.laws.Exact.{calls-long}
 use Rattle.match_eval.specs.Eval.{nowhere, bodyOf}
-use Rattle.match_cells.specs.First.{Terse, Markings}
+use Rattle.match_cells.specs.laws.First.{Terse, Markings}
 use Rattle.match_cells.specs.laws.Order.{rank-small}
 
 -- ── how many of a list are below a number ──

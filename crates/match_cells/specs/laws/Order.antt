@@ -26,7 +26,7 @@ use Rattle.lake_calls.specs.Loops.{Calls}
 use Rattle.lake_calls.specs.laws.Reaches.{pow-below, Found, found}
 use Rattle.lake_calls.specs.laws.Exact.{up-r, called, called-at}
 use Rattle.match_eval.specs.Eval.{nowhere, bodyOf}
-use Rattle.match_cells.specs.First.{In, Ordered}
+use Rattle.match_cells.specs.laws.First.{In, Ordered}
 
 module _ (calls : List ℕ) (small : (r : ℕ) → getD calls r 0 < 2 ^ length calls) (clear : loopFrom calls (length calls) 0 ≡ none) where
   abbrev rank : ℕ → ℕ

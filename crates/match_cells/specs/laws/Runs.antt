@@ -18,7 +18,7 @@ use Rattle.lake_calls.specs.Calls.{loop, order}
 use Rattle.grammar_table.specs.Trees.{treeOf, bodiesOf}
 use Rattle.lake_calls.specs.laws.Trees.{bodies-are, trees-are}
 use Rattle.match_cells.specs.Cells.{cells}
-use Rattle.match_cells.specs.First.{Ordered}
+use Rattle.match_cells.specs.laws.First.{Ordered}
 use Rattle.match_cells.specs.laws.Agrees.{Right}
 use Rattle.match_cells.specs.laws.Filled.{filled-right}
 use Rattle.match_cells.specs.laws.Preset.{filled-same}

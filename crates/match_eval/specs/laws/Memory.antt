@@ -14,7 +14,7 @@ use Rattle.match_eval.specs.Eval.{ev, rep}
 use Rattle.match_eval.specs.laws.Within.{ev-within, rep-within}
 use Rattle.grammar_table.specs.Trees.{treeOf}
 use Rattle.match_eval.specs.steps.Firsts.{byteAt, bodiesAt, wordOf, Heard, Sure}
-use Rattle.match_eval.specs.steps.Memory.{countAt, keysAt, seenAt, roundsAt, entriesAt, roundsOf, Key, Alike, Words, Fresh, Ready, Says, Told, Worded, Knows, Front, Same, Noted}
+use Rattle.match_eval.specs.steps.Memory.{countAt, keysAt, seenAt, roundsAt, entriesAt, roundsOf, Key, Alike, Words, Fresh, Ready, About, Told, Worded, Knows, Front, Same, Noted}
 use Rattle.match_eval.specs.laws.EvalSteps.{rep-more}
 use Rattle.match_eval.specs.laws.Frame.{rounds-same, rep-enough}
 
@@ -117,11 +117,11 @@ module _ (t s cs old new : List ℕ) (n x k p c : ℕ) (small : p < 65536) (has 
   key-back : (y j : ℕ) → Key new y j → Key old y j
   key-back y j (l, z, a) = (l, z, sym (o .front (keysAt + y) (omega arith)) ∙ a)
 
-  first : (i y j q : ℕ) → q < 65536 → Key new y j → Says new i j q → Same i old new ⊎ (Says new i k p × (getD new (entriesAt + 2 * i + 1) 0 ≡ c)) → p ≤ q
+  first : (i y j q : ℕ) → q < 65536 → Key new y j → About new i j q → Same i old new ⊎ (About new i k p × (getD new (entriesAt + 2 * i + 1) 0 ≡ c)) → p ≤ q
   first i y j q l h a (inl b) = w .from i y j q l (key-back y j h) (sym (b .0) ∙ a)
   first i y j q l h a (inr b) = omega (arith, a, b .0, small, l)
 
-  second : (i y j q : ℕ) → q < 65536 → Key new y j → Says new i j q → Same i old new ⊎ (Says new i k p × (getD new (entriesAt + 2 * i + 1) 0 ≡ c))
+  second : (i y j q : ℕ) → q < 65536 → Key new y j → About new i j q → Same i old new ⊎ (About new i k p × (getD new (entriesAt + 2 * i + 1) 0 ≡ c))
       → getD new (entriesAt + 2 * i + 1) 0 ≡ roundsOf t s cs n y q
   second i y j q l h a (inl b) = b .1 ∙ w .right i y j q l (key-back y j h) (sym (b .0) ∙ a)
   second i y j q l h a (inr b) =
@@ -168,7 +168,7 @@ module _ (old : List ℕ) (i k p c : ℕ) (room : entriesAt + 2 * i + 1 < length
   other : (j : ℕ) → (j ≡ entriesAt + 2 * i → ⊥) → (j ≡ entriesAt + 2 * i + 1 → ⊥) → getD two j 0 ≡ getD old j 0
   other j f g = getD-set-other one (entriesAt + 2 * i + 1) j c 0 g ∙ getD-set-other old (entriesAt + 2 * i) j (k * 65536 + p) 0 f
 
-  here : Says two i k p × (getD two (entriesAt + 2 * i + 1) 0 ≡ c)
+  here : About two i k p × (getD two (entriesAt + 2 * i + 1) 0 ≡ c)
   here = (
     getD-set-other one (entriesAt + 2 * i + 1) (entriesAt + 2 * i) c 0 (λ e. omega (arith, e)) ∙ getD-set-same old (entriesAt + 2 * i) (k * 65536 + p) 0 (omega (arith, room)),
     getD-set-same one (entriesAt + 2 * i + 1) c 0 (omega (arith, room, length-set old (entriesAt + 2 * i) (k * 65536 + p))),
@@ -177,8 +177,8 @@ module _ (old : List ℕ) (i k p c : ℕ) (room : entriesAt + 2 * i + 1 < length
   pub noted : Noted k p c old (set (set old (entriesAt + 2 * i) (k * 65536 + p)) (entriesAt + 2 * i + 1) c)
   noted = record { front = λ j l. other j (λ e. omega (arith, e, l)) (λ e. omega (arith, e, l)); at = λ j. go j (ℕ-discrete j i) }
     where
-      go : (j : ℕ) → Dec (j ≡ i) → Same j old two ⊎ (Says two j k p × (getD two (entriesAt + 2 * j + 1) 0 ≡ c))
-      go j (yes e) = subst (λ (z : ℕ). Same z old two ⊎ (Says two z k p × (getD two (entriesAt + 2 * z + 1) 0 ≡ c))) (sym e) (inr here)
+      go : (j : ℕ) → Dec (j ≡ i) → Same j old two ⊎ (About two j k p × (getD two (entriesAt + 2 * j + 1) 0 ≡ c))
+      go j (yes e) = subst (λ (z : ℕ). Same z old two ⊎ (About two z k p × (getD two (entriesAt + 2 * z + 1) 0 ≡ c))) (sym e) (inr here)
       go j (no f) = inl (
         other (entriesAt + 2 * j) (λ e. f (omega (arith, e))) (λ e. omega (arith, e)),
         other (entriesAt + 2 * j + 1) (λ e. omega (arith, e)) (λ e. f (omega (arith, e))),

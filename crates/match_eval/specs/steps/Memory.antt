@@ -81,20 +81,20 @@ pub record Ready (t : List ℕ) (n : ℕ) (mem : List ℕ) : Type 0 where
   pub blank : (j : ℕ) → entriesAt ≤ j → getD mem j 0 ≡ 0
 
 -- entry i is about rounds from q on of parts with key k
-abbrev pub Says : List ℕ → ℕ → ℕ → ℕ → Type 0
-Says mem i k q = getD mem (entriesAt + 2 * i) 0 ≡ k * 65536 + q
+abbrev pub About : List ℕ → ℕ → ℕ → ℕ → Type 0
+About mem i k q = getD mem (entriesAt + 2 * i) 0 ≡ k * 65536 + q
 
 -- some entry says that rounds of part x from q on take c bytes
 abbrev pub Told : List ℕ → ℕ → ℕ → ℕ → Type 0
-Told mem x q c = (k : ℕ) × (i : ℕ) × Key mem x k × Says mem i k q × (getD mem (entriesAt + 2 * i + 1) 0 ≡ c)
+Told mem x q c = (k : ℕ) × (i : ℕ) × Key mem x k × About mem i k q × (getD mem (entriesAt + 2 * i + 1) 0 ≡ c)
 
 -- the keys and the words are right; every entry is about a place from k on, and is what the rounds of each part with its key take by the cells; from h on the
 -- cells are what the words say
 pub record Knows (t s cs : List ℕ) (n : ℕ) (mem : List ℕ) (k h : ℕ) : Type 0 where
   pub shared : Alike t mem
   pub words : Words t n mem
-  pub from : (i x j q : ℕ) → q < 65536 → Key mem x j → Says mem i j q → k ≤ q
-  pub right : (i x j q : ℕ) → q < 65536 → Key mem x j → Says mem i j q → getD mem (entriesAt + 2 * i + 1) 0 ≡ roundsOf t s cs n x q
+  pub from : (i x j q : ℕ) → q < 65536 → Key mem x j → About mem i j q → k ≤ q
+  pub right : (i x j q : ℕ) → q < 65536 → Key mem x j → About mem i j q → getD mem (entriesAt + 2 * i + 1) 0 ≡ roundsOf t s cs n x q
   pub heard : (q : ℕ) → h ≤ q → q ≤ length s → Heard mem s cs n q
 
 -- there are cells for every place, or no word says anything: then cells can be set to what the words say
@@ -116,4 +116,4 @@ Same j old new = (getD new (entriesAt + 2 * j) 0 ≡ getD old (entriesAt + 2 * j
 -- what stands before the entries is as it was, and every entry too, or it says that rounds of parts with key k take c bytes from p on
 pub record Noted (k p c : ℕ) (old new : List ℕ) : Type 0 where
   pub front : Front old new
-  pub at : (j : ℕ) → Same j old new ⊎ (Says new j k p × (getD new (entriesAt + 2 * j + 1) 0 ≡ c))
+  pub at : (j : ℕ) → Same j old new ⊎ (About new j k p × (getD new (entriesAt + 2 * j + 1) 0 ≡ c))

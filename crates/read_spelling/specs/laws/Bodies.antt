@@ -14,7 +14,7 @@ use Rattle.read_tokens.specs.Kinds.{kindAt, oneOf, ranges}
 use Rattle.read_tokens.specs.Chars as chars
 use Rattle.read_tokens.specs.Chars.{Range, Body, shut, broken, also, byWidth, bodyBy, body}
 use Rattle.read_tokens.specs.Tokens.{blankBy, skip, nameByte, nameSpan, within, among, someTrue, turned, marksOf}
-use Rattle.read_spelling.specs.Spelling.{OneOf, First, blankBytes, lineEnds, NameByte, Run, stop, go, Blanks, none-more, blank, comment, Skips, Spells, itself, escaped, three, two, one, Item, alone, ranged, UpTo, closed, more, Listed, Marks}
+use Rattle.read_spelling.specs.Spelling.{OneOf, First, blankBytes, lineEnds, NameByte, Run, stop, go, Blanks, none-more, blank, comment, Skips, Spells, itself, escaped, three, two, one, Item, alone, ranged, UpTo, closed, more, InItems, Marks}
 use Rattle.read_tokens.specs.laws.Bytes.{Bytes, bytes-drop}
 use Rattle.read_tokens.specs.laws.Marks.{table-at, table-length}
 use Rattle.read_tokens.specs.laws.Passing.{passes}
@@ -146,12 +146,12 @@ run-span (stop {r = b ∷ r} n) h = rw (nameSpan, not-name b (h .0) n)
 run-span (go {b = b} p u) h = rw (nameSpan, true-name b p) (ap (λ (w : List ℕ). b ∷ w) (run-span u (h .1)))
 
 -- ── marks ──
-among-true : (b : ℕ) (rs : List Range) → among b rs ≡ true → Listed rs b
+among-true : (b : ℕ) (rs : List Range) → among b rs ≡ true → InItems rs b
 unfolding among
 among-true b [] e = never e
 among-true b (r ∷ rs) e = pick (within b r) refl e (among-true b rs)
   where
-    pick : (x : Bool) → within b r ≡ x → (x || among b rs) ≡ true → (among b rs ≡ true → Listed rs b) → Listed (r ∷ rs) b
+    pick : (x : Bool) → within b r ≡ x → (x || among b rs) ≡ true → (among b rs ≡ true → InItems rs b) → InItems (r ∷ rs) b
     pick true f g h = inl (in-true (r .lo) (r .hi) b f)
     pick false f g h = inr (h g)
 
@@ -159,7 +159,7 @@ or-right : (a b : Bool) → b ≡ true → (a || b) ≡ true
 or-right true b e = refl
 or-right false b e = e
 
-true-among : (b : ℕ) (rs : List Range) → Listed rs b → among b rs ≡ true
+true-among : (b : ℕ) (rs : List Range) → InItems rs b → among b rs ≡ true
 unfolding among
 true-among b [] h = absurd h
 true-among b (r ∷ rs) (inl h) = ap (λ (x : Bool). x || among b rs) (true-in (r .lo) (r .hi) b h)
@@ -167,13 +167,13 @@ true-among b (r ∷ rs) (inr h) = or-right (within b r) (among b rs) (true-among
 
 -- the listed bytes, or the others
 abbrev pub Inside : Bool → List Range → ℕ → Type 0
-Inside true rs b = ¬ Listed rs b
-Inside false rs b = Listed rs b
+Inside true rs b = ¬ InItems rs b
+Inside false rs b = InItems rs b
 
 turned-is : (c : Bool) (rs : List Range) (b : ℕ) → (turned c (among b rs) ≡ true) ↔ Inside c rs b
 turned-is true rs b = (λ e h. never (sym (ap not (true-among b rs h)) ∙ e), λ n. pick (among b rs) refl n)
   where
-    pick : (x : Bool) → among b rs ≡ x → ¬ Listed rs b → not x ≡ true
+    pick : (x : Bool) → among b rs ≡ x → ¬ InItems rs b → not x ≡ true
     pick true e n = absurd (n (among-true b rs e))
     pick false e n = refl
 turned-is false rs b = (among-true b rs, true-among b rs)
