@@ -9,6 +9,9 @@ import random
 import sys
 
 HERE = os.path.dirname(os.path.abspath(__file__))
+sys.path.append(os.path.join(os.path.dirname(HERE), "tests"))
+from pieces import cut  # noqa: E402
+
 SIZES = {"4K": 4096, "16K": 16384, "64K": 65535}
 SEED = 13
 WORDS = """account address amount answer average balance block book bottom buffer button byte card cell center chapter child color column content copy
@@ -272,17 +275,6 @@ def one_slot(count):
             names += [stem + end for e, end in ends.get((less - h) % HASH_SLOTS, ()) if (h + e >= HASH_MODULUS) == bool(less)]
         if len(names) >= count:
             return names[:count]
-
-
-def cut(pieces, size):
-    """As many of the pieces as fit."""
-    text, length = [], 0
-    for piece in pieces:
-        length += len(piece)
-        if length > size:
-            break
-        text.append(piece)
-    return "".join(text)
 
 
 def halves(names, size):

@@ -9,25 +9,14 @@ import random
 import resource
 import sys
 
+from pieces import MOST, cut
 from programs import Programs
 
-MOST = 1048576
 LAKE_MOST = 16384
 RATIO = 5
 RUNS = 3
 FIRST = "abcdefghijklmnopqrstuvwxyzABCDEFGHIJKLMNOPQRSTUVWXYZ_"
 LATER = FIRST + "0123456789"
-
-
-def cut(parts, most=MOST):
-    """As many of the parts, from the first on, as have room."""
-    text, size = [], 0
-    for part in parts:
-        size += len(part)
-        if size > most:
-            break
-        text.append(part)
-    return "".join(text)
 
 
 def rules(count, last=""):

@@ -100,6 +100,7 @@ pub data UpTo (close : ℕ) {A : Type 0} (One : A → List ℕ → List ℕ → 
   more : {x : A} {xs : List A} {l k r : List ℕ} → ¬ First (λ (b : ℕ). b ≡ close) l → One x l k → UpTo close One xs k r → UpTo close One (x ∷ xs) l r
 
 -- ── tokens ──
+-- a byte that one of a class's items has (01, Notation: single characters and ranges)
 abbrev pub InItems : List Range → ℕ → Type 0
 InItems [] b = ⊥
 InItems (x ∷ xs) b = Between (x .lo) (x .hi) b ⊎ InItems xs b

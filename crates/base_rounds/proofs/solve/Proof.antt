@@ -32,13 +32,19 @@ step-requires : tie.Need-step-requires Inv-loop μ-loop
 step-requires c κs = search needs
 
 -- a turn that goes on is a round more, and there are few
-on : (c : tie.Then1 Inv-loop μ-loop) → Moved (c .before .before .before .before .before .before .before .before .before .before .before .before .args .src .now) (c .before .before .before .before .before .before .before .before .before .before .before .before .args .dst .now) (c .before .before .before .before .before .before .before .before .before .before .before .before .args .base .now) (c .before .before .before .before .before .before .loop .k + 1)
+on : (c : tie.Then1 Inv-loop μ-loop)
+    → Moved (c .before .before .before .before .before .before .before .before .before .before .before .before .args .src .now)
+    (c .before .before .before .before .before .before .before .before .before .before .before .before .args .dst .now)
+    (c .before .before .before .before .before .before .before .before .before .before .before .before .args .base .now)
+    (c .before .before .before .before .before .before .loop .k + 1)
 on c =
     let a = c .before .before .before .before .before .before in
     let s = c .before .before .before .before .before .before .before .before .before .before .before .before .args in
     moved-next (s .src .now) (s .dst .now) (s .base .now) (a .loop .k) (a .loop .cur) (a .loop .inv .0) (a .loop .inv .1) (c .before .before .before .step .ensures .moved (c .if1 .taken))
 
-most : (c : tie.Then1 Inv-loop μ-loop) → c .before .before .before .before .before .before .loop .k + 1 ≤ length (c .before .before .before .before .before .before .before .before .before .before .before .before .args .base .now) * 128
+most : (c : tie.Then1 Inv-loop μ-loop)
+    → c .before .before .before .before .before .before .loop .k + 1
+    ≤ length (c .before .before .before .before .before .before .before .before .before .before .before .before .args .base .now) * 128
 most c =
     let s = c .before .before .before .before .before .before .before .before .before .before .before .before in
     few 64 64 (s .args .src .now) (s .args .dst .now) (s .args .base .now) (s .pre .0) (s .pre .4) (c .before .before .before .before .before .before .loop .k + 1) (on c)

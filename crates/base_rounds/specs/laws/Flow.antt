@@ -117,6 +117,15 @@ module _ {A : Type 0} (L : Lattice A) (join : A → A → A) (bot d : A) (J : Jo
     start-below : (s : List A) → Fine s → Below L join bot d J n start s
     start-below s g i p = rw (getD-replicate n i bot d p) (J .bot-le (getD s i d) (g .each i p))
 
+    step-fine : (s : List A) → Fine s → Fine (step s)
+    step-fine s g = flow-fine es ins s base g gb
+
+    step-mono : (s z : List A) → Fine s → Fine z → Below L join bot d J n s z → Below L join bot d J n (step s) (step z)
+    step-mono s z gs gz h = flow-mono es ins s base z base gs gb gz gb h (λ i p. L .le-rfl (getD base i d))
+
+    pub round-fine : (k : ℕ) → Fine (iter step start k)
+    round-fine k = iter-good (cells L join bot d J n) step start start-fine step-fine step-mono k
+
     -- y has base, and hands on along each edge
     pub record Solution (y : List A) : Type 0 where
       pub fine : Fine y
@@ -127,9 +136,7 @@ module _ {A : Type 0} (L : Lattice A) (join : A → A → A) (bot d : A) (J : Jo
     pub least : (y : List A) → Solution y → (k : ℕ) → Below L join bot d J n (iter step start k) y
     least y sol zero = start-below y (sol .fine)
     least y sol (suc k) =
-        flow-below es ins (iter step start k) base y
-        (iter-good (cells L join bot d J n) step start start-fine (λ x g. flow-fine es ins x base g gb) (λ x z gx gz h. flow-mono es ins x base z base gx gb gz gb h (λ i p. L .le-rfl (getD base i d))) k)
-        gb (least y sol k) (sol .own) (sol .on)
+        flow-below es ins (iter step start k) base y (round-fine k) gb (least y sol k) (sol .own) (sol .on)
 
     -- a round that is equal to its next is a solution
     pub solves : (s : List A) → Fine s → step s ≡ s → Solution s
@@ -139,11 +146,7 @@ module _ {A : Type 0} (L : Lattice A) (join : A → A → A) (bot d : A) (J : Jo
       on = flow-gives es ins s base s g gb (subst (λ (z : List A). Below L join bot d J n z s) (sym e) (λ i p. L .le-rfl (getD s i d))) (λ i p. L .le-rfl (getD s i d));
     }
 
-    pub round-fine : (k : ℕ) → Fine (iter step start k)
-    round-fine k = iter-good (cells L join bot d J n) step start start-fine (λ x g. flow-fine es ins x base g gb) (λ x z gx gz h. flow-mono es ins x base z base gx gb gz gb h (λ i p. L .le-rfl (getD base i d))) k
-
     -- at most n times the size of a cell
     pub bound : (k : ℕ) → ((j : ℕ) → j < k → step (iter step start j) ≡ iter step start j → ⊥) → k ≤ n * L .top
     bound k h =
-        rounds-bound (cells L join bot d J n) step start start-fine (λ x g. flow-fine es ins x base g gb)
-        (λ x z gx gz h. flow-mono es ins x base z base gx gb gz gb h (λ i p. L .le-rfl (getD base i d))) start-below k h
+        rounds-bound (cells L join bot d J n) step start start-fine step-fine step-mono start-below k h

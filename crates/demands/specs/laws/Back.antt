@@ -119,10 +119,12 @@ module _ (m : Mode) (t : List ℕ) (b : Bytes t) (ok : refuses m t ≡ none) whe
   read-again = go (grammar .0) (grammar .1) (rulesOf m t) (grammar .2) few large
     where
       go : (g : Rules) → Sound m t g → (rs : List Rule) → trees g ≡ rs → tooMany m rs ≡ none → tooLarge (plainOf (numbered rs)) ≡ none
-          → (refusesText Plain (text (plainRules (numbered rs) (analysis (numbered rs)))) ≡ none) × (rulesOf Plain (text (plainRules (numbered rs) (analysis (numbered rs)))) ≡ plainRules (numbered rs) (analysis (numbered rs)))
+          → (refusesText Plain (text (plainRules (numbered rs) (analysis (numbered rs)))) ≡ none)
+          × (rulesOf Plain (text (plainRules (numbered rs) (analysis (numbered rs)))) ≡ plainRules (numbered rs) (analysis (numbered rs)))
       go g sound rs e =
           subst (λ (rs : List Rule). tooMany m rs ≡ none → tooLarge (plainOf (numbered rs)) ≡ none
-          → (refusesText Plain (text (plainRules (numbered rs) (analysis (numbered rs)))) ≡ none) × (rulesOf Plain (text (plainRules (numbered rs) (analysis (numbered rs)))) ≡ plainRules (numbered rs) (analysis (numbered rs)))) e
+          → (refusesText Plain (text (plainRules (numbered rs) (analysis (numbered rs)))) ≡ none)
+          × (rulesOf Plain (text (plainRules (numbered rs) (analysis (numbered rs)))) ≡ plainRules (numbered rs) (analysis (numbered rs)))) e
           (λ few large. accepted-again m t b g sound few large)
 
   same-bodies : plainOf (numbered ps) ≡ plainOf n
@@ -130,7 +132,8 @@ module _ (m : Mode) (t : List ℕ) (b : Bytes t) (ok : refuses m t ≡ none) whe
 
   same-plain : plainRules (numbered ps) (analysis (numbered ps)) ≡ ps
   same-plain =
-      subst (λ (rs : List Rule). let q : List Rule = plainRules (numbered rs) (analysis (numbered rs)) in plainRules (numbered q) (analysis (numbered q)) ≡ q) (grammar .2) (again-plain m t (grammar .0) b (grammar .1))
+      subst (λ (rs : List Rule). let q : List Rule = plainRules (numbered rs) (analysis (numbered rs)) in plainRules (numbered q) (analysis (numbered q)) ≡ q) (grammar .2)
+      (again-plain m t (grammar .0) b (grammar .1))
 
   pub bodies-back : prepared Plain (plainText m t) .bodies ≡ prepared m t .bodies
   unfolding prepared preparedBy
@@ -171,7 +174,8 @@ module _ (m : Mode) (t : List ℕ) (b : Bytes t) (ok : refuses m t ≡ none) whe
   own-read : length (text (rulesOf m t)) ≤ textBound m → (refusesText m (text (rulesOf m t)) ≡ none) × (rulesOf m (text (rulesOf m t)) ≡ rulesOf m t)
   own-read = go (grammar .0) (grammar .1) (rulesOf m t) (grammar .2) few large
     where
-      go : (g : Rules) → Sound m t g → (rs : List Rule) → trees g ≡ rs → tooMany m rs ≡ none → tooLarge (plainOf (numbered rs)) ≡ none → length (text rs) ≤ textBound m → (refusesText m (text rs) ≡ none) × (rulesOf m (text rs) ≡ rs)
+      go : (g : Rules) → Sound m t g → (rs : List Rule) → trees g ≡ rs → tooMany m rs ≡ none → tooLarge (plainOf (numbered rs)) ≡ none
+          → length (text rs) ≤ textBound m → (refusesText m (text rs) ≡ none) × (rulesOf m (text rs) ≡ rs)
       go g sound rs e =
           subst (λ (rs : List Rule). tooMany m rs ≡ none → tooLarge (plainOf (numbered rs)) ≡ none → length (text rs) ≤ textBound m → (refusesText m (text rs) ≡ none) × (rulesOf m (text rs) ≡ rs)) e
           (λ few large short. own-accepted-again m t b g sound few large short)

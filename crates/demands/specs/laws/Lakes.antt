@@ -141,7 +141,8 @@ module _ (bodies : List (Exp ℕ)) (g : Meant) (held : Holds bodies g) (s cs : L
     way-found = let f : Found = by-own (own-tried o d .0) (own-tried o d .2) in subst (Ways g s d o ss q) (flip (way-only (f .1))) (f .1)
 
 -- ── the lake question that 1 to 10 and 14 do not refuse ──
-module _ (m : Mode) (t s cs : List ℕ) (l q : ℕ) (ok : refuses m t ≡ none) (short : length s ≤ inputBound) (room : cellsNeeded (prepared m t) s ≤ length cs) (is-lake : isLakeAt (prepared m t) l ≡ true) (in-text : q ≤ length s) where
+module _ (m : Mode) (t s cs : List ℕ) (l q : ℕ) (ok : refuses m t ≡ none) (short : length s ≤ inputBound) (room : cellsNeeded (prepared m t) s ≤ length cs)
+    (is-lake : isLakeAt (prepared m t) l ≡ true) (in-text : q ≤ length s) where
   lake-clear : lakeOf m t s cs l q ≡ lakeAfter none (prepared m t) s cs l q
   unfolding lakeOf
   lake-clear =
@@ -168,7 +169,8 @@ module _ (m : Mode) (t s cs : List ℕ) (l q : ℕ) (ok : refuses m t ≡ none) 
 
   -- whatever way the rules have at whatever depth, it is the answer
   pub lake-only : {d : ℕ} {w : ℕ} → Ways (meant m t) s d right-side alternative-symbols q w → lakeOf m t s cs l q .way ≡ w
-  lake-only {d} w = way-is ∙ way-only (prepared m t .bodies) (meant m t) (bodies-meant m t) s (filled (prepared m t) s cs) (filled-as-meant m t ok s cs room) q in-text right-side alternative-symbols d w
+  lake-only {d} w =
+      way-is ∙ way-only (prepared m t .bodies) (meant m t) (bodies-meant m t) s (filled (prepared m t) s cs) (filled-as-meant m t ok s cs room) q in-text right-side alternative-symbols d w
 
   -- and the answer is a way that the rules have
   pub lake-meant : (d : ℕ) → Ways (meant m t) s d right-side alternative-symbols q (lakeOf m t s cs l q .way)

@@ -41,7 +41,14 @@ pub rights-many : (rs : List Rule) → length (numbered rs .names) ≡ length (n
 unfolding numbered symbolsOf
 rights-many rs =
     let k : length {A = Option (Exp ℕ)} (replicate (length (looseLakes rs)) none) ≡ length (looseLakes rs) = length-replicate (length (looseLakes rs)) none in
-    omega (arith, length-append (leftSides rs) (looseLakes rs), lefts-long rs, length-append (map (rightBy (leftSides rs ++ looseLakes rs)) rs) (replicate (length (looseLakes rs)) none), length-map rs (rightBy (leftSides rs ++ looseLakes rs)), k)
+    omega (
+      arith,
+      length-append (leftSides rs) (looseLakes rs),
+      lefts-long rs,
+      length-append (map (rightBy (leftSides rs ++ looseLakes rs)) rs) (replicate (length (looseLakes rs)) none),
+      length-map rs (rightBy (leftSides rs ++ looseLakes rs)),
+      k,
+    )
 
 module _ (g : Grammar) (a : Analysis) (many : length (g .names) ≡ length (g .rights)) (long : length (plainBodies g a) ≡ length (g .names)) where
   -- a symbol that there is

@@ -67,9 +67,11 @@ module _ (m : Mode) (t s cs : List ℕ) (l q : ℕ) where
   pub lake-meets : MeetsLake m t s cs l q (lakeOf m t s cs l q)
   lake-meets = go (refuses m t ▸ (refusesInput (prepared m t) s cs ▸ refuseIf (not (isLakeAt (prepared m t) l && leb q (length s))) 14 0)) refl
     where
-      go : (o : Option Refusal) → (refuses m t ▸ (refusesInput (prepared m t) s cs ▸ refuseIf (not (isLakeAt (prepared m t) l && leb q (length s))) 14 0)) ≡ o → MeetsLake m t s cs l q (lakeOf m t s cs l q)
+      go : (o : Option Refusal) → (refuses m t ▸ (refusesInput (prepared m t) s cs ▸ refuseIf (not (isLakeAt (prepared m t) l && leb q (length s))) 14 0)) ≡ o
+          → MeetsLake m t s cs l q (lakeOf m t s cs l q)
       go none e = let z = silent (lake-chain m t s cs l q) e in
-          subst (λ (v : Option Refusal). MeetsLake m t s cs l q (lakeAnswer (lakeOf m t s cs l q .way) v (lakeOf m t s cs l q .cells))) (sym (verdict-is z)) (lake-answered z (cells-tabled z) (way-is z))
+          subst (λ (v : Option Refusal). MeetsLake m t s cs l q (lakeAnswer (lakeOf m t s cs l q .way) v (lakeOf m t s cs l q .cells))) (sym (verdict-is z))
+          (lake-answered z (cells-tabled z) (way-is z))
       go (some r) e =
           let f = lake-chain m t s cs l q .says r e in
           subst (MeetsLake m t s cs l q) (sym (lake-refused-is m t s cs l q {k = r .number} {p = r .place} f)) (lake-refused f)
