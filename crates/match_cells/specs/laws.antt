@@ -8,5 +8,4 @@ pub mod Keys
 pub mod Order
 pub mod Full
 pub mod Runs
-pub mod Firsts
 pub mod Preset

@@ -6,76 +6,54 @@ ghost use Rattle.grammar_table.specs.Table.{wordsFrom, symbolCount};
 ghost use Rattle.grammar_table.specs.Trees.{bodiesOf};
 ghost use Rattle.match_cells.specs.Cells.{bodyAt, rowOf};
 ghost use Rattle.match_eval.specs.steps.Firsts.{byteAt, presetOf};
-ghost use Rattle.match_eval.specs.steps.Memory.{Knows, Calm};
+ghost use Rattle.match_eval.specs.steps.Memory.{Knows, Roomy};
 ghost use Rattle.match_cells.specs.steps.Runs.{fillBy, FilledBy, Fills};
 use base_words::put;
 use base_words::word;
-use match_eval::memory::BODIES_AT;
-use match_eval::memory::BYTE_WORDS;
 use match_eval::memory::Memory;
 use match_eval::memory::WORDS;
 
-// Sets the cells of n symbols from i on to what is decided where byte b stands. The others keep what they have: it is never asked for.
-fn preset(cells: &mut [u32], mem: &[u32], n: usize, b: usize, i: usize)
-    requires { ⌜ (n ≤ 64) × (b ≤ 256) × (i < 4294967296) ⌝ }
-    ensures { λ _. ⌜ now (cells .exit) ≡ presetOf (now (mem .entry)) b i n (now (cells .entry)) ⌝ }
+// Sets the cells of n symbols from i on to what is said of their bodies where byte b stands. The others keep what they have: it is never asked for.
+fn preset(t: &[u32], cells: &mut [u32], mem: &[u32], n: usize, b: usize, i: usize)
+    requires { ⌜ (n ≤ 64) × (i < 4294967296) ⌝ }
+    ensures { λ _. ⌜ now (cells .exit) ≡ presetOf (now (t .entry)) (now (mem .entry)) b i n (now (cells .entry)) ⌝ }
 {
     let mut r = n;
     while 0 < r {
         r -= 1;
-        let w = word(mem, BODIES_AT + BYTE_WORDS * b + r);
+        let x = grammar_table::records::body(t, r);
+        let w = match_eval::memory::said(mem, x, b);
         if w != 0 {
             put(cells, i + r, w - 1);
         }
     }
 }
 
-// Fills the cell of symbol r at p, where byte b stands; what is decided is there already.
-fn store(
-    t: &[u32],
-    s: &[u8],
-    cells: &mut [u32],
-    mem: &[u32],
-    n: usize,
-    r: usize,
-    p: usize,
-    b: usize,
-)
-    requires { ⌜ ((n ≡ symbolCount (now t)) × (n ≤ 64) × (r < n) × (length (now s) ≤ 65535) × (p ≤ length (now s)) × (b ≡ byteAt (now s) p) × (b ≤ 256))
+// Fills the cell of symbol r at p.
+fn store(t: &[u32], s: &[u8], cells: &mut [u32], mem: &[u32], n: usize, r: usize, p: usize)
+    requires { ⌜ ((n ≡ symbolCount (now t)) × (n ≤ 64) × (r < n) × (length (now s) ≤ 65535) × (p ≤ length (now s)))
         × Knows (now t) (now s) (now cells) n (now mem) (p + 1) p ⌝ }
     ensures { λ _. ⌜ (now (cells .exit)
         ≡ set (now (cells .entry)) (p * length (bodiesOf (now (t .entry))) + r)
         (bodyAt (bodiesOf (now (t .entry))) (now (s .entry)) (now (cells .entry)) r p))
         × Knows (now (t .entry)) (now (s .entry)) (now (cells .exit)) n (now (mem .entry)) (p + 1) p ⌝ }
 {
-    let w = word(mem, BODIES_AT + BYTE_WORDS * b + r);
-    if w == 0 {
-        let x = grammar_table::records::body(t, r);
-        let v = match_eval::eval_with(t, s, cells, mem, n, x, p);
-        put(cells, p * n + r, v);
-    }
+    let x = grammar_table::records::body(t, r);
+    let v = match_eval::round(t, s, cells, mem, n, x, p);
+    put(cells, p * n + r, v);
 }
 
 // Fills the cells of all symbols at p, in an order that puts first-called symbols first.
-fn row(
-    t: &[u32],
-    s: &[u8],
-    cells: &mut [u32],
-    mem: &[u32],
-    order: &[u32],
-    n: usize,
-    p: usize,
-    b: usize,
-)
+fn row(t: &[u32], s: &[u8], cells: &mut [u32], mem: &[u32], order: &[u32], n: usize, p: usize)
     requires { ⌜ ((n ≡ symbolCount (now t)) × (n ≤ 64) × ((j : ℕ) → j < n → getD (now order) j 0 < n) × (length (now s) ≤ 65535)
-        × (p ≤ length (now s)) × (b ≡ byteAt (now s) p) × (b ≤ 256)) × Knows (now t) (now s) (now cells) n (now mem) (p + 1) p ⌝ }
+        × (p ≤ length (now s))) × Knows (now t) (now s) (now cells) n (now mem) (p + 1) p ⌝ }
     ensures { λ _. ⌜ (now (cells .exit) ≡ rowOf (bodiesOf (now (t .entry))) (now (s .entry)) p (wordsFrom (now (order .entry)) 0 n) (now (cells .entry)))
         × Knows (now (t .entry)) (now (s .entry)) (now (cells .exit)) n (now (mem .entry)) (p + 1) p ⌝ }
 {
     let mut j: usize = 0;
     while j < n {
         let r = word(order, j);
-        store(t, s, cells, mem, n, r, p, b);
+        store(t, s, cells, mem, n, r, p);
         j += 1;
     }
 }
@@ -84,23 +62,24 @@ fn row(
 fn place(t: &[u32], s: &[u8], cells: &mut [u32], mem: &[u32], order: &[u32], n: usize, p: usize)
     requires { ⌜ ((n ≡ symbolCount (now t)) × (n ≤ 64) × ((j : ℕ) → j < n → getD (now order) j 0 < n) × (length (now s) ≤ 65535)
         × (p ≤ length (now s)))
-        × Knows (now t) (now s) (now cells) n (now mem) (p + 1) (p + 1) × Calm (now mem) (now s) n (length (now cells)) ⌝ }
+        × Knows (now t) (now s) (now cells) n (now mem) (p + 1) (p + 1) × Roomy (now mem) (now s) n (length (now cells)) ⌝ }
     ensures { λ _. ⌜ (now (cells .exit)
         ≡ rowOf (bodiesOf (now (t .entry))) (now (s .entry)) p (wordsFrom (now (order .entry)) 0 n)
-        (presetOf (now (mem .entry)) (byteAt (now (s .entry)) p) (p * n) n (now (cells .entry))))
-        × Knows (now (t .entry)) (now (s .entry)) (now (cells .exit)) n (now (mem .entry)) (p + 1) p × (byteAt (now (s .entry)) p ≤ 256) ⌝ }
+        (presetOf (now (t .entry)) (now (mem .entry)) (byteAt (now (s .entry)) p) (p * n) n (now (cells .entry))))
+        × Knows (now (t .entry)) (now (s .entry)) (now (cells .exit)) n (now (mem .entry)) (p + 1) p ⌝ }
 {
     let b = match_eval::byte_at(s, p);
-    preset(cells, mem, n, b, p * n);
-    row(t, s, cells, mem, order, n, p, b);
+    preset(t, cells, mem, n, b, p * n);
+    row(t, s, cells, mem, order, n, p);
 }
 
 // Fills the cells of the places below k, the last first (01: "for p from 0 to n"), and remembers the rounds of each key at each place.
 fn rows(t: &[u32], s: &[u8], cells: &mut [u32], mem: &mut [u32], order: &[u32], n: usize, k: usize)
     requires { ⌜ ((n ≡ symbolCount (now t)) × (n ≤ 64) × ((j : ℕ) → j < n → getD (now order) j 0 < n) × (length (now s) ≤ 65535)
-        × (k ≤ length (now s) + 1)) × Knows (now t) (now s) (now cells) n (now mem) k k × Calm (now mem) (now s) n (length (now cells)) ⌝ }
+        × (k ≤ length (now s) + 1)) × Knows (now t) (now s) (now cells) n (now mem) k k × Roomy (now mem) (now s) n (length (now cells)) ⌝ }
     ensures { λ _. ⌜ now (cells .exit)
-        ≡ fillBy (now (mem .entry)) (bodiesOf (now (t .entry))) (now (s .entry)) n k (wordsFrom (now (order .entry)) 0 n) (now (cells .entry)) ⌝ }
+        ≡ fillBy (now (t .entry)) (now (mem .entry)) (bodiesOf (now (t .entry))) (now (s .entry)) n k (wordsFrom (now (order .entry)) 0 n)
+        (now (cells .entry)) ⌝ }
 {
     let mut i = k;
     while 0 < i {
@@ -113,11 +92,12 @@ fn rows(t: &[u32], s: &[u8], cells: &mut [u32], mem: &mut [u32], order: &[u32], 
 // The same for every place, with a key for each repeated part, what bytes decide, and nothing remembered at first.
 fn rows_in(t: &[u32], s: &[u8], cells: &mut [u32], order: &[u32], n: usize)
     requires { ⌜ (n ≡ symbolCount (now t)) × (n ≤ 64) × ((j : ℕ) → j < n → getD (now order) j 0 < n) × (length (now s) ≤ 65535) ⌝ }
-    ensures { λ _. ⌜ FilledBy (bodiesOf (now (t .entry))) (now (s .entry)) n (wordsFrom (now (order .entry)) 0 n) (now (cells .entry)) (now (cells .exit)) ⌝ }
+    ensures { λ _. ⌜ FilledBy (now (t .entry)) (bodiesOf (now (t .entry))) (now (s .entry)) n (wordsFrom (now (order .entry)) 0 n) (now (cells .entry))
+        (now (cells .exit)) ⌝ }
 {
     let mut mem: Memory = [0; WORDS];
     crate::memory::enter_all(t, &mut mem);
-    crate::firsts::decide_all(t, s, &mut mem, order, n, cells.len());
+    match_firsts::decide_all(t, s, &mut mem, order, n, cells.len());
     rows(t, s, cells, &mut mem, order, n, s.len() + 1);
 }
 

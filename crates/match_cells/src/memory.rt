@@ -19,8 +19,8 @@ use match_eval::memory::PARTS_AT;
 use match_eval::memory::PLACES;
 use match_eval::memory::TEXT;
 use match_eval::memory::key;
+use match_eval::memory::said;
 use match_eval::memory::slot;
-use match_eval::memory::word_of;
 
 // The entry of key k at place p says from now on that rounds take c bytes from there.
 fn remember(mem: &mut [u32], k: usize, p: usize, c: usize)
@@ -36,10 +36,8 @@ fn remember(mem: &mut [u32], k: usize, p: usize, c: usize)
 }
 
 // Whether a byte decides that no round of part y begins where it stands.
-fn idles(mem: &[u32], y: usize, b: usize) -> bool
-    requires { ⌜ b ≤ 256 ⌝ }
-{
-    let w = word_of(mem, y, b);
+fn idles(mem: &[u32], y: usize, b: usize) -> bool {
+    let w = said(mem, y, b);
     0 < w && w < 3
 }
 

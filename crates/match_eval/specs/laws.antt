@@ -5,4 +5,5 @@ pub mod Leaves
 pub mod Within
 pub mod Frame
 pub mod Memory
+pub mod Said
 pub mod Words

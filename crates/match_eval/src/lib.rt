@@ -111,7 +111,7 @@ pub fn cell_at(s: &[u8], cells: &[u32], n: usize, r: usize, p: usize) -> usize
 }
 
 // What expression x - 1 takes at p, and `.` for 0: 0 for failure, else 1 + the bytes taken. Symbols are looked up, so that it goes down one body only;
-// rounds that are remembered are not asked again, and one that its first byte decides is not evaluated.
+// rounds that are remembered are not asked again, and a part that the byte at its place decides is not evaluated.
 pub fn eval_with(
     t: &[u32],
     s: &[u8],
@@ -135,29 +135,29 @@ pub fn eval_with(
         grammar_table::TERMINAL => leaf_at(t, s, l, p),
         grammar_table::SYMBOL => cell_at(s, cells, n, l, p),
         grammar_table::SEQUENCE => {
-            let a = eval_with(t, s, cells, mem, n, y, p);
+            let a = round(t, s, cells, mem, n, y, p);
             if a == 0 {
                 return 0;
             }
             let r = records::right(t, e);
             let z = grammar_table::part(r, e);
-            let b = eval_with(t, s, cells, mem, n, z, p + (a - 1));
+            let b = round(t, s, cells, mem, n, z, p + (a - 1));
             if b == 0 {
                 return 0;
             }
             a + b - 1
         }
         grammar_table::CHOICE => {
-            let a = eval_with(t, s, cells, mem, n, y, p);
+            let a = round(t, s, cells, mem, n, y, p);
             if a != 0 {
                 return a;
             }
             let r = records::right(t, e);
             let z = grammar_table::part(r, e);
-            eval_with(t, s, cells, mem, n, z, p)
+            round(t, s, cells, mem, n, z, p)
         }
         grammar_table::OPTION => {
-            let a = eval_with(t, s, cells, mem, n, y, p);
+            let a = round(t, s, cells, mem, n, y, p);
             if a == 0 {
                 return 1;
             }
@@ -165,21 +165,21 @@ pub fn eval_with(
         }
         grammar_table::STAR => many(t, s, cells, mem, n, y, p) + 1,
         grammar_table::PLUS => {
-            let a = eval_with(t, s, cells, mem, n, y, p);
+            let a = round(t, s, cells, mem, n, y, p);
             if a <= 1 {
                 return a;
             }
             a + many(t, s, cells, mem, n, y, p + (a - 1))
         }
         grammar_table::AHEAD => {
-            let a = eval_with(t, s, cells, mem, n, y, p);
+            let a = round(t, s, cells, mem, n, y, p);
             if a == 0 {
                 return 0;
             }
             1
         }
         _ => {
-            let a = eval_with(t, s, cells, mem, n, y, p);
+            let a = round(t, s, cells, mem, n, y, p);
             if a == 0 {
                 return 1;
             }
@@ -210,13 +210,13 @@ pub fn many(t: &[u32], s: &[u8], cells: &[u32], mem: &[u32], n: usize, x: usize,
     q - p
 }
 
-// What one round of expression x - 1 takes at p.
+// The same, not evaluated where the byte at p decides it.
 pub fn round(t: &[u32], s: &[u8], cells: &[u32], mem: &[u32], n: usize, x: usize, p: usize) -> usize
     requires { ⌜ ((n ≤ 64) × (x ≤ 4294967296) × (length (now s) ≤ 65535) × (p ≤ length (now s))) × Knows (now t) (now s) (now cells) n (now mem) 0 p ⌝ }
     ensures { λ r. ⌜ r ≡ ev (now (s .entry)) (now (cells .entry)) n (treeOf (now (t .entry)) x) p ⌝ }
 {
     let b = byte_at(s, p);
-    let w = memory::word_of(mem, x, b);
+    let w = memory::said(mem, x, b);
     if w != 0 {
         return w - 1;
     }

@@ -1,9 +1,14 @@
 // Rounds that are remembered: a repeat at a place ends with what was known at a later one, so that a run of single bytes takes time linear in the text
 // (01, Meaning of a match). Repeated parts with the same tree share what is remembered: each of them has a key, the same for all. The memory is one run of
-// words: how many places of each key it keeps, how many keys there are, the key of each part (0: none), a part of each key, what bytes decide (firsts.rt),
-// then entries.
-ghost use Prim.Native.Nat.{_<_, _≤_};
-ghost use Rattle.match_eval.specs.steps.Memory.{Key, Told, Worded};
+// words: how many places of each key it keeps, how many keys there are, the key of each part (0: none), a part of each key, which bytes have been seen, what
+// bytes decide, then entries.
+ghost use Prim.Native.Nat.{_+_, _*_, _^_, _<_, _≤_};
+ghost use mathlib.Core.Path.{_≡_};
+ghost use lib.Bits.{bitOr};
+ghost use lib.ListN.{getD, length, set};
+ghost use Rattle.base_words.specs.Set.{bit};
+ghost use Rattle.match_eval.specs.steps.Firsts.{saidOf};
+ghost use Rattle.match_eval.specs.steps.Memory.{Key, Told, Spoken};
 use base_words::word;
 
 pub const PLACES: usize = 0;
@@ -17,17 +22,19 @@ pub const PARTS: usize = 1025;
 
 pub const PARTS_AT: usize = 1027;
 
-// Whether a byte has been seen, then 64 words a byte for symbols and 64 for keys: 1 + what their bodies and parts take where it stands, 0 where it does not
-// decide that.
 pub const SEEN_AT: usize = 2052;
 
-pub const BODIES_AT: usize = 2309;
+// Two bits for each part and byte, 16 words a part, a pair of words for 32 bytes: 0 says nothing, else 1 + what the part takes where the byte stands.
+pub const SAID_AT: usize = 2309;
 
-pub const ROUNDS_AT: usize = 18757;
+pub const PART_WORDS: usize = 16;
 
-pub const BYTE_WORDS: usize = 64;
+pub const WORD_BITS: usize = 32;
 
-pub const ENTRIES_AT: usize = 35205;
+// The bytes: of the text's end nothing is said.
+pub const BYTES: usize = 256;
+
+pub const ENTRIES_AT: usize = 18709;
 
 // What an entry is about, in one word, and the bytes that rounds take: key · 65,536 + place.
 pub const ENTRY_WORDS: usize = 2;
@@ -37,7 +44,7 @@ pub const TEXT: usize = 65536;
 // No key has more places than there are entries.
 pub const ENTRIES: usize = 4096;
 
-pub const WORDS: usize = 43397;
+pub const WORDS: usize = 26901;
 
 pub type Memory = [u32; WORDS];
 
@@ -57,19 +64,56 @@ pub fn key(mem: &[u32], x: usize) -> usize
     0
 }
 
-// The word of part x where byte b stands: 1 + what a round of it takes there; 0 where nothing is said.
-pub fn word_of(mem: &[u32], x: usize, b: usize) -> usize
-    requires { ⌜ b ≤ 256 ⌝ }
-    ensures { λ w. ⌜ (0 < w → Worded (now (mem .entry)) x b w) ⌝ }
+// Bit k of the word at i.
+fn bit_at(mem: &[u32], i: usize, k: usize) -> usize
+    requires { ⌜ k < 32 ⌝ }
+    ensures { λ r. ⌜ r ≡ bit (getD (now (mem .entry)) i 0) k ⌝ }
 {
-    let k = key(mem, x);
-    if k == 0 {
+    let w = word(mem, i);
+    (w >> k) & 1
+}
+
+// What is said of part x where byte b stands: 0 nothing, else 1 + what it takes there.
+pub fn said(mem: &[u32], x: usize, b: usize) -> usize
+    ensures { λ w. ⌜ w ≡ saidOf (now (mem .entry)) b x ⌝ }
+{
+    if BYTES <= b {
         return 0;
     }
-    if BYTE_WORDS <= k {
+    if PARTS <= x {
         return 0;
     }
-    word(mem, ROUNDS_AT + BYTE_WORDS * b + k)
+    let i = SAID_AT + PART_WORDS * x + 2 * (b / WORD_BITS);
+    let k = b % WORD_BITS;
+    let low = bit_at(mem, i, k);
+    let high = bit_at(mem, i + 1, k);
+    low + 2 * high
+}
+
+// Sets bit k of the word at i if d is 1.
+fn mark(mem: &mut [u32], i: usize, k: usize, d: usize)
+    requires { ⌜ (k < 32) × (d < 2) ⌝ }
+    ensures { λ _. ⌜ now (mem .exit) ≡ set (now (mem .entry)) i (bitOr (getD (now (mem .entry)) i 0) (d * 2 ^ k)) ⌝ }
+{
+    if d != 0 {
+        if i < mem.len() {
+            mem[i] = mem[i] | 1 << k;
+        }
+    }
+}
+
+// Says of part x that it takes v where byte b stands, if nothing is said of it yet.
+pub fn say(mem: &mut [u32], x: usize, b: usize, v: usize)
+    requires { ⌜ (x < 1025) × (b < 256) × (v < 3) × (18709 ≤ length (now mem)) ⌝ }
+    ensures { λ _. ⌜ Spoken b x v (now (mem .entry)) (now (mem .exit)) ⌝ }
+{
+    let w = said(mem, x, b);
+    if w == 0 {
+        let i = SAID_AT + PART_WORDS * x + 2 * (b / WORD_BITS);
+        let k = b % WORD_BITS;
+        mark(mem, i, k, (v + 1) % 2);
+        mark(mem, i + 1, k, (v + 1) / 2);
+    }
 }
 
 // The number of the entry for key k at place q: some places of each key, the nearest ones. Any answer would do, for an entry says what it is about.

@@ -13,7 +13,8 @@ use Rattle.grammar.specs.Exp.{Exp, sym, ter, seq, alt, opt, star, plus, ahead, 
 use Rattle.grammar_table.specs.Table.{opOf, leftOf, rightOf, leafIn, nodeBy}
 use Rattle.grammar_table.specs.Trees.{treeOf, below}
 use Rattle.grammar_table.specs.laws.Trees.{node-at}
-use Rattle.match_eval.specs.steps.Memory.{countAt, keysAt, partsAt, seenAt, entriesAt, parts, Key, Found, Fresh}
+use Rattle.match_eval.specs.steps.Firsts.{parts}
+use Rattle.match_eval.specs.steps.Memory.{countAt, keysAt, partsAt, seenAt, entriesAt, Key, Found, Fresh}
 use Rattle.match_eval.specs.laws.Memory.{zeros, alike-none}
 
 -- ── the same words, the same tree ──

@@ -22,9 +22,10 @@ use Rattle.match_cells.specs.laws.Sound.{plainly, Means}
 use Rattle.match_cells.specs.laws.Agrees.{Known, After, Right}
 use Rattle.match_cells.specs.laws.Filled.{Room, row-length, row-right, row-frame, filled-right, filled-behind, filled-length}
 use Rattle.match_eval.specs.laws.Memory.{knows-cells, knows-ready}
+use Rattle.match_eval.specs.laws.Said.{said-same}
 use Rattle.match_cells.specs.laws.Rows.{stored}
-use Rattle.match_eval.specs.steps.Firsts.{byteAt, bodiesAt, wordOf, Heard, putSaid, presetOf}
-use Rattle.match_eval.specs.steps.Memory.{Ready, Knows, Roomy, Calm, Front}
+use Rattle.match_eval.specs.steps.Firsts.{byteAt, wordOf, Heard, Silent, putSaid, presetOf}
+use Rattle.match_eval.specs.steps.Memory.{Ready, Knows, Roomy, Front}
 use Rattle.match_cells.specs.steps.Runs.{fillBy, FilledBy}
 
 -- a cell at a later place stands further on
@@ -41,149 +42,136 @@ unfolding putSaid
 said-other zero i cs j f = refl
 said-other (suc v) i cs j f = getD-set-other cs i j v 0 f
 
-module _ (mem : List ℕ) (b i : ℕ) where
-  pub preset-length : (n : ℕ) (cs : List ℕ) → length (presetOf mem b i n cs) ≡ length cs
+module _ (t mem : List ℕ) (b i : ℕ) where
+  pub preset-length : (n : ℕ) (cs : List ℕ) → length (presetOf t mem b i n cs) ≡ length cs
   unfolding presetOf
   preset-length zero cs = refl
-  preset-length (suc r) cs = preset-length r (putSaid (wordOf mem b r) (i + r) cs) ∙ said-length (wordOf mem b r) (i + r) cs
+  preset-length (suc r) cs = preset-length r (putSaid (wordOf t mem b r) (i + r) cs) ∙ said-length (wordOf t mem b r) (i + r) cs
 
-  pub preset-other : (n : ℕ) (cs : List ℕ) (j : ℕ) → ((r : ℕ) → r < n → j ≡ i + r → ⊥) → getD (presetOf mem b i n cs) j 0 ≡ getD cs j 0
+  pub preset-other : (n : ℕ) (cs : List ℕ) (j : ℕ) → ((r : ℕ) → r < n → j ≡ i + r → ⊥) → getD (presetOf t mem b i n cs) j 0 ≡ getD cs j 0
   unfolding presetOf
   preset-other zero cs j f = refl
   preset-other (suc r) cs j f =
-      preset-other r (putSaid (wordOf mem b r) (i + r) cs) j (λ k l. f k (omega arith)) ∙ said-other (wordOf mem b r) (i + r) cs j (f r (omega arith))
+      preset-other r (putSaid (wordOf t mem b r) (i + r) cs) j (λ k l. f k (omega arith)) ∙ said-other (wordOf t mem b r) (i + r) cs j (f r (omega arith))
 
   put-here : (w v k : ℕ) (cs : List ℕ) → w ≡ suc v → k < length cs → getD (putSaid w k cs) k 0 ≡ v
   unfolding putSaid
   put-here zero v k cs e l = absurd (omega arith)
   put-here (suc u) v k cs e l = getD-set-same cs k u 0 l ∙ omega (arith, e)
 
-  pub preset-said : (n : ℕ) (cs : List ℕ) (r v : ℕ) → r < n → i + n ≤ length cs → wordOf mem b r ≡ suc v → getD (presetOf mem b i n cs) (i + r) 0 ≡ v
+  pub preset-said : (n : ℕ) (cs : List ℕ) (r v : ℕ) → r < n → i + n ≤ length cs → wordOf t mem b r ≡ suc v → getD (presetOf t mem b i n cs) (i + r) 0 ≡ v
   unfolding presetOf
   preset-said zero cs r v l room e = absurd (omega arith)
   preset-said (suc m) cs r v l room e =
       let k : r ≤ m = omega arith in
-      go (eq-or-lt-of-le k) (λ h. preset-said m (putSaid (wordOf mem b m) (i + m) cs) r v h (omega (arith, said-length (wordOf mem b m) (i + m) cs)) e)
+      go (eq-or-lt-of-le k) (λ h. preset-said m (putSaid (wordOf t mem b m) (i + m) cs) r v h (omega (arith, said-length (wordOf t mem b m) (i + m) cs)) e)
     where
       next : List ℕ
-      next = putSaid (wordOf mem b m) (i + m) cs
+      next = putSaid (wordOf t mem b m) (i + m) cs
 
-      go : (r ≡ m) ⊎ (r < m) → (r < m → getD (presetOf mem b i m next) (i + r) 0 ≡ v) → getD (presetOf mem b i m next) (i + r) 0 ≡ v
+      go : (r ≡ m) ⊎ (r < m) → (r < m → getD (presetOf t mem b i m next) (i + r) 0 ≡ v) → getD (presetOf t mem b i m next) (i + r) 0 ≡ v
       go (inl z) k =
           preset-other m next (i + r) (λ k h a. omega arith) ∙ ap (λ (y : ℕ). getD next (i + y) 0) z
-          ∙ put-here (wordOf mem b m) v (i + m) cs (ap (wordOf mem b) (flip z) ∙ e) (omega arith)
+          ∙ put-here (wordOf t mem b m) v (i + m) cs (ap (wordOf t mem b) (flip z) ∙ e) (omega arith)
       go (inr h) k = k h
 
-  pub preset-silent : (n : ℕ) (cs : List ℕ) → ((r : ℕ) → wordOf mem b r ≡ 0) → presetOf mem b i n cs ≡ cs
+  pub preset-silent : (n : ℕ) (cs : List ℕ) → ((r : ℕ) → wordOf t mem b r ≡ 0) → presetOf t mem b i n cs ≡ cs
   unfolding presetOf putSaid
   preset-silent zero cs f = refl
-  preset-silent (suc r) cs f = ap (λ (w : ℕ). presetOf mem b i r (putSaid w (i + r) cs)) (f r) ∙ preset-silent r cs f
+  preset-silent (suc r) cs f = ap (λ (w : ℕ). presetOf t mem b i r (putSaid w (i + r) cs)) (f r) ∙ preset-silent r cs f
 
   -- one symbol more, as code does it
-  pub preset-skips : (r : ℕ) (cs : List ℕ) → 0 < r → wordOf mem b (r - 1) ≡ 0 → presetOf mem b i (r - 1) cs ≡ presetOf mem b i r cs
+  pub preset-skips : (r : ℕ) (cs : List ℕ) → 0 < r → wordOf t mem b (r - 1) ≡ 0 → presetOf t mem b i (r - 1) cs ≡ presetOf t mem b i r cs
   unfolding presetOf putSaid
   preset-skips zero cs l e = absurd (omega arith)
   preset-skips (suc r) cs l e =
       let z : suc r - 1 ≡ r = omega arith in
-      ap (λ (k : ℕ). presetOf mem b i k cs) z ∙ ap (λ (w : ℕ). presetOf mem b i r (putSaid w (i + r) cs)) (flip e ∙ ap (wordOf mem b) z)
+      ap (λ (k : ℕ). presetOf t mem b i k cs) z ∙ ap (λ (w : ℕ). presetOf t mem b i r (putSaid w (i + r) cs)) (flip e ∙ ap (wordOf t mem b) z)
 
-  pub preset-puts : (r w : ℕ) (cs : List ℕ) → 0 < r → w ≡ wordOf mem b (r - 1) → (w ≡ 0 → ⊥)
-      → presetOf mem b i (r - 1) (set cs (i + (r - 1)) (w - 1)) ≡ presetOf mem b i r cs
+  pub preset-puts : (r w : ℕ) (cs : List ℕ) → 0 < r → w ≡ wordOf t mem b (r - 1) → (w ≡ 0 → ⊥)
+      → presetOf t mem b i (r - 1) (set cs (i + (r - 1)) (w - 1)) ≡ presetOf t mem b i r cs
   unfolding presetOf putSaid
   preset-puts zero w cs l e f = absurd (omega arith)
   preset-puts (suc r) zero cs l e f = absurd (f refl)
   preset-puts (suc r) (suc v) cs l e f =
       let z : suc r - 1 ≡ r = omega arith in
       let y : suc v - 1 ≡ v = omega arith in
-      ap (λ (k : ℕ). presetOf mem b i k (set cs (i + k) (suc v - 1))) z ∙ ap (λ (k : ℕ). presetOf mem b i r (set cs (i + r) k)) y
-      ∙ ap (λ (u : ℕ). presetOf mem b i r (putSaid u (i + r) cs)) (e ∙ ap (wordOf mem b) z)
+      ap (λ (k : ℕ). presetOf t mem b i k (set cs (i + k) (suc v - 1))) z ∙ ap (λ (k : ℕ). presetOf t mem b i r (set cs (i + r) k)) y
+      ∙ ap (λ (u : ℕ). presetOf t mem b i r (putSaid u (i + r) cs)) (e ∙ ap (wordOf t mem b) z)
 
-  pub preset-ends : (r : ℕ) (cs : List ℕ) → r ≤ 0 → cs ≡ presetOf mem b i r cs
+  pub preset-ends : (r : ℕ) (cs : List ℕ) → r ≤ 0 → cs ≡ presetOf t mem b i r cs
   unfolding presetOf
   preset-ends zero cs l = refl
   preset-ends (suc r) cs l = absurd (omega arith)
 
--- only the words count
-pub preset-same : (mem new : List ℕ) (b i n : ℕ) (cs : List ℕ) → n ≤ 64 → ((r : ℕ) → r < 64 → wordOf new b r ≡ wordOf mem b r) → presetOf new b i n cs ≡ presetOf mem b i n cs
+-- only what is said counts
+pub preset-same : (t mem new : List ℕ) (b i n : ℕ) (cs : List ℕ) → Front mem new → presetOf t new b i n cs ≡ presetOf t mem b i n cs
 unfolding presetOf
-preset-same mem new b i zero cs l f = refl
-preset-same mem new b i (suc r) cs l f =
-    preset-same mem new b i r (putSaid (wordOf new b r) (i + r) cs) (omega arith) f ∙ ap (λ (w : ℕ). presetOf mem b i r (putSaid w (i + r) cs)) (f r (omega arith))
+preset-same t mem new b i zero cs f = refl
+preset-same t mem new b i (suc r) cs f =
+    preset-same t mem new b i r (putSaid (wordOf t new b r) (i + r) cs) f
+    ∙ ap (λ (w : ℕ). presetOf t mem b i r (putSaid w (i + r) cs)) (said-same mem new (λ j l m. f j m) b (symbolWord t r 1))
 
 -- ── what is known stays so, and the place's cells are heard ──
-module _ (t s cs mem : List ℕ) (n p b : ℕ) (e : b ≡ byteAt s p) (within : p ≤ length s) (calm : Calm mem s n (length cs)) where
+module _ (t s cs mem : List ℕ) (n p b : ℕ) (e : b ≡ byteAt s p) (within : p ≤ length s) (roomy : Roomy mem s n (length cs)) where
   abbrev new : List ℕ
-  new = presetOf mem b (p * n) n cs
+  new = presetOf t mem b (p * n) n cs
 
   behind : (j : ℕ) → (p + 1) * n ≤ j → getD new j 0 ≡ getD cs j 0
   behind j h =
       let z : (p + 1) * n ≡ suc p * n = ap (λ (k : ℕ). k * n) (add-one p) in
-      preset-other mem b (p * n) n cs j (λ r l a. omega (arith, z, suc-mul p n, h, a, l))
+      preset-other t mem b (p * n) n cs j (λ r l a. omega (arith, z, suc-mul p n, h, a, l))
 
-  here : Calm mem s n (length cs) → Heard mem s new n p
-  here (inl room) r v l i h a =
-      preset-said mem b (p * n) n cs r v l (omega (arith, suc-mul p n, mul-le-mul-right {m = suc p} {n = length s + 1} n (omega arith), room)) (ap (λ (d : ℕ). wordOf mem d r) e ∙ a)
-  here (inr quiet) r v l i h a = absurd (omega (arith, quiet (byteAt s p) r h i, a))
+  here : Roomy mem s n (length cs) → Heard t mem s new n p
+  here (inl room) r v l a =
+      preset-said t mem b (p * n) n cs r v l (omega (arith, suc-mul p n, mul-le-mul-right {m = suc p} {n = length s + 1} n (omega arith), room)) (ap (λ (d : ℕ). wordOf t mem d r) e ∙ a)
+  here (inr quiet) r v l a = absurd (omega (arith, quiet (byteAt s p) (symbolWord t r 1), a))
 
-  pub knows-preset : Knows t s cs n mem (p + 1) (p + 1) → Knows t s (presetOf mem b (p * n) n cs) n mem (p + 1) p
+  pub knows-preset : Knows t s cs n mem (p + 1) (p + 1) → Knows t s (presetOf t mem b (p * n) n cs) n mem (p + 1) p
   knows-preset w = knows-cells t s cs mem n (p + 1) p (p + 1) new w behind (λ q h m. go q m (eq-or-lt-of-le h))
     where
-      go : (q : ℕ) → q ≤ length s → (p ≡ q) ⊎ (p < q) → Heard mem s new n q
-      go q m (inl a) = subst (λ (k : ℕ). Heard mem s new n k) a (here calm)
-      go q m (inr a) = λ r v l i h d. behind (q * n + r) (omega (arith, mul-le-mul-right {m = p + 1} {n = q} n (omega arith))) ∙ w .heard q (omega arith) m r v l i h d
-
--- a cell that was set holds what filling would store
-pub said-stays : (t s cs mem : List ℕ) (n r p b w k : ℕ) → n ≡ symbolCount t → r < n → n ≤ 64 → p ≤ length s → b ≡ byteAt s p → b ≤ 256 → w ≡ wordOf mem b r → (w ≡ 0 → ⊥)
-    → Knows t s cs n mem k p → cs ≡ set cs (p * length (bodiesOf t) + r) (bodyAt (bodiesOf t) s cs r p)
-said-stays t s cs mem n r p b w k q l m h e z u f o =
-    let y : wordOf mem b r ≡ suc (w - 1) = flip u ∙ omega (arith, f) in
-    let a : getD cs (p * n + r) 0 ≡ w - 1 =
-    o .heard p (omega arith) h r (w - 1) l (omega (arith, l, m)) (omega (arith, e, z)) (ap (λ (d : ℕ). wordOf mem d r) (flip e) ∙ y) in
-    flip (set-getD cs (p * n + r) 0) ∙ ap (set cs (p * n + r)) a
-    ∙ stored t s n q cs r p (symbolWord t r 1) (w - 1) l refl (flip (o .words .bodies b r (w - 1) z (omega (arith, l, m)) y s cs p (flip e) (o .heard p (omega arith) h)))
-
-roomy-calm : (mem s : List ℕ) (n have : ℕ) → Roomy mem s n have → Calm mem s n have
-roomy-calm mem s n have (inl h) = inl h
-roomy-calm mem s n have (inr f) = inr (λ b r i j. f b r)
+      go : (q : ℕ) → q ≤ length s → (p ≡ q) ⊎ (p < q) → Heard t mem s new n q
+      go q m (inl a) = subst (λ (k : ℕ). Heard t mem s new n k) a (here roomy)
+      go q m (inr a) = λ r v l d. behind (q * n + r) (omega (arith, mul-le-mul-right {m = p + 1} {n = q} n (omega arith))) ∙ w .heard q (omega arith) m r v l d
 
 -- before the last place is filled
-pub knows-first : (t s cs : List ℕ) (n : ℕ) {mem : List ℕ} → Ready t n mem × Roomy mem s n (length cs) → Knows t s cs n mem (length s + 1) (length s + 1) × Calm mem s n (length cs)
-knows-first t s cs n {mem} (w, r) = (knows-ready t s cs mem n (length s + 1) (length s + 1) (omega arith) w, roomy-calm mem s n (length cs) r)
+pub knows-first : (t s cs : List ℕ) (n : ℕ) {mem : List ℕ} → Ready t n mem × Roomy mem s n (length cs) → Knows t s cs n mem (length s + 1) (length s + 1) × Roomy mem s n (length cs)
+knows-first t s cs n {mem} (w, r) = (knows-ready t s cs mem n (length s + 1) (length s + 1) (omega arith) w, r)
 
-pub calm-front : (old new s : List ℕ) (n have got : ℕ) → Front old new → got ≡ have → Calm old s n have → Calm new s n got
-calm-front old new s n have got f e (inl h) = inl (omega (arith, h, e))
-calm-front old new s n have got f e (inr q) = inr (λ b r i j. f (bodiesAt + 64 * b + r) (omega arith) ∙ q b r i j)
+pub roomy-front : (old new s : List ℕ) (n have got : ℕ) → Front old new → got ≡ have → Roomy old s n have → Roomy new s n got
+roomy-front old new s n have got f e (inl h) = inl (omega (arith, h, e))
+roomy-front old new s n have got f e (inr q) = inr (λ b x. said-same old new (λ j l m. f j m) b x ∙ q b x)
 
 -- ── place after place, as code does it ──
-pub by-more : (mem : List ℕ) (bodies : List (Exp ℕ)) (s : List ℕ) (n : ℕ) (order cs new : List ℕ) (k : ℕ) → 0 < k
-    → new ≡ rowOf bodies s (k - 1) order (presetOf mem (byteAt s (k - 1)) ((k - 1) * n) n cs) → fillBy mem bodies s n (k - 1) order new ≡ fillBy mem bodies s n k order cs
+pub by-more : (t mem : List ℕ) (bodies : List (Exp ℕ)) (s : List ℕ) (n : ℕ) (order cs new : List ℕ) (k : ℕ) → 0 < k
+    → new ≡ rowOf bodies s (k - 1) order (presetOf t mem (byteAt s (k - 1)) ((k - 1) * n) n cs) → fillBy t mem bodies s n (k - 1) order new ≡ fillBy t mem bodies s n k order cs
 unfolding fillBy
-by-more mem bodies s n order cs new zero l q = absurd (omega arith)
-by-more mem bodies s n order cs new (suc k) l q =
+by-more t mem bodies s n order cs new zero l q = absurd (omega arith)
+by-more t mem bodies s n order cs new (suc k) l q =
     let z : suc k - 1 ≡ k = omega arith in
-    ap (λ (j : ℕ). fillBy mem bodies s n j order new) z
-    ∙ ap (fillBy mem bodies s n k order) (q ∙ ap (λ (j : ℕ). rowOf bodies s j order (presetOf mem (byteAt s j) (j * n) n cs)) z)
+    ap (λ (j : ℕ). fillBy t mem bodies s n j order new) z
+    ∙ ap (fillBy t mem bodies s n k order) (q ∙ ap (λ (j : ℕ). rowOf bodies s j order (presetOf t mem (byteAt s j) (j * n) n cs)) z)
 
-pub by-end : (mem : List ℕ) (bodies : List (Exp ℕ)) (s : List ℕ) (n : ℕ) (order cs : List ℕ) (k : ℕ) → k ≤ 0 → cs ≡ fillBy mem bodies s n k order cs
+pub by-end : (t mem : List ℕ) (bodies : List (Exp ℕ)) (s : List ℕ) (n : ℕ) (order cs : List ℕ) (k : ℕ) → k ≤ 0 → cs ≡ fillBy t mem bodies s n k order cs
 unfolding fillBy
-by-end mem bodies s n order cs zero l = refl
-by-end mem bodies s n order cs (suc k) l = absurd (omega arith)
+by-end t mem bodies s n order cs zero l = refl
+by-end t mem bodies s n order cs (suc k) l = absurd (omega arith)
 
 -- ── the cells are right, whatever was set ──
-module _ (mem : List ℕ) (bodies : List (Exp ℕ)) (s : List ℕ) where
+module _ (t mem : List ℕ) (bodies : List (Exp ℕ)) (s : List ℕ) where
   abbrev set-at : ℕ → List ℕ → List ℕ
-  set-at p cs = presetOf mem (byteAt s p) (p * length bodies) (length bodies) cs
+  set-at p cs = presetOf t mem (byteAt s p) (p * length bodies) (length bodies) cs
 
-  by-length : (order : List ℕ) (p : ℕ) (cs : List ℕ) → length (fillBy mem bodies s (length bodies) p order cs) ≡ length cs
+  by-length : (order : List ℕ) (p : ℕ) (cs : List ℕ) → length (fillBy t mem bodies s (length bodies) p order cs) ≡ length cs
   unfolding fillBy
   by-length order zero cs = refl
   by-length order (suc p) cs =
       by-length order p (rowOf bodies s p order (set-at p cs)) ∙ row-length bodies s order (set-at p cs) p
-      ∙ preset-length mem (byteAt s p) (p * length bodies) (length bodies) cs
+      ∙ preset-length t mem (byteAt s p) (p * length bodies) (length bodies) cs
 
   module _ (m : ℕ → Bool) (marked : Markings m bodies) (order : List ℕ) (ordered : Ordered m bodies [] order) where
     by-right : (p : ℕ) (cs : List ℕ) → p ≤ length s + 1 → Room bodies s cs
-        → ((q x : ℕ) → p ≤ q → q ≤ length s → x < length bodies → Known bodies s cs q x) → Right bodies s (fillBy mem bodies s (length bodies) p order cs)
+        → ((q x : ℕ) → p ≤ q → q ≤ length s → x < length bodies → Known bodies s cs q x) → Right bodies s (fillBy t mem bodies s (length bodies) p order cs)
     unfolding fillBy
     by-right zero cs h room a = λ q x i l. a q x (omega arith) i l
     by-right (suc p) cs h room a = by-right p (rowOf bodies s p order next) (omega arith) (rw (row-length bodies s order next p, long) room) (λ q x k i l. go q x i l (eq-or-lt-of-le k))
@@ -192,12 +180,12 @@ module _ (mem : List ℕ) (bodies : List (Exp ℕ)) (s : List ℕ) where
         next = set-at p cs
 
         long : length next ≡ length cs
-        long = preset-length mem (byteAt s p) (p * length bodies) (length bodies) cs
+        long = preset-length t mem (byteAt s p) (p * length bodies) (length bodies) cs
 
         after : After bodies s next p
         after q x k i l =
             subst (λ (y : ℕ). Means bodies s (sym x) q y)
-            (flip (preset-other mem (byteAt s p) (p * length bodies) (length bodies) cs (q * length bodies + x) (λ r g e. omega (arith, far (length bodies) p q r x k g, e))))
+            (flip (preset-other t mem (byteAt s p) (p * length bodies) (length bodies) cs (q * length bodies + x) (λ r g e. omega (arith, far (length bodies) p q r x k g, e))))
             (a q x k i l)
 
         both : After bodies s (rowOf bodies s p order next) p × ((x : ℕ) → x < length bodies → Known bodies s (rowOf bodies s p order next) p x)
@@ -208,12 +196,12 @@ module _ (mem : List ℕ) (bodies : List (Exp ℕ)) (s : List ℕ) where
         go q x i l (inr k) = both .0 q x k i l
 
     by-behind : (p : ℕ) (cs : List ℕ) (i : ℕ) → p ≤ length s + 1 → (length s + 1) * length bodies ≤ i
-        → getD (fillBy mem bodies s (length bodies) p order cs) i 0 ≡ getD cs i 0
+        → getD (fillBy t mem bodies s (length bodies) p order cs) i 0 ≡ getD cs i 0
     unfolding fillBy
     by-behind zero cs i h l = refl
     by-behind (suc p) cs i h l =
         by-behind p (rowOf bodies s p order (set-at p cs)) i (omega arith) l ∙ row-frame bodies s m marked order [] p (set-at p cs) i (omega arith) l ordered
-        ∙ preset-other mem (byteAt s p) (p * length bodies) (length bodies) cs i
+        ∙ preset-other t mem (byteAt s p) (p * length bodies) (length bodies) cs i
         (λ r g e. omega (arith, far (length bodies) p (length s + 1) r 0 (omega arith) g, e))
 
 -- ── right cells are one ──
@@ -240,27 +228,27 @@ right-one bodies s cs ds a c l f = ext-getD 0 cs ds l (λ i h. go i (lt-or-ge i 
     go i (inr h) = f i h
 
 -- without words nothing is set
-by-silent : (mem : List ℕ) (bodies : List (Exp ℕ)) (s order : List ℕ) → ((b r : ℕ) → wordOf mem b r ≡ 0) → (p : ℕ) (cs : List ℕ)
-    → fillBy mem bodies s (length bodies) p order cs ≡ fillOf bodies s p order cs
+by-silent : (t mem : List ℕ) (bodies : List (Exp ℕ)) (s order : List ℕ) → Silent mem → (p : ℕ) (cs : List ℕ)
+    → fillBy t mem bodies s (length bodies) p order cs ≡ fillOf bodies s p order cs
 unfolding fillBy fillOf
-by-silent mem bodies s order f zero cs = refl
-by-silent mem bodies s order f (suc p) cs =
-    ap (λ (l : List ℕ). fillBy mem bodies s (length bodies) p order (rowOf bodies s p order l)) (preset-silent mem (byteAt s p) (p * length bodies) (length bodies) cs (f (byteAt s p)))
-    ∙ by-silent mem bodies s order f p (rowOf bodies s p order cs)
+by-silent t mem bodies s order f zero cs = refl
+by-silent t mem bodies s order f (suc p) cs =
+    ap (λ (l : List ℕ). fillBy t mem bodies s (length bodies) p order (rowOf bodies s p order l)) (preset-silent t mem (byteAt s p) (p * length bodies) (length bodies) cs (λ r. f (byteAt s p) (symbolWord t r 1)))
+    ∙ by-silent t mem bodies s order f p (rowOf bodies s p order cs)
 
-pub filled-same : (bodies : List (Exp ℕ)) (s : List ℕ) (m : ℕ → Bool) → Markings m bodies → (order old new : List ℕ) → Ordered m bodies [] order
-    → FilledBy bodies s (length bodies) order old new → new ≡ cells bodies order s old
+pub filled-same : (t : List ℕ) (bodies : List (Exp ℕ)) (s : List ℕ) (m : ℕ → Bool) → Markings m bodies → (order old new : List ℕ) → Ordered m bodies [] order
+    → FilledBy t bodies s (length bodies) order old new → new ≡ cells bodies order s old
 unfolding cells
-filled-same bodies s m marked order old new o (mem, roomy, e) = e ∙ go roomy
+filled-same t bodies s m marked order old new o (mem, roomy, e) = e ∙ go roomy
   where
     made : List ℕ
-    made = fillBy mem bodies s (length bodies) (length s + 1) order old
+    made = fillBy t mem bodies s (length bodies) (length s + 1) order old
 
     go : Roomy mem s (length bodies) (length old) → made ≡ cells bodies order s old
     go (inl room) =
         right-one bodies s made (cells bodies order s old)
-        (by-right mem bodies s m marked order o (length s + 1) old (omega arith) room (λ q x k i l. absurd (omega arith)))
+        (by-right t mem bodies s m marked order o (length s + 1) old (omega arith) room (λ q x k i l. absurd (omega arith)))
         (filled-right bodies s m marked order old o room)
-        (by-length mem bodies s order (length s + 1) old ∙ flip (filled-length bodies s order old))
-        (λ i l. by-behind mem bodies s m marked order o (length s + 1) old i (omega arith) l ∙ flip (filled-behind bodies s m marked order old o i l))
-    go (inr silent) = by-silent mem bodies s order silent (length s + 1) old
+        (by-length t mem bodies s order (length s + 1) old ∙ flip (filled-length bodies s order old))
+        (λ i l. by-behind t mem bodies s m marked order o (length s + 1) old i (omega arith) l ∙ flip (filled-behind bodies s m marked order old o i l))
+    go (inr silent) = by-silent t mem bodies s order silent (length s + 1) old

@@ -67,7 +67,7 @@ module _ (t : List ℕ) (g : Grammar) (bodies : List (Exp ℕ)) (p : Plain t g b
     pub cells-right : (s old : List ℕ) → (length s + 1) * length bodies ≤ length old → Right bodies s (cells bodies (order bodies) s old)
     cells-right s old room = filled-right bodies s (marked (marksOf bodies)) (markings (terminalIn g) (length (g .terminals)) bodies sound-in) (order bodies) old in-order room
 
-pub fills : (t s old new order₀ front : List ℕ) (n : ℕ) → n ≡ symbolCount t → OrderedIn t n order₀ front → FilledBy (bodiesOf t) s n (wordsFrom front 0 n) old new → Fills t s old new
+pub fills : (t s old new order₀ front : List ℕ) (n : ℕ) → n ≡ symbolCount t → OrderedIn t n order₀ front → FilledBy t (bodiesOf t) s n (wordsFrom front 0 n) old new → Fills t s old new
 fills t s old new order₀ front n q o e = record {
   are =
       λ g bodies p clear.
@@ -75,7 +75,7 @@ fills t s old new order₀ front n q o e = record {
       let f : wordsFrom front 0 n ≡ order bodies =
       ap₂ (λ (l : List ℕ) (k : ℕ). wordsFrom l 0 k) (o .are g bodies (p .holds) (p .sound) b) (b ∙ sym (full t g bodies p clear))
       ∙ words-front (order bodies) (drop (length (order bodies)) order₀) in
-      filled-same bodies s (marked (marksOf bodies)) (markings (terminalIn g) (length (g .terminals)) bodies (sound-in t g bodies p)) (order bodies) old new (in-order t g bodies p clear)
-      (subst (λ (k : ℕ). FilledBy bodies s k (order bodies) old new) b
-      (subst (λ (l : List ℕ). FilledBy bodies s n l old new) f (subst (λ (bs : List (Exp ℕ)). FilledBy bs s n (wordsFrom front 0 n) old new) (bodies-of t g bodies p) e)));
+      filled-same t bodies s (marked (marksOf bodies)) (markings (terminalIn g) (length (g .terminals)) bodies (sound-in t g bodies p)) (order bodies) old new (in-order t g bodies p clear)
+      (subst (λ (k : ℕ). FilledBy t bodies s k (order bodies) old new) b
+      (subst (λ (l : List ℕ). FilledBy t bodies s n l old new) f (subst (λ (bs : List (Exp ℕ)). FilledBy t bs s n (wordsFrom front 0 n) old new) (bodies-of t g bodies p) e)));
 }

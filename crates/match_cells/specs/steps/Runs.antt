@@ -20,14 +20,14 @@ pub record Plain (t : List ℕ) (g : Grammar) (bodies : List (Exp ℕ)) : Type 0
   pub holds : Holds t (withBodies g bodies)
   pub sound : SoundAll (terminalIn g) (length (g .names)) (length (g .terminals)) bodies
 
--- the cells after the places below the first number have been stored, the last first, each after its cells were set to what the words say by its byte
-unfoldable pub fillBy : List ℕ → List (Exp ℕ) → List ℕ → ℕ → ℕ → List ℕ → List ℕ → List ℕ
-fillBy mem bodies s n zero order cs = cs
-fillBy mem bodies s n (suc p) order cs = fillBy mem bodies s n p order (rowOf bodies s p order (presetOf mem (byteAt s p) (p * n) n cs))
+-- the cells after the places below the first number have been stored, the last first, each after its cells were set to what is said by its byte
+unfoldable pub fillBy : List ℕ → List ℕ → List (Exp ℕ) → List ℕ → ℕ → ℕ → List ℕ → List ℕ → List ℕ
+fillBy t mem bodies s n zero order cs = cs
+fillBy t mem bodies s n (suc p) order cs = fillBy t mem bodies s n p order (rowOf bodies s p order (presetOf t mem (byteAt s p) (p * n) n cs))
 
--- the same by some words, for every place
-abbrev pub FilledBy : List (Exp ℕ) → List ℕ → ℕ → List ℕ → List ℕ → List ℕ → Type 0
-FilledBy bodies s n order old new = (mem : List ℕ) × Roomy mem s n (length old) × (new ≡ fillBy mem bodies s n (length s + 1) order old)
+-- the same by some memory, for every place
+abbrev pub FilledBy : List ℕ → List (Exp ℕ) → List ℕ → ℕ → List ℕ → List ℕ → List ℕ → Type 0
+FilledBy t bodies s n order old new = (mem : List ℕ) × Roomy mem s n (length old) × (new ≡ fillBy t mem bodies s n (length s + 1) order old)
 
 -- the cells of a plain grammar without a loop
 pub record Fills (t s old new : List ℕ) : Type 0 where

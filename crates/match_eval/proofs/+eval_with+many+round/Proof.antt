@@ -13,7 +13,7 @@ use Rattle.match_eval.specs.laws.EvalSteps.{seq-left, seq-right, seq-bot
 use Rattle.grammar_table.specs.Trees.{treeOf, below}
 use Rattle.grammar_table.specs.laws.Trees.{node-never, below-le}
 use Rattle.match_eval.specs.laws.Evaluated.{node-ev}
-use Rattle.match_eval.specs.laws.Memory.{known-ends, worded-right, knows-from}
+use Rattle.match_eval.specs.laws.Memory.{known-ends, said-right, knows-from}
 use borrow.Author.Needs.{needs}
 use Prim.Native.Nat.{ℕ, suc, _+_, _-_, _*_, _≤_, _<_}
 use borrow.Fn.Kinds.{In}
@@ -36,7 +36,7 @@ use Rattle.match_eval.proofs.cell_at.Reads as cell-at-reads
 use Rattle.match_eval.proofs.byte_at.Reads as byte-at-reads
 use Rattle.match_eval.proofs.leaf_at.Reads as leaf-at-reads
 use Rattle.match_eval.proofs.memory.known.Reads as known-reads
-use Rattle.match_eval.proofs.memory.word_of.Reads as word-of-reads
+use Rattle.match_eval.proofs.memory.said.Reads as said-reads
 use Rattle.match_eval.proofs.+eval_with+many+round.{statement}
 use Rattle.match_eval.proofs.+eval_with+many+round.Tie.{close}
 
@@ -76,13 +76,13 @@ abbrev round-below : ℕ → In 4 round-kinds.ps
 round-below t = and 4 round-kinds.ps (falls 4 round-kinds.ps _<_ μ-round t) round.Pre
 
 abbrev eval-with-claims : ℕ → eval-with-lts.Claims
-eval-with-claims t = (any-at-reads.Asked, any-at-reads.Learnt, left-reads.Asked, left-reads.Learnt, part-reads.Asked, part-reads.Learnt, op-reads.Asked, op-reads.Learnt, leaf-at-reads.Asked, leaf-at-reads.Learnt, cell-at-reads.Asked, cell-at-reads.Learnt, eval-with-below t, eval-with.Post, right-reads.Asked, right-reads.Learnt, many-below t, many.Post)
+eval-with-claims t = (any-at-reads.Asked, any-at-reads.Learnt, left-reads.Asked, left-reads.Learnt, part-reads.Asked, part-reads.Learnt, op-reads.Asked, op-reads.Learnt, leaf-at-reads.Asked, leaf-at-reads.Learnt, cell-at-reads.Asked, cell-at-reads.Learnt, round-below t, round.Post, right-reads.Asked, right-reads.Learnt, many-below t, many.Post)
 
 abbrev many-claims : ℕ → many-lts.Claims
 many-claims t = (known-reads.Asked, known-reads.Learnt, round-below t, round.Post)
 
 abbrev round-claims : ℕ → round-lts.Claims
-round-claims t = (byte-at-reads.Asked, byte-at-reads.Learnt, word-of-reads.Asked, word-of-reads.Learnt, eval-with-below t, eval-with.Post)
+round-claims t = (byte-at-reads.Asked, byte-at-reads.Learnt, said-reads.Asked, said-reads.Learnt, eval-with-below t, eval-with.Post)
 
 eval-with-any-at-requires : (t : ℕ) → eval-with-lts.Need-any-at-requires (eval-with-claims t) (eval-with-at t) eval-with.Post
 eval-with-any-at-requires t c κs = search needs
@@ -109,12 +109,12 @@ eval-with-leaf-at-requires t c κs = omega (arith, c .before .before .before .le
 eval-with-cell-at-requires : (t : ℕ) → eval-with-lts.Need-cell-at-requires (eval-with-claims t) (eval-with-at t) eval-with.Post
 eval-with-cell-at-requires t c κs = omega (arith, c .before .before .before .before .before .before .before .before .before .pre .1 .0)
 
-eval-with-eval-with-requires : (t : ℕ) → eval-with-lts.Need-eval-with-requires (eval-with-claims t) (eval-with-at t) eval-with.Post
-eval-with-eval-with-requires t c κs = (omega (arith, below-le (c .before .before .before .left .result) (c .before .before .before .before .before .before .before .before .before .args .x - 1), c .before .before .part .ensures, c .before .before .before .before .if1 .left, c .before .before .before .before .before .before .before .before .before .pre .0, c .before .before .before .before .before .before .before .before .before .pre .1 .0), (omega (arith, below-le (c .before .before .before .left .result) (c .before .before .before .before .before .before .before .before .before .args .x - 1), c .before .before .part .ensures, c .before .before .before .before .if1 .left, c .before .before .before .before .before .before .before .before .before .pre .0, c .before .before .before .before .before .before .before .before .before .pre .1 .0), c .before .before .before .before .before .before .before .before .before .pre .1 .1))
+eval-with-round-requires : (t : ℕ) → eval-with-lts.Need-round-requires (eval-with-claims t) (eval-with-at t) eval-with.Post
+eval-with-round-requires t c κs = (omega (arith, below-le (c .before .before .before .left .result) (c .before .before .before .before .before .before .before .before .before .args .x - 1), c .before .before .part .ensures, c .before .before .before .before .if1 .left, c .before .before .before .before .before .before .before .before .before .pre .0, c .before .before .before .before .before .before .before .before .before .pre .1 .0), (omega (arith, below-le (c .before .before .before .left .result) (c .before .before .before .before .before .before .before .before .before .args .x - 1), c .before .before .part .ensures, c .before .before .before .before .if1 .left, c .before .before .before .before .before .before .before .before .before .pre .0, c .before .before .before .before .before .before .before .before .before .pre .1 .0), c .before .before .before .before .before .before .before .before .before .pre .1 .1))
 
 eval-with-returns-2 : (t : ℕ) → eval-with-lts.Need-returns-2 (eval-with-claims t) (eval-with-at t) eval-with.Post
 unfolding ev nodeBy
-eval-with-returns-2 t c = seq-left _ _ _ (c .before .eval-with .ensures ∙ ap (λ (i : ℕ). ev (c .before .before .before .before .before .before .before .before .before .before .before .args .s .now) (c .before .before .before .before .before .before .before .before .before .before .before .args .cells .now) (c .before .before .before .before .before .before .before .before .before .before .before .args .n) (treeOf (c .before .before .before .before .before .before .before .before .before .before .before .args .t .now) i) (c .before .before .before .before .before .before .before .before .before .before .before .args .p)) (c .before .before .before .before .part .ensures)) (c .if2 .taken) ∙ node-ev (c .before .before .before .before .before .before .before .before .before .before .before .args .s .now) (c .before .before .before .before .before .before .before .before .before .before .before .args .cells .now) (c .before .before .before .before .before .before .before .before .before .before .before .args .t .now) (c .before .before .before .before .before .before .before .before .before .before .before .args .n) (c .before .before .before .before .before .before .before .before .before .before .before .args .x) (c .before .before .before .before .before .before .before .before .before .before .before .args .p) 2 (c .before .before .before .before .before .left .result) (c .before .before .before .before .before .before .if1 .left) (sym (c .before .before .match .keys3) ∙ c .before .before .before .op .ensures .0) (c .before .before .before .before .before .left .ensures .0)
+eval-with-returns-2 t c = seq-left _ _ _ (c .before .round .ensures ∙ ap (λ (i : ℕ). ev (c .before .before .before .before .before .before .before .before .before .before .before .args .s .now) (c .before .before .before .before .before .before .before .before .before .before .before .args .cells .now) (c .before .before .before .before .before .before .before .before .before .before .before .args .n) (treeOf (c .before .before .before .before .before .before .before .before .before .before .before .args .t .now) i) (c .before .before .before .before .before .before .before .before .before .before .before .args .p)) (c .before .before .before .before .part .ensures)) (c .if2 .taken) ∙ node-ev (c .before .before .before .before .before .before .before .before .before .before .before .args .s .now) (c .before .before .before .before .before .before .before .before .before .before .before .args .cells .now) (c .before .before .before .before .before .before .before .before .before .before .before .args .t .now) (c .before .before .before .before .before .before .before .before .before .before .before .args .n) (c .before .before .before .before .before .before .before .before .before .before .before .args .x) (c .before .before .before .before .before .before .before .before .before .before .before .args .p) 2 (c .before .before .before .before .before .left .result) (c .before .before .before .before .before .before .if1 .left) (sym (c .before .before .match .keys3) ∙ c .before .before .before .op .ensures .0) (c .before .before .before .before .before .left .ensures .0)
 
 eval-with-right-requires : (t : ℕ) → eval-with-lts.Need-right-requires (eval-with-claims t) (eval-with-at t) eval-with.Post
 eval-with-right-requires t c κs = omega (arith, c .before .before .before .before .before .before .before .before .before .before .before .pre .1 .0)
@@ -122,31 +122,31 @@ eval-with-right-requires t c κs = omega (arith, c .before .before .before .befo
 eval-with-part-requires-2 : (t : ℕ) → eval-with-lts.Need-part-requires-2 (eval-with-claims t) (eval-with-at t) eval-with.Post
 eval-with-part-requires-2 t c κs = c .right .ensures .1
 
-eval-with-sub-eval-with : (t : ℕ) → eval-with-lts.Need-sub-eval-with (eval-with-claims t) (eval-with-at t) eval-with.Post
-eval-with-sub-eval-with t c = omega (arith, c .before .before .if2 .left)
+eval-with-sub-round : (t : ℕ) → eval-with-lts.Need-sub-round (eval-with-claims t) (eval-with-at t) eval-with.Post
+eval-with-sub-round t c = omega (arith, c .before .before .if2 .left)
 
-eval-with-add-eval-with : (t : ℕ) → eval-with-lts.Need-add-eval-with (eval-with-claims t) (eval-with-at t) eval-with.Post
-eval-with-add-eval-with t c = omega (arith, ev-within (c .before .before .before .before .before .before .before .before .before .before .before .before .before .args .s .now) (c .before .before .before .before .before .before .before .before .before .before .before .before .before .args .cells .now) (c .before .before .before .before .before .before .before .before .before .before .before .before .before .args .n) (treeOf (c .before .before .before .before .before .before .before .before .before .before .before .before .before .args .t .now) (c .before .before .before .before .before .before .part .result)) (c .before .before .before .before .before .before .before .before .before .before .before .before .before .args .p) (omega (arith, c .before .before .before .before .before .before .before .before .before .before .before .before .before .pre .1 .0)), c .before .before .before .eval-with .ensures, c .before .before .before .before .before .before .before .before .before .before .before .before .before .pre .1 .0)
+eval-with-add-round : (t : ℕ) → eval-with-lts.Need-add-round (eval-with-claims t) (eval-with-at t) eval-with.Post
+eval-with-add-round t c = omega (arith, ev-within (c .before .before .before .before .before .before .before .before .before .before .before .before .before .args .s .now) (c .before .before .before .before .before .before .before .before .before .before .before .before .before .args .cells .now) (c .before .before .before .before .before .before .before .before .before .before .before .before .before .args .n) (treeOf (c .before .before .before .before .before .before .before .before .before .before .before .before .before .args .t .now) (c .before .before .before .before .before .before .part .result)) (c .before .before .before .before .before .before .before .before .before .before .before .before .before .args .p) (omega (arith, c .before .before .before .before .before .before .before .before .before .before .before .before .before .pre .1 .0)), c .before .before .before .round .ensures, c .before .before .before .before .before .before .before .before .before .before .before .before .before .pre .1 .0)
 
-eval-with-eval-with-requires-2 : (t : ℕ) → eval-with-lts.Need-eval-with-requires-2 (eval-with-claims t) (eval-with-at t) eval-with.Post
-eval-with-eval-with-requires-2 t c κs = (omega (arith, below-le (c .before .right .result) (c .before .before .before .before .before .before .before .before .before .before .before .before .before .args .x - 1), c .part2 .ensures, c .before .before .before .before .before .before .before .before .if1 .left, ev-within (c .before .before .before .before .before .before .before .before .before .before .before .before .before .args .s .now) (c .before .before .before .before .before .before .before .before .before .before .before .before .before .args .cells .now) (c .before .before .before .before .before .before .before .before .before .before .before .before .before .args .n) (treeOf (c .before .before .before .before .before .before .before .before .before .before .before .before .before .args .t .now) (c .before .before .before .before .before .before .part .result)) (c .before .before .before .before .before .before .before .before .before .before .before .before .before .args .p) (omega (arith, c .before .before .before .before .before .before .before .before .before .before .before .before .before .pre .1 .0)), c .before .before .before .eval-with .ensures, c .before .before .if2 .left, c .before .before .before .before .before .before .before .before .before .before .before .before .before .pre .0, c .before .before .before .before .before .before .before .before .before .before .before .before .before .pre .1 .0), (omega (arith, below-le (c .before .right .result) (c .before .before .before .before .before .before .before .before .before .before .before .before .before .args .x - 1), c .part2 .ensures, c .before .before .before .before .before .before .before .before .if1 .left, ev-within (c .before .before .before .before .before .before .before .before .before .before .before .before .before .args .s .now) (c .before .before .before .before .before .before .before .before .before .before .before .before .before .args .cells .now) (c .before .before .before .before .before .before .before .before .before .before .before .before .before .args .n) (treeOf (c .before .before .before .before .before .before .before .before .before .before .before .before .before .args .t .now) (c .before .before .before .before .before .before .part .result)) (c .before .before .before .before .before .before .before .before .before .before .before .before .before .args .p) (omega (arith, c .before .before .before .before .before .before .before .before .before .before .before .before .before .pre .1 .0)), c .before .before .before .eval-with .ensures, c .before .before .if2 .left, c .before .before .before .before .before .before .before .before .before .before .before .before .before .pre .0, c .before .before .before .before .before .before .before .before .before .before .before .before .before .pre .1 .0), knows-from (c .before .before .before .before .before .before .before .before .before .before .before .before .before .args .t .now) (c .before .before .before .before .before .before .before .before .before .before .before .before .before .args .s .now) (c .before .before .before .before .before .before .before .before .before .before .before .before .before .args .cells .now) (c .before .before .before .before .before .before .before .before .before .before .before .before .before .args .mem .now) (c .before .before .before .before .before .before .before .before .before .before .before .before .before .args .n) 0 0 (c .before .before .before .before .before .before .before .before .before .before .before .before .before .args .p) (c .before .before .before .before .before .before .before .before .before .before .before .before .before .args .p + (c .before .before .before .eval-with .result - 1)) (omega arith) (omega arith) (c .before .before .before .before .before .before .before .before .before .before .before .before .before .pre .1 .1)))
+eval-with-round-requires-2 : (t : ℕ) → eval-with-lts.Need-round-requires-2 (eval-with-claims t) (eval-with-at t) eval-with.Post
+eval-with-round-requires-2 t c κs = (omega (arith, below-le (c .before .right .result) (c .before .before .before .before .before .before .before .before .before .before .before .before .before .args .x - 1), c .part2 .ensures, c .before .before .before .before .before .before .before .before .if1 .left, ev-within (c .before .before .before .before .before .before .before .before .before .before .before .before .before .args .s .now) (c .before .before .before .before .before .before .before .before .before .before .before .before .before .args .cells .now) (c .before .before .before .before .before .before .before .before .before .before .before .before .before .args .n) (treeOf (c .before .before .before .before .before .before .before .before .before .before .before .before .before .args .t .now) (c .before .before .before .before .before .before .part .result)) (c .before .before .before .before .before .before .before .before .before .before .before .before .before .args .p) (omega (arith, c .before .before .before .before .before .before .before .before .before .before .before .before .before .pre .1 .0)), c .before .before .before .round .ensures, c .before .before .if2 .left, c .before .before .before .before .before .before .before .before .before .before .before .before .before .pre .0, c .before .before .before .before .before .before .before .before .before .before .before .before .before .pre .1 .0), (omega (arith, below-le (c .before .right .result) (c .before .before .before .before .before .before .before .before .before .before .before .before .before .args .x - 1), c .part2 .ensures, c .before .before .before .before .before .before .before .before .if1 .left, ev-within (c .before .before .before .before .before .before .before .before .before .before .before .before .before .args .s .now) (c .before .before .before .before .before .before .before .before .before .before .before .before .before .args .cells .now) (c .before .before .before .before .before .before .before .before .before .before .before .before .before .args .n) (treeOf (c .before .before .before .before .before .before .before .before .before .before .before .before .before .args .t .now) (c .before .before .before .before .before .before .part .result)) (c .before .before .before .before .before .before .before .before .before .before .before .before .before .args .p) (omega (arith, c .before .before .before .before .before .before .before .before .before .before .before .before .before .pre .1 .0)), c .before .before .before .round .ensures, c .before .before .if2 .left, c .before .before .before .before .before .before .before .before .before .before .before .before .before .pre .0, c .before .before .before .before .before .before .before .before .before .before .before .before .before .pre .1 .0), knows-from (c .before .before .before .before .before .before .before .before .before .before .before .before .before .args .t .now) (c .before .before .before .before .before .before .before .before .before .before .before .before .before .args .s .now) (c .before .before .before .before .before .before .before .before .before .before .before .before .before .args .cells .now) (c .before .before .before .before .before .before .before .before .before .before .before .before .before .args .mem .now) (c .before .before .before .before .before .before .before .before .before .before .before .before .before .args .n) 0 0 (c .before .before .before .before .before .before .before .before .before .before .before .before .before .args .p) (c .before .before .before .before .before .before .before .before .before .before .before .before .before .args .p + (c .before .before .before .round .result - 1)) (omega arith) (omega arith) (c .before .before .before .before .before .before .before .before .before .before .before .before .before .pre .1 .1)))
 
 eval-with-returns-3 : (t : ℕ) → eval-with-lts.Need-returns-3 (eval-with-claims t) (eval-with-at t) eval-with.Post
 unfolding ev nodeBy
-eval-with-returns-3 t c = seq-right _ _ _ _ (c .before .before .before .before .before .eval-with .ensures ∙ ap (λ (i : ℕ). ev (c .before .before .before .before .before .before .before .before .before .before .before .before .before .before .before .args .s .now) (c .before .before .before .before .before .before .before .before .before .before .before .before .before .before .before .args .cells .now) (c .before .before .before .before .before .before .before .before .before .before .before .before .before .before .before .args .n) (treeOf (c .before .before .before .before .before .before .before .before .before .before .before .before .before .before .before .args .t .now) i) (c .before .before .before .before .before .before .before .before .before .before .before .before .before .before .before .args .p)) (c .before .before .before .before .before .before .before .before .part .ensures)) (c .before .before .before .before .if2 .left) (c .before .eval-with2 .ensures ∙ ap (λ (i : ℕ). ev (c .before .before .before .before .before .before .before .before .before .before .before .before .before .before .before .args .s .now) (c .before .before .before .before .before .before .before .before .before .before .before .before .before .before .before .args .cells .now) (c .before .before .before .before .before .before .before .before .before .before .before .before .before .before .before .args .n) (treeOf (c .before .before .before .before .before .before .before .before .before .before .before .before .before .before .before .args .t .now) i) (c .before .before .before .before .before .before .before .before .before .before .before .before .before .before .before .args .p + (c .before .before .before .before .before .eval-with .result - 1))) (c .before .before .part2 .ensures ∙ ap (λ (j : ℕ). below j (c .before .before .before .before .before .before .before .before .before .before .before .before .before .before .before .args .x - 1)) (c .before .before .before .right .ensures .0))) (c .if3 .taken) ∙ node-ev (c .before .before .before .before .before .before .before .before .before .before .before .before .before .before .before .args .s .now) (c .before .before .before .before .before .before .before .before .before .before .before .before .before .before .before .args .cells .now) (c .before .before .before .before .before .before .before .before .before .before .before .before .before .before .before .args .t .now) (c .before .before .before .before .before .before .before .before .before .before .before .before .before .before .before .args .n) (c .before .before .before .before .before .before .before .before .before .before .before .before .before .before .before .args .x) (c .before .before .before .before .before .before .before .before .before .before .before .before .before .before .before .args .p) 2 (c .before .before .before .before .before .before .before .before .before .left .result) (c .before .before .before .before .before .before .before .before .before .before .if1 .left) (sym (c .before .before .before .before .before .before .match .keys3) ∙ c .before .before .before .before .before .before .before .op .ensures .0) (c .before .before .before .before .before .before .before .before .before .left .ensures .0)
+eval-with-returns-3 t c = seq-right _ _ _ _ (c .before .before .before .before .before .round .ensures ∙ ap (λ (i : ℕ). ev (c .before .before .before .before .before .before .before .before .before .before .before .before .before .before .before .args .s .now) (c .before .before .before .before .before .before .before .before .before .before .before .before .before .before .before .args .cells .now) (c .before .before .before .before .before .before .before .before .before .before .before .before .before .before .before .args .n) (treeOf (c .before .before .before .before .before .before .before .before .before .before .before .before .before .before .before .args .t .now) i) (c .before .before .before .before .before .before .before .before .before .before .before .before .before .before .before .args .p)) (c .before .before .before .before .before .before .before .before .part .ensures)) (c .before .before .before .before .if2 .left) (c .before .round2 .ensures ∙ ap (λ (i : ℕ). ev (c .before .before .before .before .before .before .before .before .before .before .before .before .before .before .before .args .s .now) (c .before .before .before .before .before .before .before .before .before .before .before .before .before .before .before .args .cells .now) (c .before .before .before .before .before .before .before .before .before .before .before .before .before .before .before .args .n) (treeOf (c .before .before .before .before .before .before .before .before .before .before .before .before .before .before .before .args .t .now) i) (c .before .before .before .before .before .before .before .before .before .before .before .before .before .before .before .args .p + (c .before .before .before .before .before .round .result - 1))) (c .before .before .part2 .ensures ∙ ap (λ (j : ℕ). below j (c .before .before .before .before .before .before .before .before .before .before .before .before .before .before .before .args .x - 1)) (c .before .before .before .right .ensures .0))) (c .if3 .taken) ∙ node-ev (c .before .before .before .before .before .before .before .before .before .before .before .before .before .before .before .args .s .now) (c .before .before .before .before .before .before .before .before .before .before .before .before .before .before .before .args .cells .now) (c .before .before .before .before .before .before .before .before .before .before .before .before .before .before .before .args .t .now) (c .before .before .before .before .before .before .before .before .before .before .before .before .before .before .before .args .n) (c .before .before .before .before .before .before .before .before .before .before .before .before .before .before .before .args .x) (c .before .before .before .before .before .before .before .before .before .before .before .before .before .before .before .args .p) 2 (c .before .before .before .before .before .before .before .before .before .left .result) (c .before .before .before .before .before .before .before .before .before .before .if1 .left) (sym (c .before .before .before .before .before .before .match .keys3) ∙ c .before .before .before .before .before .before .before .op .ensures .0) (c .before .before .before .before .before .before .before .before .before .left .ensures .0)
 
 eval-with-add-result : (t : ℕ) → eval-with-lts.Need-add-result (eval-with-claims t) (eval-with-at t) eval-with.Post
-eval-with-add-result t c = omega (arith, ev-within (c .before .before .before .before .before .before .before .before .before .before .before .before .before .before .before .args .s .now) (c .before .before .before .before .before .before .before .before .before .before .before .before .before .before .before .args .cells .now) (c .before .before .before .before .before .before .before .before .before .before .before .before .before .before .before .args .n) (treeOf (c .before .before .before .before .before .before .before .before .before .before .before .before .before .before .before .args .t .now) (c .before .before .before .before .before .before .before .before .part .result)) (c .before .before .before .before .before .before .before .before .before .before .before .before .before .before .before .args .p) (omega (arith, c .before .before .before .before .before .before .before .before .before .before .before .before .before .before .before .pre .1 .0)), c .before .before .before .before .before .eval-with .ensures, ev-within (c .before .before .before .before .before .before .before .before .before .before .before .before .before .before .before .args .s .now) (c .before .before .before .before .before .before .before .before .before .before .before .before .before .before .before .args .cells .now) (c .before .before .before .before .before .before .before .before .before .before .before .before .before .before .before .args .n) (treeOf (c .before .before .before .before .before .before .before .before .before .before .before .before .before .before .before .args .t .now) (c .before .before .part2 .result)) (c .before .before .before .before .before .before .before .before .before .before .before .before .before .before .before .args .p + (c .before .before .before .before .before .eval-with .result - 1)) (omega (arith, ev-within (c .before .before .before .before .before .before .before .before .before .before .before .before .before .before .before .args .s .now) (c .before .before .before .before .before .before .before .before .before .before .before .before .before .before .before .args .cells .now) (c .before .before .before .before .before .before .before .before .before .before .before .before .before .before .before .args .n) (treeOf (c .before .before .before .before .before .before .before .before .before .before .before .before .before .before .before .args .t .now) (c .before .before .before .before .before .before .before .before .part .result)) (c .before .before .before .before .before .before .before .before .before .before .before .before .before .before .before .args .p) (omega (arith, c .before .before .before .before .before .before .before .before .before .before .before .before .before .before .before .pre .1 .0)), c .before .before .before .before .before .eval-with .ensures, c .before .before .before .before .before .before .before .before .before .before .before .before .before .before .before .pre .1 .0)), c .before .eval-with2 .ensures, c .before .before .before .before .before .before .before .before .before .before .before .before .before .before .before .pre .1 .0)
+eval-with-add-result t c = omega (arith, ev-within (c .before .before .before .before .before .before .before .before .before .before .before .before .before .before .before .args .s .now) (c .before .before .before .before .before .before .before .before .before .before .before .before .before .before .before .args .cells .now) (c .before .before .before .before .before .before .before .before .before .before .before .before .before .before .before .args .n) (treeOf (c .before .before .before .before .before .before .before .before .before .before .before .before .before .before .before .args .t .now) (c .before .before .before .before .before .before .before .before .part .result)) (c .before .before .before .before .before .before .before .before .before .before .before .before .before .before .before .args .p) (omega (arith, c .before .before .before .before .before .before .before .before .before .before .before .before .before .before .before .pre .1 .0)), c .before .before .before .before .before .round .ensures, ev-within (c .before .before .before .before .before .before .before .before .before .before .before .before .before .before .before .args .s .now) (c .before .before .before .before .before .before .before .before .before .before .before .before .before .before .before .args .cells .now) (c .before .before .before .before .before .before .before .before .before .before .before .before .before .before .before .args .n) (treeOf (c .before .before .before .before .before .before .before .before .before .before .before .before .before .before .before .args .t .now) (c .before .before .part2 .result)) (c .before .before .before .before .before .before .before .before .before .before .before .before .before .before .before .args .p + (c .before .before .before .before .before .round .result - 1)) (omega (arith, ev-within (c .before .before .before .before .before .before .before .before .before .before .before .before .before .before .before .args .s .now) (c .before .before .before .before .before .before .before .before .before .before .before .before .before .before .before .args .cells .now) (c .before .before .before .before .before .before .before .before .before .before .before .before .before .before .before .args .n) (treeOf (c .before .before .before .before .before .before .before .before .before .before .before .before .before .before .before .args .t .now) (c .before .before .before .before .before .before .before .before .part .result)) (c .before .before .before .before .before .before .before .before .before .before .before .before .before .before .before .args .p) (omega (arith, c .before .before .before .before .before .before .before .before .before .before .before .before .before .before .before .pre .1 .0)), c .before .before .before .before .before .round .ensures, c .before .before .before .before .before .before .before .before .before .before .before .before .before .before .before .pre .1 .0)), c .before .round2 .ensures, c .before .before .before .before .before .before .before .before .before .before .before .before .before .before .before .pre .1 .0)
 
 eval-with-sub-result : (t : ℕ) → eval-with-lts.Need-sub-result (eval-with-claims t) (eval-with-at t) eval-with.Post
 eval-with-sub-result t c = omega (arith, c .before .before .before .before .if2 .left)
 
-eval-with-eval-with-requires-3 : (t : ℕ) → eval-with-lts.Need-eval-with-requires-3 (eval-with-claims t) (eval-with-at t) eval-with.Post
-eval-with-eval-with-requires-3 t c κs = (omega (arith, below-le (c .before .before .before .left .result) (c .before .before .before .before .before .before .before .before .before .args .x - 1), c .before .before .part .ensures, c .before .before .before .before .if1 .left, c .before .before .before .before .before .before .before .before .before .pre .0, c .before .before .before .before .before .before .before .before .before .pre .1 .0), (omega (arith, below-le (c .before .before .before .left .result) (c .before .before .before .before .before .before .before .before .before .args .x - 1), c .before .before .part .ensures, c .before .before .before .before .if1 .left, c .before .before .before .before .before .before .before .before .before .pre .0, c .before .before .before .before .before .before .before .before .before .pre .1 .0), c .before .before .before .before .before .before .before .before .before .pre .1 .1))
+eval-with-round-requires-3 : (t : ℕ) → eval-with-lts.Need-round-requires-3 (eval-with-claims t) (eval-with-at t) eval-with.Post
+eval-with-round-requires-3 t c κs = (omega (arith, below-le (c .before .before .before .left .result) (c .before .before .before .before .before .before .before .before .before .args .x - 1), c .before .before .part .ensures, c .before .before .before .before .if1 .left, c .before .before .before .before .before .before .before .before .before .pre .0, c .before .before .before .before .before .before .before .before .before .pre .1 .0), (omega (arith, below-le (c .before .before .before .left .result) (c .before .before .before .before .before .before .before .before .before .args .x - 1), c .before .before .part .ensures, c .before .before .before .before .if1 .left, c .before .before .before .before .before .before .before .before .before .pre .0, c .before .before .before .before .before .before .before .before .before .pre .1 .0), c .before .before .before .before .before .before .before .before .before .pre .1 .1))
 
 eval-with-returns-4 : (t : ℕ) → eval-with-lts.Need-returns-4 (eval-with-claims t) (eval-with-at t) eval-with.Post
 unfolding ev nodeBy
-eval-with-returns-4 t c = alt-left _ _ _ (c .before .eval-with3 .ensures ∙ ap (λ (i : ℕ). ev (c .before .before .before .before .before .before .before .before .before .before .before .args .s .now) (c .before .before .before .before .before .before .before .before .before .before .before .args .cells .now) (c .before .before .before .before .before .before .before .before .before .before .before .args .n) (treeOf (c .before .before .before .before .before .before .before .before .before .before .before .args .t .now) i) (c .before .before .before .before .before .before .before .before .before .before .before .args .p)) (c .before .before .before .before .part .ensures)) (c .if4 .taken) ∙ node-ev (c .before .before .before .before .before .before .before .before .before .before .before .args .s .now) (c .before .before .before .before .before .before .before .before .before .before .before .args .cells .now) (c .before .before .before .before .before .before .before .before .before .before .before .args .t .now) (c .before .before .before .before .before .before .before .before .before .before .before .args .n) (c .before .before .before .before .before .before .before .before .before .before .before .args .x) (c .before .before .before .before .before .before .before .before .before .before .before .args .p) 3 (c .before .before .before .before .before .left .result) (c .before .before .before .before .before .before .if1 .left) (sym (c .before .before .match .keys4) ∙ c .before .before .before .op .ensures .0) (c .before .before .before .before .before .left .ensures .0)
+eval-with-returns-4 t c = alt-left _ _ _ (c .before .round3 .ensures ∙ ap (λ (i : ℕ). ev (c .before .before .before .before .before .before .before .before .before .before .before .args .s .now) (c .before .before .before .before .before .before .before .before .before .before .before .args .cells .now) (c .before .before .before .before .before .before .before .before .before .before .before .args .n) (treeOf (c .before .before .before .before .before .before .before .before .before .before .before .args .t .now) i) (c .before .before .before .before .before .before .before .before .before .before .before .args .p)) (c .before .before .before .before .part .ensures)) (c .if4 .taken) ∙ node-ev (c .before .before .before .before .before .before .before .before .before .before .before .args .s .now) (c .before .before .before .before .before .before .before .before .before .before .before .args .cells .now) (c .before .before .before .before .before .before .before .before .before .before .before .args .t .now) (c .before .before .before .before .before .before .before .before .before .before .before .args .n) (c .before .before .before .before .before .before .before .before .before .before .before .args .x) (c .before .before .before .before .before .before .before .before .before .before .before .args .p) 3 (c .before .before .before .before .before .left .result) (c .before .before .before .before .before .before .if1 .left) (sym (c .before .before .match .keys4) ∙ c .before .before .before .op .ensures .0) (c .before .before .before .before .before .left .ensures .0)
 
 eval-with-right-requires-2 : (t : ℕ) → eval-with-lts.Need-right-requires-2 (eval-with-claims t) (eval-with-at t) eval-with.Post
 eval-with-right-requires-2 t c κs = omega (arith, c .before .before .before .before .before .before .before .before .before .before .before .pre .1 .0)
@@ -154,15 +154,15 @@ eval-with-right-requires-2 t c κs = omega (arith, c .before .before .before .be
 eval-with-part-requires-3 : (t : ℕ) → eval-with-lts.Need-part-requires-3 (eval-with-claims t) (eval-with-at t) eval-with.Post
 eval-with-part-requires-3 t c κs = c .right2 .ensures .1
 
-eval-with-eval-with-requires-4 : (t : ℕ) → eval-with-lts.Need-eval-with-requires-4 (eval-with-claims t) (eval-with-at t) eval-with.Post
-eval-with-eval-with-requires-4 t c κs = (omega (arith, below-le (c .before .right2 .result) (c .before .before .before .before .before .before .before .before .before .before .before .before .before .args .x - 1), c .part3 .ensures, c .before .before .before .before .before .before .before .before .if1 .left, c .before .before .before .before .before .before .before .before .before .before .before .before .before .pre .0, c .before .before .before .before .before .before .before .before .before .before .before .before .before .pre .1 .0), (omega (arith, below-le (c .before .right2 .result) (c .before .before .before .before .before .before .before .before .before .before .before .before .before .args .x - 1), c .part3 .ensures, c .before .before .before .before .before .before .before .before .if1 .left, c .before .before .before .before .before .before .before .before .before .before .before .before .before .pre .0, c .before .before .before .before .before .before .before .before .before .before .before .before .before .pre .1 .0), c .before .before .before .before .before .before .before .before .before .before .before .before .before .pre .1 .1))
+eval-with-round-requires-4 : (t : ℕ) → eval-with-lts.Need-round-requires-4 (eval-with-claims t) (eval-with-at t) eval-with.Post
+eval-with-round-requires-4 t c κs = (omega (arith, below-le (c .before .right2 .result) (c .before .before .before .before .before .before .before .before .before .before .before .before .before .args .x - 1), c .part3 .ensures, c .before .before .before .before .before .before .before .before .if1 .left, c .before .before .before .before .before .before .before .before .before .before .before .before .before .pre .0, c .before .before .before .before .before .before .before .before .before .before .before .before .before .pre .1 .0), (omega (arith, below-le (c .before .right2 .result) (c .before .before .before .before .before .before .before .before .before .before .before .before .before .args .x - 1), c .part3 .ensures, c .before .before .before .before .before .before .before .before .if1 .left, c .before .before .before .before .before .before .before .before .before .before .before .before .before .pre .0, c .before .before .before .before .before .before .before .before .before .before .before .before .before .pre .1 .0), c .before .before .before .before .before .before .before .before .before .before .before .before .before .pre .1 .1))
 
-eval-with-eval-with-requires-5 : (t : ℕ) → eval-with-lts.Need-eval-with-requires-5 (eval-with-claims t) (eval-with-at t) eval-with.Post
-eval-with-eval-with-requires-5 t c κs = (omega (arith, below-le (c .before .before .before .left .result) (c .before .before .before .before .before .before .before .before .before .args .x - 1), c .before .before .part .ensures, c .before .before .before .before .if1 .left, c .before .before .before .before .before .before .before .before .before .pre .0, c .before .before .before .before .before .before .before .before .before .pre .1 .0), (omega (arith, below-le (c .before .before .before .left .result) (c .before .before .before .before .before .before .before .before .before .args .x - 1), c .before .before .part .ensures, c .before .before .before .before .if1 .left, c .before .before .before .before .before .before .before .before .before .pre .0, c .before .before .before .before .before .before .before .before .before .pre .1 .0), c .before .before .before .before .before .before .before .before .before .pre .1 .1))
+eval-with-round-requires-5 : (t : ℕ) → eval-with-lts.Need-round-requires-5 (eval-with-claims t) (eval-with-at t) eval-with.Post
+eval-with-round-requires-5 t c κs = (omega (arith, below-le (c .before .before .before .left .result) (c .before .before .before .before .before .before .before .before .before .args .x - 1), c .before .before .part .ensures, c .before .before .before .before .if1 .left, c .before .before .before .before .before .before .before .before .before .pre .0, c .before .before .before .before .before .before .before .before .before .pre .1 .0), (omega (arith, below-le (c .before .before .before .left .result) (c .before .before .before .before .before .before .before .before .before .args .x - 1), c .before .before .part .ensures, c .before .before .before .before .if1 .left, c .before .before .before .before .before .before .before .before .before .pre .0, c .before .before .before .before .before .before .before .before .before .pre .1 .0), c .before .before .before .before .before .before .before .before .before .pre .1 .1))
 
 eval-with-returns-5 : (t : ℕ) → eval-with-lts.Need-returns-5 (eval-with-claims t) (eval-with-at t) eval-with.Post
 unfolding ev nodeBy
-eval-with-returns-5 t c = opt-fails _ _ (c .before .eval-with5 .ensures ∙ ap (λ (i : ℕ). ev (c .before .before .before .before .before .before .before .before .before .before .before .args .s .now) (c .before .before .before .before .before .before .before .before .before .before .before .args .cells .now) (c .before .before .before .before .before .before .before .before .before .before .before .args .n) (treeOf (c .before .before .before .before .before .before .before .before .before .before .before .args .t .now) i) (c .before .before .before .before .before .before .before .before .before .before .before .args .p)) (c .before .before .before .before .part .ensures)) (c .if5 .taken) ∙ node-ev (c .before .before .before .before .before .before .before .before .before .before .before .args .s .now) (c .before .before .before .before .before .before .before .before .before .before .before .args .cells .now) (c .before .before .before .before .before .before .before .before .before .before .before .args .t .now) (c .before .before .before .before .before .before .before .before .before .before .before .args .n) (c .before .before .before .before .before .before .before .before .before .before .before .args .x) (c .before .before .before .before .before .before .before .before .before .before .before .args .p) 4 (c .before .before .before .before .before .left .result) (c .before .before .before .before .before .before .if1 .left) (sym (c .before .before .match .keys5) ∙ c .before .before .before .op .ensures .0) (c .before .before .before .before .before .left .ensures .0)
+eval-with-returns-5 t c = opt-fails _ _ (c .before .round5 .ensures ∙ ap (λ (i : ℕ). ev (c .before .before .before .before .before .before .before .before .before .before .before .args .s .now) (c .before .before .before .before .before .before .before .before .before .before .before .args .cells .now) (c .before .before .before .before .before .before .before .before .before .before .before .args .n) (treeOf (c .before .before .before .before .before .before .before .before .before .before .before .args .t .now) i) (c .before .before .before .before .before .before .before .before .before .before .before .args .p)) (c .before .before .before .before .part .ensures)) (c .if5 .taken) ∙ node-ev (c .before .before .before .before .before .before .before .before .before .before .before .args .s .now) (c .before .before .before .before .before .before .before .before .before .before .before .args .cells .now) (c .before .before .before .before .before .before .before .before .before .before .before .args .t .now) (c .before .before .before .before .before .before .before .before .before .before .before .args .n) (c .before .before .before .before .before .before .before .before .before .before .before .args .x) (c .before .before .before .before .before .before .before .before .before .before .before .args .p) 4 (c .before .before .before .before .before .left .result) (c .before .before .before .before .before .before .if1 .left) (sym (c .before .before .match .keys5) ∙ c .before .before .before .op .ensures .0) (c .before .before .before .before .before .left .ensures .0)
 
 eval-with-many-requires : (t : ℕ) → eval-with-lts.Need-many-requires (eval-with-claims t) (eval-with-at t) eval-with.Post
 eval-with-many-requires t c κs = (omega (arith, below-le (c .before .before .before .left .result) (c .before .before .before .before .before .before .before .before .before .args .x - 1), c .before .before .part .ensures, c .before .before .before .before .if1 .left, c .before .before .before .before .before .before .before .before .before .pre .0, c .before .before .before .before .before .before .before .before .before .pre .1 .0), (omega (arith, below-le (c .before .before .before .left .result) (c .before .before .before .before .before .before .before .before .before .args .x - 1), c .before .before .part .ensures, c .before .before .before .before .if1 .left, c .before .before .before .before .before .before .before .before .before .pre .0, c .before .before .before .before .before .before .before .before .before .pre .1 .0), c .before .before .before .before .before .before .before .before .before .pre .1 .1))
@@ -170,38 +170,38 @@ eval-with-many-requires t c κs = (omega (arith, below-le (c .before .before .be
 eval-with-add-result-2 : (t : ℕ) → eval-with-lts.Need-add-result-2 (eval-with-claims t) (eval-with-at t) eval-with.Post
 eval-with-add-result-2 t c = omega (arith, rounds-within (c .before .before .before .before .before .before .before .before .before .before .args .s .now) (c .before .before .before .before .before .before .before .before .before .before .args .cells .now) (c .before .before .before .before .before .before .before .before .before .before .args .t .now) (c .before .before .before .before .before .before .before .before .before .before .args .n) (c .before .before .before .part .result) (c .before .before .before .before .before .before .before .before .before .before .args .p) (omega (arith, c .before .before .before .before .before .before .before .before .before .before .pre .1 .0)), c .many .ensures, c .before .before .before .before .before .before .before .before .before .before .pre .1 .0)
 
-eval-with-eval-with-requires-6 : (t : ℕ) → eval-with-lts.Need-eval-with-requires-6 (eval-with-claims t) (eval-with-at t) eval-with.Post
-eval-with-eval-with-requires-6 t c κs = (omega (arith, below-le (c .before .before .before .left .result) (c .before .before .before .before .before .before .before .before .before .args .x - 1), c .before .before .part .ensures, c .before .before .before .before .if1 .left, c .before .before .before .before .before .before .before .before .before .pre .0, c .before .before .before .before .before .before .before .before .before .pre .1 .0), (omega (arith, below-le (c .before .before .before .left .result) (c .before .before .before .before .before .before .before .before .before .args .x - 1), c .before .before .part .ensures, c .before .before .before .before .if1 .left, c .before .before .before .before .before .before .before .before .before .pre .0, c .before .before .before .before .before .before .before .before .before .pre .1 .0), c .before .before .before .before .before .before .before .before .before .pre .1 .1))
+eval-with-round-requires-6 : (t : ℕ) → eval-with-lts.Need-round-requires-6 (eval-with-claims t) (eval-with-at t) eval-with.Post
+eval-with-round-requires-6 t c κs = (omega (arith, below-le (c .before .before .before .left .result) (c .before .before .before .before .before .before .before .before .before .args .x - 1), c .before .before .part .ensures, c .before .before .before .before .if1 .left, c .before .before .before .before .before .before .before .before .before .pre .0, c .before .before .before .before .before .before .before .before .before .pre .1 .0), (omega (arith, below-le (c .before .before .before .left .result) (c .before .before .before .before .before .before .before .before .before .args .x - 1), c .before .before .part .ensures, c .before .before .before .before .if1 .left, c .before .before .before .before .before .before .before .before .before .pre .0, c .before .before .before .before .before .before .before .before .before .pre .1 .0), c .before .before .before .before .before .before .before .before .before .pre .1 .1))
 
 eval-with-returns-6 : (t : ℕ) → eval-with-lts.Need-returns-6 (eval-with-claims t) (eval-with-at t) eval-with.Post
 unfolding ev nodeBy
-eval-with-returns-6 t c = plus-ends (λ (q : ℕ). ev (c .before .before .before .before .before .before .before .before .before .before .before .args .s .now) (c .before .before .before .before .before .before .before .before .before .before .before .args .cells .now) (c .before .before .before .before .before .before .before .before .before .before .before .args .n) (treeOf (c .before .before .before .before .before .before .before .before .before .before .before .args .t .now) (below (c .before .before .before .before .before .left .result) (c .before .before .before .before .before .before .before .before .before .before .before .args .x - 1))) q) (length (c .before .before .before .before .before .before .before .before .before .before .before .args .s .now)) (c .before .before .before .before .before .before .before .before .before .before .before .args .p) _ (c .before .eval-with6 .ensures ∙ ap (λ (i : ℕ). ev (c .before .before .before .before .before .before .before .before .before .before .before .args .s .now) (c .before .before .before .before .before .before .before .before .before .before .before .args .cells .now) (c .before .before .before .before .before .before .before .before .before .before .before .args .n) (treeOf (c .before .before .before .before .before .before .before .before .before .before .before .args .t .now) i) (c .before .before .before .before .before .before .before .before .before .before .before .args .p)) (c .before .before .before .before .part .ensures)) (c .if6 .taken) ∙ node-ev (c .before .before .before .before .before .before .before .before .before .before .before .args .s .now) (c .before .before .before .before .before .before .before .before .before .before .before .args .cells .now) (c .before .before .before .before .before .before .before .before .before .before .before .args .t .now) (c .before .before .before .before .before .before .before .before .before .before .before .args .n) (c .before .before .before .before .before .before .before .before .before .before .before .args .x) (c .before .before .before .before .before .before .before .before .before .before .before .args .p) 6 (c .before .before .before .before .before .left .result) (c .before .before .before .before .before .before .if1 .left) (sym (c .before .before .match .keys7) ∙ c .before .before .before .op .ensures .0) (c .before .before .before .before .before .left .ensures .0)
+eval-with-returns-6 t c = plus-ends (λ (q : ℕ). ev (c .before .before .before .before .before .before .before .before .before .before .before .args .s .now) (c .before .before .before .before .before .before .before .before .before .before .before .args .cells .now) (c .before .before .before .before .before .before .before .before .before .before .before .args .n) (treeOf (c .before .before .before .before .before .before .before .before .before .before .before .args .t .now) (below (c .before .before .before .before .before .left .result) (c .before .before .before .before .before .before .before .before .before .before .before .args .x - 1))) q) (length (c .before .before .before .before .before .before .before .before .before .before .before .args .s .now)) (c .before .before .before .before .before .before .before .before .before .before .before .args .p) _ (c .before .round6 .ensures ∙ ap (λ (i : ℕ). ev (c .before .before .before .before .before .before .before .before .before .before .before .args .s .now) (c .before .before .before .before .before .before .before .before .before .before .before .args .cells .now) (c .before .before .before .before .before .before .before .before .before .before .before .args .n) (treeOf (c .before .before .before .before .before .before .before .before .before .before .before .args .t .now) i) (c .before .before .before .before .before .before .before .before .before .before .before .args .p)) (c .before .before .before .before .part .ensures)) (c .if6 .taken) ∙ node-ev (c .before .before .before .before .before .before .before .before .before .before .before .args .s .now) (c .before .before .before .before .before .before .before .before .before .before .before .args .cells .now) (c .before .before .before .before .before .before .before .before .before .before .before .args .t .now) (c .before .before .before .before .before .before .before .before .before .before .before .args .n) (c .before .before .before .before .before .before .before .before .before .before .before .args .x) (c .before .before .before .before .before .before .before .before .before .before .before .args .p) 6 (c .before .before .before .before .before .left .result) (c .before .before .before .before .before .before .if1 .left) (sym (c .before .before .match .keys7) ∙ c .before .before .before .op .ensures .0) (c .before .before .before .before .before .left .ensures .0)
 
 eval-with-sub-many : (t : ℕ) → eval-with-lts.Need-sub-many (eval-with-claims t) (eval-with-at t) eval-with.Post
 eval-with-sub-many t c = omega (arith, c .if6 .left)
 
 eval-with-add-many : (t : ℕ) → eval-with-lts.Need-add-many (eval-with-claims t) (eval-with-at t) eval-with.Post
-eval-with-add-many t c = omega (arith, ev-within (c .before .before .before .before .before .before .before .before .before .before .before .args .s .now) (c .before .before .before .before .before .before .before .before .before .before .before .args .cells .now) (c .before .before .before .before .before .before .before .before .before .before .before .args .n) (treeOf (c .before .before .before .before .before .before .before .before .before .before .before .args .t .now) (c .before .before .before .before .part .result)) (c .before .before .before .before .before .before .before .before .before .before .before .args .p) (omega (arith, c .before .before .before .before .before .before .before .before .before .before .before .pre .1 .0)), c .before .eval-with6 .ensures, c .before .before .before .before .before .before .before .before .before .before .before .pre .1 .0)
+eval-with-add-many t c = omega (arith, ev-within (c .before .before .before .before .before .before .before .before .before .before .before .args .s .now) (c .before .before .before .before .before .before .before .before .before .before .before .args .cells .now) (c .before .before .before .before .before .before .before .before .before .before .before .args .n) (treeOf (c .before .before .before .before .before .before .before .before .before .before .before .args .t .now) (c .before .before .before .before .part .result)) (c .before .before .before .before .before .before .before .before .before .before .before .args .p) (omega (arith, c .before .before .before .before .before .before .before .before .before .before .before .pre .1 .0)), c .before .round6 .ensures, c .before .before .before .before .before .before .before .before .before .before .before .pre .1 .0)
 
 eval-with-many-requires-2 : (t : ℕ) → eval-with-lts.Need-many-requires-2 (eval-with-claims t) (eval-with-at t) eval-with.Post
-eval-with-many-requires-2 t c κs = (omega (arith, below-le (c .before .before .before .before .before .left .result) (c .before .before .before .before .before .before .before .before .before .before .before .args .x - 1), c .before .before .before .before .part .ensures, c .before .before .before .before .before .before .if1 .left, ev-within (c .before .before .before .before .before .before .before .before .before .before .before .args .s .now) (c .before .before .before .before .before .before .before .before .before .before .before .args .cells .now) (c .before .before .before .before .before .before .before .before .before .before .before .args .n) (treeOf (c .before .before .before .before .before .before .before .before .before .before .before .args .t .now) (c .before .before .before .before .part .result)) (c .before .before .before .before .before .before .before .before .before .before .before .args .p) (omega (arith, c .before .before .before .before .before .before .before .before .before .before .before .pre .1 .0)), c .before .eval-with6 .ensures, c .if6 .left, c .before .before .before .before .before .before .before .before .before .before .before .pre .0, c .before .before .before .before .before .before .before .before .before .before .before .pre .1 .0), (omega (arith, below-le (c .before .before .before .before .before .left .result) (c .before .before .before .before .before .before .before .before .before .before .before .args .x - 1), c .before .before .before .before .part .ensures, c .before .before .before .before .before .before .if1 .left, ev-within (c .before .before .before .before .before .before .before .before .before .before .before .args .s .now) (c .before .before .before .before .before .before .before .before .before .before .before .args .cells .now) (c .before .before .before .before .before .before .before .before .before .before .before .args .n) (treeOf (c .before .before .before .before .before .before .before .before .before .before .before .args .t .now) (c .before .before .before .before .part .result)) (c .before .before .before .before .before .before .before .before .before .before .before .args .p) (omega (arith, c .before .before .before .before .before .before .before .before .before .before .before .pre .1 .0)), c .before .eval-with6 .ensures, c .if6 .left, c .before .before .before .before .before .before .before .before .before .before .before .pre .0, c .before .before .before .before .before .before .before .before .before .before .before .pre .1 .0), knows-from (c .before .before .before .before .before .before .before .before .before .before .before .args .t .now) (c .before .before .before .before .before .before .before .before .before .before .before .args .s .now) (c .before .before .before .before .before .before .before .before .before .before .before .args .cells .now) (c .before .before .before .before .before .before .before .before .before .before .before .args .mem .now) (c .before .before .before .before .before .before .before .before .before .before .before .args .n) 0 0 (c .before .before .before .before .before .before .before .before .before .before .before .args .p) (c .before .before .before .before .before .before .before .before .before .before .before .args .p + (c .before .eval-with6 .result - 1)) (omega arith) (omega arith) (c .before .before .before .before .before .before .before .before .before .before .before .pre .1 .1)))
+eval-with-many-requires-2 t c κs = (omega (arith, below-le (c .before .before .before .before .before .left .result) (c .before .before .before .before .before .before .before .before .before .before .before .args .x - 1), c .before .before .before .before .part .ensures, c .before .before .before .before .before .before .if1 .left, ev-within (c .before .before .before .before .before .before .before .before .before .before .before .args .s .now) (c .before .before .before .before .before .before .before .before .before .before .before .args .cells .now) (c .before .before .before .before .before .before .before .before .before .before .before .args .n) (treeOf (c .before .before .before .before .before .before .before .before .before .before .before .args .t .now) (c .before .before .before .before .part .result)) (c .before .before .before .before .before .before .before .before .before .before .before .args .p) (omega (arith, c .before .before .before .before .before .before .before .before .before .before .before .pre .1 .0)), c .before .round6 .ensures, c .if6 .left, c .before .before .before .before .before .before .before .before .before .before .before .pre .0, c .before .before .before .before .before .before .before .before .before .before .before .pre .1 .0), (omega (arith, below-le (c .before .before .before .before .before .left .result) (c .before .before .before .before .before .before .before .before .before .before .before .args .x - 1), c .before .before .before .before .part .ensures, c .before .before .before .before .before .before .if1 .left, ev-within (c .before .before .before .before .before .before .before .before .before .before .before .args .s .now) (c .before .before .before .before .before .before .before .before .before .before .before .args .cells .now) (c .before .before .before .before .before .before .before .before .before .before .before .args .n) (treeOf (c .before .before .before .before .before .before .before .before .before .before .before .args .t .now) (c .before .before .before .before .part .result)) (c .before .before .before .before .before .before .before .before .before .before .before .args .p) (omega (arith, c .before .before .before .before .before .before .before .before .before .before .before .pre .1 .0)), c .before .round6 .ensures, c .if6 .left, c .before .before .before .before .before .before .before .before .before .before .before .pre .0, c .before .before .before .before .before .before .before .before .before .before .before .pre .1 .0), knows-from (c .before .before .before .before .before .before .before .before .before .before .before .args .t .now) (c .before .before .before .before .before .before .before .before .before .before .before .args .s .now) (c .before .before .before .before .before .before .before .before .before .before .before .args .cells .now) (c .before .before .before .before .before .before .before .before .before .before .before .args .mem .now) (c .before .before .before .before .before .before .before .before .before .before .before .args .n) 0 0 (c .before .before .before .before .before .before .before .before .before .before .before .args .p) (c .before .before .before .before .before .before .before .before .before .before .before .args .p + (c .before .round6 .result - 1)) (omega arith) (omega arith) (c .before .before .before .before .before .before .before .before .before .before .before .pre .1 .1)))
 
 eval-with-add-result-3 : (t : ℕ) → eval-with-lts.Need-add-result-3 (eval-with-claims t) (eval-with-at t) eval-with.Post
-eval-with-add-result-3 t c = omega (arith, ev-within (c .before .before .before .before .before .before .before .before .before .before .before .before .args .s .now) (c .before .before .before .before .before .before .before .before .before .before .before .before .args .cells .now) (c .before .before .before .before .before .before .before .before .before .before .before .before .args .n) (treeOf (c .before .before .before .before .before .before .before .before .before .before .before .before .args .t .now) (c .before .before .before .before .before .part .result)) (c .before .before .before .before .before .before .before .before .before .before .before .before .args .p) (omega (arith, c .before .before .before .before .before .before .before .before .before .before .before .before .pre .1 .0)), c .before .before .eval-with6 .ensures, rounds-within (c .before .before .before .before .before .before .before .before .before .before .before .before .args .s .now) (c .before .before .before .before .before .before .before .before .before .before .before .before .args .cells .now) (c .before .before .before .before .before .before .before .before .before .before .before .before .args .t .now) (c .before .before .before .before .before .before .before .before .before .before .before .before .args .n) (c .before .before .before .before .before .part .result) (c .before .before .before .before .before .before .before .before .before .before .before .before .args .p + (c .before .before .eval-with6 .result - 1)) (omega (arith, ev-within (c .before .before .before .before .before .before .before .before .before .before .before .before .args .s .now) (c .before .before .before .before .before .before .before .before .before .before .before .before .args .cells .now) (c .before .before .before .before .before .before .before .before .before .before .before .before .args .n) (treeOf (c .before .before .before .before .before .before .before .before .before .before .before .before .args .t .now) (c .before .before .before .before .before .part .result)) (c .before .before .before .before .before .before .before .before .before .before .before .before .args .p) (omega (arith, c .before .before .before .before .before .before .before .before .before .before .before .before .pre .1 .0)), c .before .before .eval-with6 .ensures, c .before .before .before .before .before .before .before .before .before .before .before .before .pre .1 .0)), c .many2 .ensures, c .before .before .before .before .before .before .before .before .before .before .before .before .pre .1 .0)
+eval-with-add-result-3 t c = omega (arith, ev-within (c .before .before .before .before .before .before .before .before .before .before .before .before .args .s .now) (c .before .before .before .before .before .before .before .before .before .before .before .before .args .cells .now) (c .before .before .before .before .before .before .before .before .before .before .before .before .args .n) (treeOf (c .before .before .before .before .before .before .before .before .before .before .before .before .args .t .now) (c .before .before .before .before .before .part .result)) (c .before .before .before .before .before .before .before .before .before .before .before .before .args .p) (omega (arith, c .before .before .before .before .before .before .before .before .before .before .before .before .pre .1 .0)), c .before .before .round6 .ensures, rounds-within (c .before .before .before .before .before .before .before .before .before .before .before .before .args .s .now) (c .before .before .before .before .before .before .before .before .before .before .before .before .args .cells .now) (c .before .before .before .before .before .before .before .before .before .before .before .before .args .t .now) (c .before .before .before .before .before .before .before .before .before .before .before .before .args .n) (c .before .before .before .before .before .part .result) (c .before .before .before .before .before .before .before .before .before .before .before .before .args .p + (c .before .before .round6 .result - 1)) (omega (arith, ev-within (c .before .before .before .before .before .before .before .before .before .before .before .before .args .s .now) (c .before .before .before .before .before .before .before .before .before .before .before .before .args .cells .now) (c .before .before .before .before .before .before .before .before .before .before .before .before .args .n) (treeOf (c .before .before .before .before .before .before .before .before .before .before .before .before .args .t .now) (c .before .before .before .before .before .part .result)) (c .before .before .before .before .before .before .before .before .before .before .before .before .args .p) (omega (arith, c .before .before .before .before .before .before .before .before .before .before .before .before .pre .1 .0)), c .before .before .round6 .ensures, c .before .before .before .before .before .before .before .before .before .before .before .before .pre .1 .0)), c .many2 .ensures, c .before .before .before .before .before .before .before .before .before .before .before .before .pre .1 .0)
 
-eval-with-eval-with-requires-7 : (t : ℕ) → eval-with-lts.Need-eval-with-requires-7 (eval-with-claims t) (eval-with-at t) eval-with.Post
-eval-with-eval-with-requires-7 t c κs = (omega (arith, below-le (c .before .before .before .left .result) (c .before .before .before .before .before .before .before .before .before .args .x - 1), c .before .before .part .ensures, c .before .before .before .before .if1 .left, c .before .before .before .before .before .before .before .before .before .pre .0, c .before .before .before .before .before .before .before .before .before .pre .1 .0), (omega (arith, below-le (c .before .before .before .left .result) (c .before .before .before .before .before .before .before .before .before .args .x - 1), c .before .before .part .ensures, c .before .before .before .before .if1 .left, c .before .before .before .before .before .before .before .before .before .pre .0, c .before .before .before .before .before .before .before .before .before .pre .1 .0), c .before .before .before .before .before .before .before .before .before .pre .1 .1))
+eval-with-round-requires-7 : (t : ℕ) → eval-with-lts.Need-round-requires-7 (eval-with-claims t) (eval-with-at t) eval-with.Post
+eval-with-round-requires-7 t c κs = (omega (arith, below-le (c .before .before .before .left .result) (c .before .before .before .before .before .before .before .before .before .args .x - 1), c .before .before .part .ensures, c .before .before .before .before .if1 .left, c .before .before .before .before .before .before .before .before .before .pre .0, c .before .before .before .before .before .before .before .before .before .pre .1 .0), (omega (arith, below-le (c .before .before .before .left .result) (c .before .before .before .before .before .before .before .before .before .args .x - 1), c .before .before .part .ensures, c .before .before .before .before .if1 .left, c .before .before .before .before .before .before .before .before .before .pre .0, c .before .before .before .before .before .before .before .before .before .pre .1 .0), c .before .before .before .before .before .before .before .before .before .pre .1 .1))
 
 eval-with-returns-7 : (t : ℕ) → eval-with-lts.Need-returns-7 (eval-with-claims t) (eval-with-at t) eval-with.Post
 unfolding ev nodeBy
-eval-with-returns-7 t c = ahead-fails _ _ (c .before .eval-with7 .ensures ∙ ap (λ (i : ℕ). ev (c .before .before .before .before .before .before .before .before .before .before .before .args .s .now) (c .before .before .before .before .before .before .before .before .before .before .before .args .cells .now) (c .before .before .before .before .before .before .before .before .before .before .before .args .n) (treeOf (c .before .before .before .before .before .before .before .before .before .before .before .args .t .now) i) (c .before .before .before .before .before .before .before .before .before .before .before .args .p)) (c .before .before .before .before .part .ensures)) (c .if7 .taken) ∙ node-ev (c .before .before .before .before .before .before .before .before .before .before .before .args .s .now) (c .before .before .before .before .before .before .before .before .before .before .before .args .cells .now) (c .before .before .before .before .before .before .before .before .before .before .before .args .t .now) (c .before .before .before .before .before .before .before .before .before .before .before .args .n) (c .before .before .before .before .before .before .before .before .before .before .before .args .x) (c .before .before .before .before .before .before .before .before .before .before .before .args .p) 7 (c .before .before .before .before .before .left .result) (c .before .before .before .before .before .before .if1 .left) (sym (c .before .before .match .keys8) ∙ c .before .before .before .op .ensures .0) (c .before .before .before .before .before .left .ensures .0)
+eval-with-returns-7 t c = ahead-fails _ _ (c .before .round7 .ensures ∙ ap (λ (i : ℕ). ev (c .before .before .before .before .before .before .before .before .before .before .before .args .s .now) (c .before .before .before .before .before .before .before .before .before .before .before .args .cells .now) (c .before .before .before .before .before .before .before .before .before .before .before .args .n) (treeOf (c .before .before .before .before .before .before .before .before .before .before .before .args .t .now) i) (c .before .before .before .before .before .before .before .before .before .before .before .args .p)) (c .before .before .before .before .part .ensures)) (c .if7 .taken) ∙ node-ev (c .before .before .before .before .before .before .before .before .before .before .before .args .s .now) (c .before .before .before .before .before .before .before .before .before .before .before .args .cells .now) (c .before .before .before .before .before .before .before .before .before .before .before .args .t .now) (c .before .before .before .before .before .before .before .before .before .before .before .args .n) (c .before .before .before .before .before .before .before .before .before .before .before .args .x) (c .before .before .before .before .before .before .before .before .before .before .before .args .p) 7 (c .before .before .before .before .before .left .result) (c .before .before .before .before .before .before .if1 .left) (sym (c .before .before .match .keys8) ∙ c .before .before .before .op .ensures .0) (c .before .before .before .before .before .left .ensures .0)
 
-eval-with-eval-with-requires-8 : (t : ℕ) → eval-with-lts.Need-eval-with-requires-8 (eval-with-claims t) (eval-with-at t) eval-with.Post
-eval-with-eval-with-requires-8 t c κs = (omega (arith, below-le (c .before .before .before .left .result) (c .before .before .before .before .before .before .before .before .before .args .x - 1), c .before .before .part .ensures, c .before .before .before .before .if1 .left, c .before .before .before .before .before .before .before .before .before .pre .0, c .before .before .before .before .before .before .before .before .before .pre .1 .0), (omega (arith, below-le (c .before .before .before .left .result) (c .before .before .before .before .before .before .before .before .before .args .x - 1), c .before .before .part .ensures, c .before .before .before .before .if1 .left, c .before .before .before .before .before .before .before .before .before .pre .0, c .before .before .before .before .before .before .before .before .before .pre .1 .0), c .before .before .before .before .before .before .before .before .before .pre .1 .1))
+eval-with-round-requires-8 : (t : ℕ) → eval-with-lts.Need-round-requires-8 (eval-with-claims t) (eval-with-at t) eval-with.Post
+eval-with-round-requires-8 t c κs = (omega (arith, below-le (c .before .before .before .left .result) (c .before .before .before .before .before .before .before .before .before .args .x - 1), c .before .before .part .ensures, c .before .before .before .before .if1 .left, c .before .before .before .before .before .before .before .before .before .pre .0, c .before .before .before .before .before .before .before .before .before .pre .1 .0), (omega (arith, below-le (c .before .before .before .left .result) (c .before .before .before .before .before .before .before .before .before .args .x - 1), c .before .before .part .ensures, c .before .before .before .before .if1 .left, c .before .before .before .before .before .before .before .before .before .pre .0, c .before .before .before .before .before .before .before .before .before .pre .1 .0), c .before .before .before .before .before .before .before .before .before .pre .1 .1))
 
 eval-with-returns-8 : (t : ℕ) → eval-with-lts.Need-returns-8 (eval-with-claims t) (eval-with-at t) eval-with.Post
 unfolding ev
-eval-with-returns-8 t c = never-takes _ _ (c .before .eval-with8 .ensures ∙ ap (λ (i : ℕ). ev (c .before .before .before .before .before .before .before .before .before .before .before .args .s .now) (c .before .before .before .before .before .before .before .before .before .before .before .args .cells .now) (c .before .before .before .before .before .before .before .before .before .before .before .args .n) (treeOf (c .before .before .before .before .before .before .before .before .before .before .before .args .t .now) i) (c .before .before .before .before .before .before .before .before .before .before .before .args .p)) (c .before .before .before .before .part .ensures)) (c .if8 .taken) ∙ ap (λ (y : Exp ℕ). ev (c .before .before .before .before .before .before .before .before .before .before .before .args .s .now) (c .before .before .before .before .before .before .before .before .before .before .before .args .cells .now) (c .before .before .before .before .before .before .before .before .before .before .before .args .n) y (c .before .before .before .before .before .before .before .before .before .before .before .args .p)) (node-never (c .before .before .before .op .result) (c .before .before .before .before .before .left .result) (rightOf (c .before .before .before .before .before .before .before .before .before .before .before .args .t .now) (c .before .before .before .before .before .before .before .before .before .before .before .args .x - 1)) (leafIn (c .before .before .before .before .before .before .before .before .before .before .before .args .t .now)) (λ i. treeOf (c .before .before .before .before .before .before .before .before .before .before .before .args .t .now) (below i (c .before .before .before .before .before .before .before .before .before .before .before .args .x - 1))) (c .before .before .match .rest .0 .0 .0 .0 .0 .0 .0 .1) (c .before .before .match .rest .0 .0 .0 .0 .0 .0 .1) (c .before .before .match .rest .0 .0 .0 .0 .0 .1) (c .before .before .match .rest .0 .0 .0 .0 .1) (c .before .before .match .rest .0 .0 .0 .1) (c .before .before .match .rest .0 .0 .1) (c .before .before .match .rest .0 .1) (c .before .before .match .rest .1)) ∙ node-ev (c .before .before .before .before .before .before .before .before .before .before .before .args .s .now) (c .before .before .before .before .before .before .before .before .before .before .before .args .cells .now) (c .before .before .before .before .before .before .before .before .before .before .before .args .t .now) (c .before .before .before .before .before .before .before .before .before .before .before .args .n) (c .before .before .before .before .before .before .before .before .before .before .before .args .x) (c .before .before .before .before .before .before .before .before .before .before .before .args .p) (c .before .before .before .op .result) (c .before .before .before .before .before .left .result) (c .before .before .before .before .before .before .if1 .left) (c .before .before .before .op .ensures .0) (c .before .before .before .before .before .left .ensures .0)
+eval-with-returns-8 t c = never-takes _ _ (c .before .round8 .ensures ∙ ap (λ (i : ℕ). ev (c .before .before .before .before .before .before .before .before .before .before .before .args .s .now) (c .before .before .before .before .before .before .before .before .before .before .before .args .cells .now) (c .before .before .before .before .before .before .before .before .before .before .before .args .n) (treeOf (c .before .before .before .before .before .before .before .before .before .before .before .args .t .now) i) (c .before .before .before .before .before .before .before .before .before .before .before .args .p)) (c .before .before .before .before .part .ensures)) (c .if8 .taken) ∙ ap (λ (y : Exp ℕ). ev (c .before .before .before .before .before .before .before .before .before .before .before .args .s .now) (c .before .before .before .before .before .before .before .before .before .before .before .args .cells .now) (c .before .before .before .before .before .before .before .before .before .before .before .args .n) y (c .before .before .before .before .before .before .before .before .before .before .before .args .p)) (node-never (c .before .before .before .op .result) (c .before .before .before .before .before .left .result) (rightOf (c .before .before .before .before .before .before .before .before .before .before .before .args .t .now) (c .before .before .before .before .before .before .before .before .before .before .before .args .x - 1)) (leafIn (c .before .before .before .before .before .before .before .before .before .before .before .args .t .now)) (λ i. treeOf (c .before .before .before .before .before .before .before .before .before .before .before .args .t .now) (below i (c .before .before .before .before .before .before .before .before .before .before .before .args .x - 1))) (c .before .before .match .rest .0 .0 .0 .0 .0 .0 .0 .1) (c .before .before .match .rest .0 .0 .0 .0 .0 .0 .1) (c .before .before .match .rest .0 .0 .0 .0 .0 .1) (c .before .before .match .rest .0 .0 .0 .0 .1) (c .before .before .match .rest .0 .0 .0 .1) (c .before .before .match .rest .0 .0 .1) (c .before .before .match .rest .0 .1) (c .before .before .match .rest .1)) ∙ node-ev (c .before .before .before .before .before .before .before .before .before .before .before .args .s .now) (c .before .before .before .before .before .before .before .before .before .before .before .args .cells .now) (c .before .before .before .before .before .before .before .before .before .before .before .args .t .now) (c .before .before .before .before .before .before .before .before .before .before .before .args .n) (c .before .before .before .before .before .before .before .before .before .before .before .args .x) (c .before .before .before .before .before .before .before .before .before .before .before .args .p) (c .before .before .before .op .result) (c .before .before .before .before .before .left .result) (c .before .before .before .before .before .before .if1 .left) (c .before .before .before .op .ensures .0) (c .before .before .before .before .before .left .ensures .0)
 
 eval-with-returns-9 : (t : ℕ) → eval-with-lts.Need-returns-9 (eval-with-claims t) (eval-with-at t) eval-with.Post
 unfolding ev nodeBy
@@ -213,15 +213,15 @@ eval-with-returns-10 t c = c .cell-at .ensures ∙ node-ev (c .before .before .b
 
 eval-with-returns-11 : (t : ℕ) → eval-with-lts.Need-returns-11 (eval-with-claims t) (eval-with-at t) eval-with.Post
 unfolding ev nodeBy
-eval-with-returns-11 t c = seq-both _ _ _ _ (c .before .before .before .before .before .eval-with .ensures ∙ ap (λ (i : ℕ). ev (c .before .before .before .before .before .before .before .before .before .before .before .before .before .before .before .args .s .now) (c .before .before .before .before .before .before .before .before .before .before .before .before .before .before .before .args .cells .now) (c .before .before .before .before .before .before .before .before .before .before .before .before .before .before .before .args .n) (treeOf (c .before .before .before .before .before .before .before .before .before .before .before .before .before .before .before .args .t .now) i) (c .before .before .before .before .before .before .before .before .before .before .before .before .before .before .before .args .p)) (c .before .before .before .before .before .before .before .before .part .ensures)) (c .before .before .before .before .if2 .left) (c .before .eval-with2 .ensures ∙ ap (λ (i : ℕ). ev (c .before .before .before .before .before .before .before .before .before .before .before .before .before .before .before .args .s .now) (c .before .before .before .before .before .before .before .before .before .before .before .before .before .before .before .args .cells .now) (c .before .before .before .before .before .before .before .before .before .before .before .before .before .before .before .args .n) (treeOf (c .before .before .before .before .before .before .before .before .before .before .before .before .before .before .before .args .t .now) i) (c .before .before .before .before .before .before .before .before .before .before .before .before .before .before .before .args .p + (c .before .before .before .before .before .eval-with .result - 1))) (c .before .before .part2 .ensures ∙ ap (λ (j : ℕ). below j (c .before .before .before .before .before .before .before .before .before .before .before .before .before .before .before .args .x - 1)) (c .before .before .before .right .ensures .0))) (c .if3 .left) ∙ node-ev (c .before .before .before .before .before .before .before .before .before .before .before .before .before .before .before .args .s .now) (c .before .before .before .before .before .before .before .before .before .before .before .before .before .before .before .args .cells .now) (c .before .before .before .before .before .before .before .before .before .before .before .before .before .before .before .args .t .now) (c .before .before .before .before .before .before .before .before .before .before .before .before .before .before .before .args .n) (c .before .before .before .before .before .before .before .before .before .before .before .before .before .before .before .args .x) (c .before .before .before .before .before .before .before .before .before .before .before .before .before .before .before .args .p) 2 (c .before .before .before .before .before .before .before .before .before .left .result) (c .before .before .before .before .before .before .before .before .before .before .if1 .left) (sym (c .before .before .before .before .before .before .match .keys3) ∙ c .before .before .before .before .before .before .before .op .ensures .0) (c .before .before .before .before .before .before .before .before .before .left .ensures .0)
+eval-with-returns-11 t c = seq-both _ _ _ _ (c .before .before .before .before .before .round .ensures ∙ ap (λ (i : ℕ). ev (c .before .before .before .before .before .before .before .before .before .before .before .before .before .before .before .args .s .now) (c .before .before .before .before .before .before .before .before .before .before .before .before .before .before .before .args .cells .now) (c .before .before .before .before .before .before .before .before .before .before .before .before .before .before .before .args .n) (treeOf (c .before .before .before .before .before .before .before .before .before .before .before .before .before .before .before .args .t .now) i) (c .before .before .before .before .before .before .before .before .before .before .before .before .before .before .before .args .p)) (c .before .before .before .before .before .before .before .before .part .ensures)) (c .before .before .before .before .if2 .left) (c .before .round2 .ensures ∙ ap (λ (i : ℕ). ev (c .before .before .before .before .before .before .before .before .before .before .before .before .before .before .before .args .s .now) (c .before .before .before .before .before .before .before .before .before .before .before .before .before .before .before .args .cells .now) (c .before .before .before .before .before .before .before .before .before .before .before .before .before .before .before .args .n) (treeOf (c .before .before .before .before .before .before .before .before .before .before .before .before .before .before .before .args .t .now) i) (c .before .before .before .before .before .before .before .before .before .before .before .before .before .before .before .args .p + (c .before .before .before .before .before .round .result - 1))) (c .before .before .part2 .ensures ∙ ap (λ (j : ℕ). below j (c .before .before .before .before .before .before .before .before .before .before .before .before .before .before .before .args .x - 1)) (c .before .before .before .right .ensures .0))) (c .if3 .left) ∙ node-ev (c .before .before .before .before .before .before .before .before .before .before .before .before .before .before .before .args .s .now) (c .before .before .before .before .before .before .before .before .before .before .before .before .before .before .before .args .cells .now) (c .before .before .before .before .before .before .before .before .before .before .before .before .before .before .before .args .t .now) (c .before .before .before .before .before .before .before .before .before .before .before .before .before .before .before .args .n) (c .before .before .before .before .before .before .before .before .before .before .before .before .before .before .before .args .x) (c .before .before .before .before .before .before .before .before .before .before .before .before .before .before .before .args .p) 2 (c .before .before .before .before .before .before .before .before .before .left .result) (c .before .before .before .before .before .before .before .before .before .before .if1 .left) (sym (c .before .before .before .before .before .before .match .keys3) ∙ c .before .before .before .before .before .before .before .op .ensures .0) (c .before .before .before .before .before .before .before .before .before .left .ensures .0)
 
 eval-with-returns-12 : (t : ℕ) → eval-with-lts.Need-returns-12 (eval-with-claims t) (eval-with-at t) eval-with.Post
 unfolding ev nodeBy
-eval-with-returns-12 t c = alt-right _ _ _ _ (c .before .before .before .before .eval-with3 .ensures ∙ ap (λ (i : ℕ). ev (c .before .before .before .before .before .before .before .before .before .before .before .before .before .before .args .s .now) (c .before .before .before .before .before .before .before .before .before .before .before .before .before .before .args .cells .now) (c .before .before .before .before .before .before .before .before .before .before .before .before .before .before .args .n) (treeOf (c .before .before .before .before .before .before .before .before .before .before .before .before .before .before .args .t .now) i) (c .before .before .before .before .before .before .before .before .before .before .before .before .before .before .args .p)) (c .before .before .before .before .before .before .before .part .ensures)) (c .before .before .before .if4 .left) (c .eval-with4 .ensures ∙ ap (λ (i : ℕ). ev (c .before .before .before .before .before .before .before .before .before .before .before .before .before .before .args .s .now) (c .before .before .before .before .before .before .before .before .before .before .before .before .before .before .args .cells .now) (c .before .before .before .before .before .before .before .before .before .before .before .before .before .before .args .n) (treeOf (c .before .before .before .before .before .before .before .before .before .before .before .before .before .before .args .t .now) i) (c .before .before .before .before .before .before .before .before .before .before .before .before .before .before .args .p)) (c .before .part3 .ensures ∙ ap (λ (j : ℕ). below j (c .before .before .before .before .before .before .before .before .before .before .before .before .before .before .args .x - 1)) (c .before .before .right2 .ensures .0))) ∙ node-ev (c .before .before .before .before .before .before .before .before .before .before .before .before .before .before .args .s .now) (c .before .before .before .before .before .before .before .before .before .before .before .before .before .before .args .cells .now) (c .before .before .before .before .before .before .before .before .before .before .before .before .before .before .args .t .now) (c .before .before .before .before .before .before .before .before .before .before .before .before .before .before .args .n) (c .before .before .before .before .before .before .before .before .before .before .before .before .before .before .args .x) (c .before .before .before .before .before .before .before .before .before .before .before .before .before .before .args .p) 3 (c .before .before .before .before .before .before .before .before .left .result) (c .before .before .before .before .before .before .before .before .before .if1 .left) (sym (c .before .before .before .before .before .match .keys4) ∙ c .before .before .before .before .before .before .op .ensures .0) (c .before .before .before .before .before .before .before .before .left .ensures .0)
+eval-with-returns-12 t c = alt-right _ _ _ _ (c .before .before .before .before .round3 .ensures ∙ ap (λ (i : ℕ). ev (c .before .before .before .before .before .before .before .before .before .before .before .before .before .before .args .s .now) (c .before .before .before .before .before .before .before .before .before .before .before .before .before .before .args .cells .now) (c .before .before .before .before .before .before .before .before .before .before .before .before .before .before .args .n) (treeOf (c .before .before .before .before .before .before .before .before .before .before .before .before .before .before .args .t .now) i) (c .before .before .before .before .before .before .before .before .before .before .before .before .before .before .args .p)) (c .before .before .before .before .before .before .before .part .ensures)) (c .before .before .before .if4 .left) (c .round4 .ensures ∙ ap (λ (i : ℕ). ev (c .before .before .before .before .before .before .before .before .before .before .before .before .before .before .args .s .now) (c .before .before .before .before .before .before .before .before .before .before .before .before .before .before .args .cells .now) (c .before .before .before .before .before .before .before .before .before .before .before .before .before .before .args .n) (treeOf (c .before .before .before .before .before .before .before .before .before .before .before .before .before .before .args .t .now) i) (c .before .before .before .before .before .before .before .before .before .before .before .before .before .before .args .p)) (c .before .part3 .ensures ∙ ap (λ (j : ℕ). below j (c .before .before .before .before .before .before .before .before .before .before .before .before .before .before .args .x - 1)) (c .before .before .right2 .ensures .0))) ∙ node-ev (c .before .before .before .before .before .before .before .before .before .before .before .before .before .before .args .s .now) (c .before .before .before .before .before .before .before .before .before .before .before .before .before .before .args .cells .now) (c .before .before .before .before .before .before .before .before .before .before .before .before .before .before .args .t .now) (c .before .before .before .before .before .before .before .before .before .before .before .before .before .before .args .n) (c .before .before .before .before .before .before .before .before .before .before .before .before .before .before .args .x) (c .before .before .before .before .before .before .before .before .before .before .before .before .before .before .args .p) 3 (c .before .before .before .before .before .before .before .before .left .result) (c .before .before .before .before .before .before .before .before .before .if1 .left) (sym (c .before .before .before .before .before .match .keys4) ∙ c .before .before .before .before .before .before .op .ensures .0) (c .before .before .before .before .before .before .before .before .left .ensures .0)
 
 eval-with-returns-13 : (t : ℕ) → eval-with-lts.Need-returns-13 (eval-with-claims t) (eval-with-at t) eval-with.Post
 unfolding ev nodeBy
-eval-with-returns-13 t c = opt-takes _ _ (c .before .eval-with5 .ensures ∙ ap (λ (i : ℕ). ev (c .before .before .before .before .before .before .before .before .before .before .before .args .s .now) (c .before .before .before .before .before .before .before .before .before .before .before .args .cells .now) (c .before .before .before .before .before .before .before .before .before .before .before .args .n) (treeOf (c .before .before .before .before .before .before .before .before .before .before .before .args .t .now) i) (c .before .before .before .before .before .before .before .before .before .before .before .args .p)) (c .before .before .before .before .part .ensures)) (c .if5 .left) ∙ node-ev (c .before .before .before .before .before .before .before .before .before .before .before .args .s .now) (c .before .before .before .before .before .before .before .before .before .before .before .args .cells .now) (c .before .before .before .before .before .before .before .before .before .before .before .args .t .now) (c .before .before .before .before .before .before .before .before .before .before .before .args .n) (c .before .before .before .before .before .before .before .before .before .before .before .args .x) (c .before .before .before .before .before .before .before .before .before .before .before .args .p) 4 (c .before .before .before .before .before .left .result) (c .before .before .before .before .before .before .if1 .left) (sym (c .before .before .match .keys5) ∙ c .before .before .before .op .ensures .0) (c .before .before .before .before .before .left .ensures .0)
+eval-with-returns-13 t c = opt-takes _ _ (c .before .round5 .ensures ∙ ap (λ (i : ℕ). ev (c .before .before .before .before .before .before .before .before .before .before .before .args .s .now) (c .before .before .before .before .before .before .before .before .before .before .before .args .cells .now) (c .before .before .before .before .before .before .before .before .before .before .before .args .n) (treeOf (c .before .before .before .before .before .before .before .before .before .before .before .args .t .now) i) (c .before .before .before .before .before .before .before .before .before .before .before .args .p)) (c .before .before .before .before .part .ensures)) (c .if5 .left) ∙ node-ev (c .before .before .before .before .before .before .before .before .before .before .before .args .s .now) (c .before .before .before .before .before .before .before .before .before .before .before .args .cells .now) (c .before .before .before .before .before .before .before .before .before .before .before .args .t .now) (c .before .before .before .before .before .before .before .before .before .before .before .args .n) (c .before .before .before .before .before .before .before .before .before .before .before .args .x) (c .before .before .before .before .before .before .before .before .before .before .before .args .p) 4 (c .before .before .before .before .before .left .result) (c .before .before .before .before .before .before .if1 .left) (sym (c .before .before .match .keys5) ∙ c .before .before .before .op .ensures .0) (c .before .before .before .before .before .left .ensures .0)
 
 eval-with-returns-14 : (t : ℕ) → eval-with-lts.Need-returns-14 (eval-with-claims t) (eval-with-at t) eval-with.Post
 unfolding ev nodeBy
@@ -229,15 +229,15 @@ eval-with-returns-14 t c = add-one _ ∙ ap suc (c .many .ensures ∙ ap (λ (i 
 
 eval-with-returns-15 : (t : ℕ) → eval-with-lts.Need-returns-15 (eval-with-claims t) (eval-with-at t) eval-with.Post
 unfolding ev nodeBy
-eval-with-returns-15 t c = plus-takes _ _ _ _ (c .before .before .eval-with6 .ensures ∙ ap (λ (i : ℕ). ev (c .before .before .before .before .before .before .before .before .before .before .before .before .args .s .now) (c .before .before .before .before .before .before .before .before .before .before .before .before .args .cells .now) (c .before .before .before .before .before .before .before .before .before .before .before .before .args .n) (treeOf (c .before .before .before .before .before .before .before .before .before .before .before .before .args .t .now) i) (c .before .before .before .before .before .before .before .before .before .before .before .before .args .p)) (c .before .before .before .before .before .part .ensures)) (λ z. omega (arith, z, c .before .if6 .left)) (c .many2 .ensures ∙ ap (λ (i : ℕ). rep (length (c .before .before .before .before .before .before .before .before .before .before .before .before .args .s .now)) (λ (q : ℕ). ev (c .before .before .before .before .before .before .before .before .before .before .before .before .args .s .now) (c .before .before .before .before .before .before .before .before .before .before .before .before .args .cells .now) (c .before .before .before .before .before .before .before .before .before .before .before .before .args .n) (treeOf (c .before .before .before .before .before .before .before .before .before .before .before .before .args .t .now) i) q) (c .before .before .before .before .before .before .before .before .before .before .before .before .args .p + (c .before .before .eval-with6 .result - 1))) (c .before .before .before .before .before .part .ensures)) ∙ node-ev (c .before .before .before .before .before .before .before .before .before .before .before .before .args .s .now) (c .before .before .before .before .before .before .before .before .before .before .before .before .args .cells .now) (c .before .before .before .before .before .before .before .before .before .before .before .before .args .t .now) (c .before .before .before .before .before .before .before .before .before .before .before .before .args .n) (c .before .before .before .before .before .before .before .before .before .before .before .before .args .x) (c .before .before .before .before .before .before .before .before .before .before .before .before .args .p) 6 (c .before .before .before .before .before .before .left .result) (c .before .before .before .before .before .before .before .if1 .left) (sym (c .before .before .before .match .keys7) ∙ c .before .before .before .before .op .ensures .0) (c .before .before .before .before .before .before .left .ensures .0)
+eval-with-returns-15 t c = plus-takes _ _ _ _ (c .before .before .round6 .ensures ∙ ap (λ (i : ℕ). ev (c .before .before .before .before .before .before .before .before .before .before .before .before .args .s .now) (c .before .before .before .before .before .before .before .before .before .before .before .before .args .cells .now) (c .before .before .before .before .before .before .before .before .before .before .before .before .args .n) (treeOf (c .before .before .before .before .before .before .before .before .before .before .before .before .args .t .now) i) (c .before .before .before .before .before .before .before .before .before .before .before .before .args .p)) (c .before .before .before .before .before .part .ensures)) (λ z. omega (arith, z, c .before .if6 .left)) (c .many2 .ensures ∙ ap (λ (i : ℕ). rep (length (c .before .before .before .before .before .before .before .before .before .before .before .before .args .s .now)) (λ (q : ℕ). ev (c .before .before .before .before .before .before .before .before .before .before .before .before .args .s .now) (c .before .before .before .before .before .before .before .before .before .before .before .before .args .cells .now) (c .before .before .before .before .before .before .before .before .before .before .before .before .args .n) (treeOf (c .before .before .before .before .before .before .before .before .before .before .before .before .args .t .now) i) q) (c .before .before .before .before .before .before .before .before .before .before .before .before .args .p + (c .before .before .round6 .result - 1))) (c .before .before .before .before .before .part .ensures)) ∙ node-ev (c .before .before .before .before .before .before .before .before .before .before .before .before .args .s .now) (c .before .before .before .before .before .before .before .before .before .before .before .before .args .cells .now) (c .before .before .before .before .before .before .before .before .before .before .before .before .args .t .now) (c .before .before .before .before .before .before .before .before .before .before .before .before .args .n) (c .before .before .before .before .before .before .before .before .before .before .before .before .args .x) (c .before .before .before .before .before .before .before .before .before .before .before .before .args .p) 6 (c .before .before .before .before .before .before .left .result) (c .before .before .before .before .before .before .before .if1 .left) (sym (c .before .before .before .match .keys7) ∙ c .before .before .before .before .op .ensures .0) (c .before .before .before .before .before .before .left .ensures .0)
 
 eval-with-returns-16 : (t : ℕ) → eval-with-lts.Need-returns-16 (eval-with-claims t) (eval-with-at t) eval-with.Post
 unfolding ev nodeBy
-eval-with-returns-16 t c = ahead-takes _ _ (c .before .eval-with7 .ensures ∙ ap (λ (i : ℕ). ev (c .before .before .before .before .before .before .before .before .before .before .before .args .s .now) (c .before .before .before .before .before .before .before .before .before .before .before .args .cells .now) (c .before .before .before .before .before .before .before .before .before .before .before .args .n) (treeOf (c .before .before .before .before .before .before .before .before .before .before .before .args .t .now) i) (c .before .before .before .before .before .before .before .before .before .before .before .args .p)) (c .before .before .before .before .part .ensures)) (c .if7 .left) ∙ node-ev (c .before .before .before .before .before .before .before .before .before .before .before .args .s .now) (c .before .before .before .before .before .before .before .before .before .before .before .args .cells .now) (c .before .before .before .before .before .before .before .before .before .before .before .args .t .now) (c .before .before .before .before .before .before .before .before .before .before .before .args .n) (c .before .before .before .before .before .before .before .before .before .before .before .args .x) (c .before .before .before .before .before .before .before .before .before .before .before .args .p) 7 (c .before .before .before .before .before .left .result) (c .before .before .before .before .before .before .if1 .left) (sym (c .before .before .match .keys8) ∙ c .before .before .before .op .ensures .0) (c .before .before .before .before .before .left .ensures .0)
+eval-with-returns-16 t c = ahead-takes _ _ (c .before .round7 .ensures ∙ ap (λ (i : ℕ). ev (c .before .before .before .before .before .before .before .before .before .before .before .args .s .now) (c .before .before .before .before .before .before .before .before .before .before .before .args .cells .now) (c .before .before .before .before .before .before .before .before .before .before .before .args .n) (treeOf (c .before .before .before .before .before .before .before .before .before .before .before .args .t .now) i) (c .before .before .before .before .before .before .before .before .before .before .before .args .p)) (c .before .before .before .before .part .ensures)) (c .if7 .left) ∙ node-ev (c .before .before .before .before .before .before .before .before .before .before .before .args .s .now) (c .before .before .before .before .before .before .before .before .before .before .before .args .cells .now) (c .before .before .before .before .before .before .before .before .before .before .before .args .t .now) (c .before .before .before .before .before .before .before .before .before .before .before .args .n) (c .before .before .before .before .before .before .before .before .before .before .before .args .x) (c .before .before .before .before .before .before .before .before .before .before .before .args .p) 7 (c .before .before .before .before .before .left .result) (c .before .before .before .before .before .before .if1 .left) (sym (c .before .before .match .keys8) ∙ c .before .before .before .op .ensures .0) (c .before .before .before .before .before .left .ensures .0)
 
 eval-with-returns-17 : (t : ℕ) → eval-with-lts.Need-returns-17 (eval-with-claims t) (eval-with-at t) eval-with.Post
 unfolding ev
-eval-with-returns-17 t c = never-fails _ _ (c .before .eval-with8 .ensures ∙ ap (λ (i : ℕ). ev (c .before .before .before .before .before .before .before .before .before .before .before .args .s .now) (c .before .before .before .before .before .before .before .before .before .before .before .args .cells .now) (c .before .before .before .before .before .before .before .before .before .before .before .args .n) (treeOf (c .before .before .before .before .before .before .before .before .before .before .before .args .t .now) i) (c .before .before .before .before .before .before .before .before .before .before .before .args .p)) (c .before .before .before .before .part .ensures)) (c .if8 .left) ∙ ap (λ (y : Exp ℕ). ev (c .before .before .before .before .before .before .before .before .before .before .before .args .s .now) (c .before .before .before .before .before .before .before .before .before .before .before .args .cells .now) (c .before .before .before .before .before .before .before .before .before .before .before .args .n) y (c .before .before .before .before .before .before .before .before .before .before .before .args .p)) (node-never (c .before .before .before .op .result) (c .before .before .before .before .before .left .result) (rightOf (c .before .before .before .before .before .before .before .before .before .before .before .args .t .now) (c .before .before .before .before .before .before .before .before .before .before .before .args .x - 1)) (leafIn (c .before .before .before .before .before .before .before .before .before .before .before .args .t .now)) (λ i. treeOf (c .before .before .before .before .before .before .before .before .before .before .before .args .t .now) (below i (c .before .before .before .before .before .before .before .before .before .before .before .args .x - 1))) (c .before .before .match .rest .0 .0 .0 .0 .0 .0 .0 .1) (c .before .before .match .rest .0 .0 .0 .0 .0 .0 .1) (c .before .before .match .rest .0 .0 .0 .0 .0 .1) (c .before .before .match .rest .0 .0 .0 .0 .1) (c .before .before .match .rest .0 .0 .0 .1) (c .before .before .match .rest .0 .0 .1) (c .before .before .match .rest .0 .1) (c .before .before .match .rest .1)) ∙ node-ev (c .before .before .before .before .before .before .before .before .before .before .before .args .s .now) (c .before .before .before .before .before .before .before .before .before .before .before .args .cells .now) (c .before .before .before .before .before .before .before .before .before .before .before .args .t .now) (c .before .before .before .before .before .before .before .before .before .before .before .args .n) (c .before .before .before .before .before .before .before .before .before .before .before .args .x) (c .before .before .before .before .before .before .before .before .before .before .before .args .p) (c .before .before .before .op .result) (c .before .before .before .before .before .left .result) (c .before .before .before .before .before .before .if1 .left) (c .before .before .before .op .ensures .0) (c .before .before .before .before .before .left .ensures .0)
+eval-with-returns-17 t c = never-fails _ _ (c .before .round8 .ensures ∙ ap (λ (i : ℕ). ev (c .before .before .before .before .before .before .before .before .before .before .before .args .s .now) (c .before .before .before .before .before .before .before .before .before .before .before .args .cells .now) (c .before .before .before .before .before .before .before .before .before .before .before .args .n) (treeOf (c .before .before .before .before .before .before .before .before .before .before .before .args .t .now) i) (c .before .before .before .before .before .before .before .before .before .before .before .args .p)) (c .before .before .before .before .part .ensures)) (c .if8 .left) ∙ ap (λ (y : Exp ℕ). ev (c .before .before .before .before .before .before .before .before .before .before .before .args .s .now) (c .before .before .before .before .before .before .before .before .before .before .before .args .cells .now) (c .before .before .before .before .before .before .before .before .before .before .before .args .n) y (c .before .before .before .before .before .before .before .before .before .before .before .args .p)) (node-never (c .before .before .before .op .result) (c .before .before .before .before .before .left .result) (rightOf (c .before .before .before .before .before .before .before .before .before .before .before .args .t .now) (c .before .before .before .before .before .before .before .before .before .before .before .args .x - 1)) (leafIn (c .before .before .before .before .before .before .before .before .before .before .before .args .t .now)) (λ i. treeOf (c .before .before .before .before .before .before .before .before .before .before .before .args .t .now) (below i (c .before .before .before .before .before .before .before .before .before .before .before .args .x - 1))) (c .before .before .match .rest .0 .0 .0 .0 .0 .0 .0 .1) (c .before .before .match .rest .0 .0 .0 .0 .0 .0 .1) (c .before .before .match .rest .0 .0 .0 .0 .0 .1) (c .before .before .match .rest .0 .0 .0 .0 .1) (c .before .before .match .rest .0 .0 .0 .1) (c .before .before .match .rest .0 .0 .1) (c .before .before .match .rest .0 .1) (c .before .before .match .rest .1)) ∙ node-ev (c .before .before .before .before .before .before .before .before .before .before .before .args .s .now) (c .before .before .before .before .before .before .before .before .before .before .before .args .cells .now) (c .before .before .before .before .before .before .before .before .before .before .before .args .t .now) (c .before .before .before .before .before .before .before .before .before .before .before .args .n) (c .before .before .before .before .before .before .before .before .before .before .before .args .x) (c .before .before .before .before .before .before .before .before .before .before .before .args .p) (c .before .before .before .op .result) (c .before .before .before .before .before .left .result) (c .before .before .before .before .before .before .if1 .left) (c .before .before .before .op .ensures .0) (c .before .before .before .before .before .left .ensures .0)
 
 abbrev many-Inv-loop : many-lts.InvT-loop
 many-Inv-loop t s cells mem n x p k₀ q₀ k q = (p ≤ q) × (q ≤ length s) × (q + rep k (λ (i : ℕ). ev s cells n (treeOf t x) i) q ≡ p + rep (length s) (λ (i : ℕ). ev s cells n (treeOf t x) i) p) × (length s ≤ k + q)
@@ -293,14 +293,14 @@ many-returns-3 t c = omega (arith, rep-none (λ (i : ℕ). ev (c .before .before
 round-byte-at-requires : (t : ℕ) → round-lts.Need-byte-at-requires (round-claims t) (round-at t) round.Post
 round-byte-at-requires t c κs = search needs
 
-round-word-of-requires : (t : ℕ) → round-lts.Need-word-of-requires (round-claims t) (round-at t) round.Post
-round-word-of-requires t c κs = c .byte-at .ensures .1
+round-said-requires : (t : ℕ) → round-lts.Need-said-requires (round-claims t) (round-at t) round.Post
+round-said-requires t c κs = search needs
 
 round-sub-result : (t : ℕ) → round-lts.Need-sub-result (round-claims t) (round-at t) round.Post
 round-sub-result t c = omega (arith, c .if1 .taken)
 
 round-returns : (t : ℕ) → round-lts.Need-returns (round-claims t) (round-at t) round.Post
-round-returns t c = worded-right (c .before .before .before .before .before .before .before .args .t .now) (c .before .before .before .before .before .before .before .args .s .now) (c .before .before .before .before .before .before .before .args .cells .now) (c .before .before .before .before .before .before .before .args .mem .now) (c .before .before .before .before .before .before .before .args .n) 0 (c .before .before .before .before .before .before .before .args .p) (c .before .before .before .before .before .before .before .pre .1 .1) (c .before .before .before .before .before .before .before .args .x) (c .before .before .byte-at .result) (c .before .word-of .result) (omega (arith, c .before .before .before .before .before .before .before .pre .1 .0)) (c .before .before .byte-at .ensures .0) (c .before .before .byte-at .ensures .1) (c .if1 .taken) (c .before .word-of .ensures)
+round-returns t c = said-right (c .before .before .before .before .before .before .before .args .t .now) (c .before .before .before .before .before .before .before .args .s .now) (c .before .before .before .before .before .before .before .args .cells .now) (c .before .before .before .before .before .before .before .args .mem .now) (c .before .before .before .before .before .before .before .args .n) 0 (c .before .before .before .before .before .before .before .args .p) (c .before .before .before .before .before .before .before .pre .1 .1) (c .before .before .before .before .before .before .before .args .x) (c .before .before .byte-at .result) (c .before .said .result) (omega (arith, c .before .before .before .before .before .before .before .pre .1 .0)) (c .before .before .byte-at .ensures .0) (c .before .said .ensures) (c .if1 .taken)
 
 round-eval-with-requires : (t : ℕ) → round-lts.Need-eval-with-requires (round-claims t) (round-at t) round.Post
 round-eval-with-requires t c κs = (omega (arith, c .before .before .before .before .before .before .before .pre .0), c .before .before .before .before .before .before .before .pre .1)
@@ -318,34 +318,34 @@ pub +eval-with+many+round-spec : {M : Type 1} → statement M
     (eval-with-op-requires t)
     (eval-with-leaf-at-requires t)
     (eval-with-cell-at-requires t)
-    (eval-with-eval-with-requires t)
+    (eval-with-round-requires t)
     (eval-with-returns-2 t)
     (eval-with-right-requires t)
     (eval-with-part-requires-2 t)
-    (eval-with-sub-eval-with t)
-    (eval-with-add-eval-with t)
-    (eval-with-eval-with-requires-2 t)
+    (eval-with-sub-round t)
+    (eval-with-add-round t)
+    (eval-with-round-requires-2 t)
     (eval-with-returns-3 t)
     (eval-with-add-result t)
     (eval-with-sub-result t)
-    (eval-with-eval-with-requires-3 t)
+    (eval-with-round-requires-3 t)
     (eval-with-returns-4 t)
     (eval-with-right-requires-2 t)
     (eval-with-part-requires-3 t)
-    (eval-with-eval-with-requires-4 t)
-    (eval-with-eval-with-requires-5 t)
+    (eval-with-round-requires-4 t)
+    (eval-with-round-requires-5 t)
     (eval-with-returns-5 t)
     (eval-with-many-requires t)
     (eval-with-add-result-2 t)
-    (eval-with-eval-with-requires-6 t)
+    (eval-with-round-requires-6 t)
     (eval-with-returns-6 t)
     (eval-with-sub-many t)
     (eval-with-add-many t)
     (eval-with-many-requires-2 t)
     (eval-with-add-result-3 t)
-    (eval-with-eval-with-requires-7 t)
+    (eval-with-round-requires-7 t)
     (eval-with-returns-7 t)
-    (eval-with-eval-with-requires-8 t)
+    (eval-with-round-requires-8 t)
     (eval-with-returns-8 t)
     (eval-with-returns-9 t)
     (eval-with-returns-10 t)
@@ -374,7 +374,7 @@ pub +eval-with+many+round-spec : {M : Type 1} → statement M
     (many-returns-3 t))
     λ t. round-lts.spec (round-claims t) (round-at t) round.Post
     (round-byte-at-requires t)
-    (round-word-of-requires t)
+    (round-said-requires t)
     (round-sub-result t)
     (round-returns t)
     (round-eval-with-requires t)

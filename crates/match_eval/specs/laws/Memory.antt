@@ -8,45 +8,51 @@ use native.Mathlib.Nat.{suc-mul, mul-le-mul-right}
 use native.Mathlib.Decide.{ℕ-discrete}
 use Rattle.base_facts.specs.laws.Numbers.{lt-or-ge}
 use lib.ListN.{getD, length, set, length-set, replicate}
-use lib.Seq.{getD-set-same, getD-set-other}
+use lib.Seq.{getD-set-same, getD-set-other, set-out}
 use Rattle.grammar.specs.Exp.{Exp}
 use Rattle.match_eval.specs.Eval.{ev, rep}
 use Rattle.match_eval.specs.laws.Within.{ev-within, rep-within}
+use Rattle.grammar_table.specs.Table.{symbolWord}
 use Rattle.grammar_table.specs.Trees.{treeOf}
-use Rattle.match_eval.specs.steps.Firsts.{byteAt, bodiesAt, wordOf, Heard, Sure}
-use Rattle.match_eval.specs.steps.Memory.{countAt, keysAt, seenAt, roundsAt, entriesAt, roundsOf, Key, Alike, Words, Fresh, Ready, About, Told, Worded, Knows, Front, Same, Noted}
+use Rattle.match_eval.specs.steps.Firsts.{byteAt, saidAt, saidOf, wordOf, Heard, Sure}
+use Rattle.match_eval.specs.steps.Memory.{countAt, keysAt, seenAt, entriesAt, roundsOf, Key, Alike, Words, Ready, About, Told, Knows, Front, Same, Noted}
 use Rattle.match_eval.specs.laws.EvalSteps.{rep-more}
+use Rattle.match_eval.specs.laws.Said.{said-same, said-blank}
 use Rattle.match_eval.specs.laws.Frame.{rounds-same, rep-enough}
 
--- ── words ──
+-- ── what is said ──
 -- what the first memory says, the second says too
 abbrev pub Wider : List ℕ → List ℕ → Type 0
-Wider mem new = (b r v : ℕ) → b ≤ 256 → r < 64 → wordOf mem b r ≡ suc v → wordOf new b r ≡ suc v
+Wider mem new = (b x v : ℕ) → saidOf mem b x ≡ suc v → saidOf new b x ≡ suc v
 
-pub heard-back : (mem new s cs : List ℕ) (n p : ℕ) → Wider mem new → Heard new s cs n p → Heard mem s cs n p
-heard-back mem new s cs n p f w r v l i h e = w r v l i h (f (byteAt s p) r v h i e)
+pub heard-back : (t mem new s cs : List ℕ) (n p : ℕ) → Wider mem new → Heard t new s cs n p → Heard t mem s cs n p
+heard-back t mem new s cs n p f w r v l e = w r v l (f (byteAt s p) _ v e)
 
-pub sure-wider : (mem new : List ℕ) (n b : ℕ) (e : Exp ℕ) (v : ℕ) → Wider mem new → Sure mem n b e v → Sure new n b e v
-sure-wider mem new n b e v f h s cs p q w = h s cs p q (heard-back mem new s cs n p f w)
+pub sure-wider : (t mem new : List ℕ) (n b : ℕ) (e : Exp ℕ) (v : ℕ) → Wider mem new → Sure t mem n b e v → Sure t new n b e v
+sure-wider t mem new n b e v f h s cs p q w = h s cs p q (heard-back t mem new s cs n p f w)
 
 -- a change of what stands elsewhere
-pub wider-same : (mem new : List ℕ) → ((b r : ℕ) → b ≤ 256 → r < 64 → wordOf new b r ≡ wordOf mem b r) → Wider mem new
-wider-same mem new f b r v i j e = f b r i j ∙ e
+pub wider-same : (mem new : List ℕ) → ((b x : ℕ) → saidOf new b x ≡ saidOf mem b x) → Wider mem new
+wider-same mem new f b x v e = f b x ∙ e
+
+pub words-same : (t mem new : List ℕ) (n : ℕ) → ((b x : ℕ) → saidOf new b x ≡ saidOf mem b x) → Words t n mem → Words t n new
+words-same t mem new n f w b x v e = sure-wider t mem new n b _ v (wider-same mem new f) (w b x v (sym (f b x) ∙ e))
 
 module _ (t s cs mem : List ℕ) (n : ℕ) where
   -- what is told is so
   pub told-right : (k h : ℕ) → Knows t s cs n mem k h → (x q c : ℕ) → q < 65536 → Told mem x q c → c ≡ roundsOf t s cs n x q
   told-right k h w x q c l (j, i, a, b, d) = sym d ∙ w .right i x j q l a b
 
-  -- what the word of a part says by the byte at a place is what a round of it takes there
-  pub worded-right : (k p : ℕ) → Knows t s cs n mem k p → (x b u : ℕ) → p ≤ length s → b ≡ byteAt s p → b ≤ 256 → (u ≡ 0 → ⊥) → (0 < u → Worded mem x b u)
+  -- what is said of a part by the byte at a place is what it takes there
+  pub said-right : (k p : ℕ) → Knows t s cs n mem k p → (x b u : ℕ) → p ≤ length s → b ≡ byteAt s p → u ≡ saidOf mem b x → (u ≡ 0 → ⊥)
       → u - 1 ≡ ev s cs n (treeOf t x) p
-  worded-right k p w x b u l e h z f = go (f (omega (arith, z)))
-    where
-      go : Worded mem x b u → u - 1 ≡ ev s cs n (treeOf t x) p
-      go (j, i, a, d) =
-          let q : u ≡ suc (u - 1) = omega (arith, z) in
-          sym (w .words .rounds b x j (u - 1) h i a (d ∙ q) s cs p (sym e) (w .heard p (omega arith) l))
+  said-right k p w x b u l e q z =
+      let h : u ≡ suc (u - 1) = omega (arith, z) in
+      sym (w .words b x (u - 1) (sym q ∙ h) s cs p (sym e) (w .heard p (omega arith) l))
+
+  -- what a symbol's body takes is what is said of it
+  pub said-body : (k p : ℕ) → Knows t s cs n mem k p → (r v u : ℕ) → p ≤ length s → v ≡ ev s cs n (treeOf t (symbolWord t r 1)) p → wordOf t mem (byteAt s p) r ≡ suc u → v ≡ u
+  said-body k p w r v u l e h = e ∙ w .words (byteAt s p) (symbolWord t r 1) u h s cs p refl (w .heard p (omega arith) l)
 
   -- rounds from q on that are known, in the midst of rounds from p on
   pub known-ends : (h : ℕ) → Knows t s cs n mem 0 h → (x k p q c : ℕ) → length s < 65536 → p ≤ q → q ≤ length s → length s ≤ k + q
@@ -75,7 +81,7 @@ module _ (t s cs mem : List ℕ) (n : ℕ) where
 
   -- cells before an entry's place change, and from h on they are what the words say
   pub knows-cells : (k h i : ℕ) (ds : List ℕ) → Knows t s cs n mem k i → ((j : ℕ) → k * n ≤ j → getD ds j 0 ≡ getD cs j 0)
-      → ((q : ℕ) → h ≤ q → q ≤ length s → Heard mem s ds n q) → Knows t s ds n mem k h
+      → ((q : ℕ) → h ≤ q → q ≤ length s → Heard t mem s ds n q) → Knows t s ds n mem k h
   knows-cells k h i ds w f g = record {
     shared = w .shared;
     words = w .words;
@@ -99,17 +105,21 @@ module _ (t s cs mem : List ℕ) (n : ℕ) where
       compare : (a b : ℕ) → (a < b) ⊎ (a ≡ b) ⊎ (b < a)
       compare a b = elim (lt-or-ge a b) [ inl h ↦ inl h | inr h ↦ elim (lt-or-ge b a) [ inl g ↦ inr (inr g) | inr g ↦ inr (inl (omega arith)) ] ]
 
-  -- the cell of a symbol is stored of which the words say nothing
-  pub knows-stored : (p r v : ℕ) → r < n → wordOf mem (byteAt s p) r ≡ 0 → Knows t s cs n mem (p + 1) p → Knows t s (set cs (p * n + r) v) n mem (p + 1) p
+  -- the cell of a symbol is stored: where something is said of its body, that
+  pub knows-stored : (p r v : ℕ) → r < n → ((u : ℕ) → wordOf t mem (byteAt s p) r ≡ suc u → v ≡ u) → Knows t s cs n mem (p + 1) p
+      → Knows t s (set cs (p * n + r) v) n mem (p + 1) p
   knows-stored p r v l z w =
-      knows-cells (p + 1) p p (set cs (p * n + r) v) w
-      (λ j h. getD-set-other cs (p * n + r) j v 0 (λ e. past p r (p + 1) j l (omega arith) h e))
-      (λ q h m i u j k b e. getD-set-other cs (p * n + r) (q * n + i) v 0 (λ a. other q i u j e (cell-one p r q i l j a)) ∙ w .heard q h m i u j k b e)
+      knows-cells (p + 1) p p (set cs (p * n + r) v) w (λ j h. getD-set-other cs (p * n + r) j v 0 (λ e. past p r (p + 1) j l (omega arith) h e))
+      (λ q h m i u j e. go q i u h m j e (ℕ-discrete (q * n + i) (p * n + r)) (lt-or-ge (p * n + r) (length cs)))
     where
-      other : (q i u : ℕ) → i < n → wordOf mem (byteAt s q) i ≡ suc u → (q ≡ p) × (i ≡ r) → ⊥
-      other q i u j e (a, b) =
-          let f : wordOf mem (byteAt s p) r ≡ suc u = ap (λ (y : ℕ). wordOf mem (byteAt s y) r) (sym a) ∙ ap (λ (y : ℕ). wordOf mem (byteAt s q) y) (sym b) ∙ e in
-          omega (arith, z, f)
+      go : (q i u : ℕ) → p ≤ q → q ≤ length s → i < n → wordOf t mem (byteAt s q) i ≡ suc u → Dec (q * n + i ≡ p * n + r)
+          → (p * n + r < length cs) ⊎ (length cs ≤ p * n + r) → getD (set cs (p * n + r) v) (q * n + i) 0 ≡ u
+      go q i u h m j e (no f) d = getD-set-other cs (p * n + r) (q * n + i) v 0 f ∙ w .heard q h m i u j e
+      go q i u h m j e (yes a) (inr d) = ap (λ (y : List ℕ). getD y (q * n + i) 0) (set-out cs (p * n + r) v d) ∙ w .heard q h m i u j e
+      go q i u h m j e (yes a) (inl d) =
+          let b : (q ≡ p) × (i ≡ r) = cell-one p r q i l j a in
+          ap (λ (y : ℕ). getD (set cs (p * n + r) v) y 0) a ∙ getD-set-same cs (p * n + r) v 0 d
+          ∙ z u (ap (λ (y : ℕ). wordOf t mem (byteAt s y) r) (sym (b .0)) ∙ ap (λ (y : ℕ). wordOf t mem (byteAt s q) y) (sym (b .1)) ∙ e)
 
 -- an entry is made
 module _ (t s cs old new : List ℕ) (n x k p c : ℕ) (small : p < 65536) (has : Key old x k) (h : ℕ) (w : Knows t s cs n old p h) (o : Noted k p c old new)
@@ -130,14 +140,8 @@ module _ (t s cs old new : List ℕ) (n x k p c : ℕ) (small : p < 65536) (has 
       let f : treeOf t x ≡ treeOf t y = w .shared .like x y k has (subst (λ (z : ℕ). Key old y z) u (key-back y j h)) in
       b .1 ∙ e ∙ ap (λ (z : Exp ℕ). rep (length s) (λ (i : ℕ). ev s cs n z i) p) f ∙ ap (λ (z : ℕ). roundsOf t s cs n y z) v
 
-  same-words : (b r : ℕ) → b ≤ 256 → r < 64 → wordOf new b r ≡ wordOf old b r
-  same-words b r i j = o .front (bodiesAt + 64 * b + r) (omega arith)
-
-  wider : Wider old new
-  wider = wider-same old new same-words
-
-  narrower : Wider new old
-  narrower = wider-same new old (λ b r i j. sym (same-words b r i j))
+  same-said : (b y : ℕ) → saidOf new b y ≡ saidOf old b y
+  same-said = said-same old new (λ j l m. o .front j m)
 
   pub knows-noted : Knows t s cs n new p h
   knows-noted = record {
@@ -145,11 +149,8 @@ module _ (t s cs old new : List ℕ) (n x k p c : ℕ) (small : p < 65536) (has 
       most = λ y j h. subst (λ (z : ℕ). j ≤ z) (sym (o .front countAt (omega arith))) (w .shared .most y j (key-back y j h));
       like = λ y z j h g. w .shared .like y z j (key-back y j h) (key-back z j g);
     };
-    words = record {
-      bodies = λ b r v i j e. sure-wider old new n b _ v wider (w .words .bodies b r v i j (sym (same-words b r i j) ∙ e));
-      rounds = λ b y j v i l g e. sure-wider old new n b _ v wider (w .words .rounds b y j v i l (key-back y j g) (sym (o .front (roundsAt + 64 * b + j) (omega arith)) ∙ e));
-    };
-    heard = λ q g l. heard-back new old s cs n q narrower (w .heard q g l);
+    words = words-same t old new n same-said (w .words);
+    heard = λ q g l. heard-back t new old s cs n q (wider-same new old (λ b y. sym (same-said b y))) (w .heard q g l);
     from = λ i y j q l h a. first i y j q l h a (o .at i);
     right = λ i y j q l h a. second i y j q l h a (o .at i);
   }
@@ -209,17 +210,14 @@ alike-none t mem z = record {
   like = λ x y k h g. absurd (omega (arith, z (keysAt + x), h .1, h .2));
 }
 
-pub words-none : (t mem : List ℕ) (n : ℕ) → ((j : ℕ) → seenAt ≤ j → getD mem j 0 ≡ 0) → Words t n mem
-words-none t mem n z = record {
-  bodies = λ b r v i j e. absurd (omega (arith, z (bodiesAt + 64 * b + r) (omega arith), e));
-  rounds = λ b x k v i j h e. absurd (omega (arith, z (roundsAt + 64 * b + k) (omega arith), e));
-}
+pub words-none : (t mem : List ℕ) (n : ℕ) → ((j : ℕ) → saidAt ≤ j → getD mem j 0 ≡ 0) → Words t n mem
+words-none t mem n z b x v e = absurd (omega (arith, said-blank mem z b x, e))
 
 pub knows-nothing : (t s cs : List ℕ) (n k h m : ℕ) → Knows t s cs n (replicate {A = ℕ} m 0) k h
 knows-nothing t s cs n k h m = record {
   shared = alike-none t (replicate {A = ℕ} m 0) (zeros m);
   words = words-none t (replicate {A = ℕ} m 0) n (λ j l. zeros m j);
-  heard = λ q g l r v i j b e. absurd (omega (arith, zeros m (bodiesAt + 64 * byteAt s q + r), e));
+  heard = λ q g l r v i e. absurd (omega (arith, said-blank (replicate {A = ℕ} m 0) (λ j h. zeros m j) (byteAt s q) (symbolWord t r 1), e));
   from = λ i x j q l a b. absurd (omega (arith, zeros m (keysAt + x), a .1, a .2));
   right = λ i x j q l a b. absurd (omega (arith, zeros m (keysAt + x), a .1, a .2));
 }

@@ -1,8 +1,7 @@
 -- Rounds that are remembered, so that a repeat at a place ends with what was known at a later one (01, Meaning of a match: "A repeat ends at the first failing
 -- round or the first round that takes nothing"). Repeated parts with one key have the same tree and share what is remembered. The memory is one run of words:
--- how many places of each key it keeps, how many keys there are, the key of each part, a part of each key, which bytes have been seen, what each symbol's body
--- takes where a byte stands, what the parts of each key take there, then two words an entry: what it is about (key · 65,536 + place), and the bytes that rounds
--- take from there.
+-- how many places of each key it keeps, how many keys there are, the key of each part, a part of each key, which bytes have been seen, what bytes decide
+-- (Firsts), then two words an entry: what it is about (key · 65,536 + place), and the bytes that rounds take from there.
 -- Assumes nothing: these are definitions.
 use Prim.Native.Nat.{ℕ, suc, _+_, _*_, _≤_, _<_}
 use mathlib.Core.Path.{_≡_}
@@ -10,9 +9,8 @@ use mathlib.Core.List.{List}
 use mathlib.Core.Logic.{_⊎_}
 use lib.ListN.{getD, length}
 use Rattle.match_eval.specs.Eval.{ev, rep}
-use Rattle.grammar_table.specs.Table.{symbolWord}
 use Rattle.grammar_table.specs.Trees.{treeOf}
-use Rattle.match_eval.specs.steps.Firsts.{wordOf, Heard, Sure, Silent}
+use Rattle.match_eval.specs.steps.Firsts.{parts, saidAt, saidOf, Heard, Sure, Silent, Added}
 
 abbrev pub countAt : ℕ
 countAt = 1
@@ -26,16 +24,8 @@ partsAt = 1027
 abbrev pub seenAt : ℕ
 seenAt = 2052
 
--- where the words of the keys begin: 64 for each byte
-abbrev pub roundsAt : ℕ
-roundsAt = 18757
-
 abbrev pub entriesAt : ℕ
-entriesAt = 35205
-
--- `.` and 1,024 expressions
-abbrev pub parts : ℕ
-parts = 1025
+entriesAt = 18709
 
 -- the bytes that rounds of part x take from q on
 abbrev pub roundsOf : List ℕ → List ℕ → List ℕ → ℕ → ℕ → ℕ → ℕ
@@ -54,18 +44,9 @@ pub record Alike (t mem : List ℕ) : Type 0 where
   pub most : (x k : ℕ) → Key mem x k → k ≤ getD mem countAt 0
   pub like : (x y k : ℕ) → Key mem x k → Key mem y k → treeOf t x ≡ treeOf t y
 
--- the word of key k where byte b stands: 0 says nothing, else 1 + what its parts take there
-abbrev pub roundOf : List ℕ → ℕ → ℕ → ℕ
-roundOf mem b k = getD mem (roundsAt + 64 * b + k) 0
-
--- part x has a key whose word is w where byte b stands
-abbrev pub Worded : List ℕ → ℕ → ℕ → ℕ → Type 0
-Worded mem x b w = (k : ℕ) × (k < 64) × Key mem x k × (roundOf mem b k ≡ w)
-
--- what the words say of bodies and of parts is so
-pub record Words (t : List ℕ) (n : ℕ) (mem : List ℕ) : Type 0 where
-  pub bodies : (b r v : ℕ) → b ≤ 256 → r < 64 → wordOf mem b r ≡ suc v → Sure mem n b (treeOf t (symbolWord t r 1)) v
-  pub rounds : (b x k v : ℕ) → b ≤ 256 → k < 64 → Key mem x k → roundOf mem b k ≡ suc v → Sure mem n b (treeOf t x) v
+-- what is said of parts is so
+abbrev pub Words : List ℕ → ℕ → List ℕ → Type 0
+Words t n mem = (b x v : ℕ) → saidOf mem b x ≡ suc v → Sure t mem n b (treeOf t x) v
 
 -- the keys are right, and nothing is said yet
 pub record Fresh (t mem : List ℕ) : Type 0 where
@@ -73,12 +54,18 @@ pub record Fresh (t mem : List ℕ) : Type 0 where
   pub room : entriesAt ≤ length mem
   pub blank : (j : ℕ) → seenAt ≤ j → getD mem j 0 ≡ 0
 
--- the keys and the words are right, and no entry says anything yet
+-- the keys are right and what is said, and no entry says anything yet
 pub record Ready (t : List ℕ) (n : ℕ) (mem : List ℕ) : Type 0 where
   pub shared : Alike t mem
   pub words : Words t n mem
   pub room : entriesAt ≤ length mem
   pub blank : (j : ℕ) → entriesAt ≤ j → getD mem j 0 ≡ 0
+
+-- it is said of part x and byte b, if nothing was, that it takes v; nothing else has changed
+pub record Spoken (b x v : ℕ) (old new : List ℕ) : Type 0 where
+  pub added : Added b x v old new
+  pub aside : (j : ℕ) → (j < saidAt) ⊎ (entriesAt ≤ j) → getD new j 0 ≡ getD old j 0
+  pub long : length new ≡ length old
 
 -- entry i is about rounds from q on of parts with key k
 abbrev pub About : List ℕ → ℕ → ℕ → ℕ → Type 0
@@ -88,22 +75,18 @@ About mem i k q = getD mem (entriesAt + 2 * i) 0 ≡ k * 65536 + q
 abbrev pub Told : List ℕ → ℕ → ℕ → ℕ → Type 0
 Told mem x q c = (k : ℕ) × (i : ℕ) × Key mem x k × About mem i k q × (getD mem (entriesAt + 2 * i + 1) 0 ≡ c)
 
--- the keys and the words are right; every entry is about a place from k on, and is what the rounds of each part with its key take by the cells; from h on the
--- cells are what the words say
+-- the keys are right and what is said; every entry is about a place from k on, and is what the rounds of each part with its key take by the cells; from h
+-- on the cells are what is said
 pub record Knows (t s cs : List ℕ) (n : ℕ) (mem : List ℕ) (k h : ℕ) : Type 0 where
   pub shared : Alike t mem
   pub words : Words t n mem
   pub from : (i x j q : ℕ) → q < 65536 → Key mem x j → About mem i j q → k ≤ q
   pub right : (i x j q : ℕ) → q < 65536 → Key mem x j → About mem i j q → getD mem (entriesAt + 2 * i + 1) 0 ≡ roundsOf t s cs n x q
-  pub heard : (q : ℕ) → h ≤ q → q ≤ length s → Heard mem s cs n q
+  pub heard : (q : ℕ) → h ≤ q → q ≤ length s → Heard t mem s cs n q
 
--- there are cells for every place, or no word says anything: then cells can be set to what the words say
+-- there are cells for every place, or nothing is said: then cells can be set to what is said
 abbrev pub Roomy : List ℕ → List ℕ → ℕ → ℕ → Type 0
 Roomy mem s n have = ((length s + 1) * n ≤ have) ⊎ Silent mem
-
--- the same of the words that there are
-abbrev pub Calm : List ℕ → List ℕ → ℕ → ℕ → Type 0
-Calm mem s n have = ((length s + 1) * n ≤ have) ⊎ ((b r : ℕ) → b ≤ 256 → r < 64 → wordOf mem b r ≡ 0)
 
 -- what stands before the entries is as it was
 abbrev pub Front : List ℕ → List ℕ → Type 0

@@ -3,7 +3,8 @@ use native.Mathlib.Omega.{arith}
 use mathlib.Core.Path.{_≡_, refl, sym, ap, _∙_}
 use Prim.Native.Nat.{_-_, _≤_}
 use lib.ListN.{length}
-use Rattle.match_eval.specs.steps.Firsts.{presetOf}
+use Rattle.match_eval.specs.steps.Firsts.{saidOf, presetOf}
+use Rattle.match_eval.specs.laws.Said.{said-small}
 use Rattle.match_cells.specs.laws.Preset.{preset-puts, preset-skips, preset-ends}
 use borrow.Author.Needs.{needs}
 use Rattle.match_cells.proofs.filling.preset.Statement.{statement}
@@ -11,13 +12,14 @@ use Rattle.match_cells.proofs.filling.preset.Tie as tie
 use Rattle.match_cells.proofs.filling.preset.Reads as reads
 use Rattle.match_cells.proofs.filling.preset.Lts as lts
 use Rattle.base_words.proofs.put.Reads as put-reads
-use Rattle.base_words.proofs.word.Reads as word-reads
+use Rattle.grammar_table.proofs.records.body.Reads as body-reads
+use Rattle.match_eval.proofs.memory.said.Reads as said-reads
 
 abbrev Inv-loop : tie.InvT-loop
-Inv-loop cells₀ mem n b i r₀ cells r = (length cells ≡ length cells₀) × (r ≤ n) × (presetOf mem b i r cells ≡ presetOf mem b i n cells₀)
+Inv-loop t cells₀ mem n b i r₀ cells r = (length cells ≡ length cells₀) × (r ≤ n) × (presetOf t mem b i r cells ≡ presetOf t mem b i n cells₀)
 
 abbrev μ-loop : tie.MeasureT-loop
-μ-loop cells₀ mem n b i r₀ cells r = r
+μ-loop t cells₀ mem n b i r₀ cells r = r
 
 loop-holds : tie.Need-loop-holds Inv-loop μ-loop
 loop-holds c = (refl, omega arith, refl)
@@ -25,44 +27,38 @@ loop-holds c = (refl, omega arith, refl)
 sub-r : tie.Need-sub-r Inv-loop μ-loop
 sub-r c = omega (arith, c .loop-test .taken)
 
-mul-word : tie.Need-mul-word Inv-loop μ-loop
-mul-word c = omega (arith, c .before .before .before .before .pre)
+body-requires : tie.Need-body-requires Inv-loop μ-loop
+body-requires c κs = omega (arith, c .before .before .before .before .before .pre, c .before .loop .inv .1)
 
-add-word : tie.Need-add-word Inv-loop μ-loop
-add-word c = omega (arith, c .before .before .before .before .pre)
-
-add-word-2 : tie.Need-add-word-2 Inv-loop μ-loop
-add-word-2 c = omega (arith, c .before .before .before .before .pre, c .before .loop .inv .1)
-
-word-requires : tie.Need-word-requires Inv-loop μ-loop
-word-requires c κs = search needs
+said-requires : tie.Need-said-requires Inv-loop μ-loop
+said-requires c κs = search needs
 
 add-put : tie.Need-add-put Inv-loop μ-loop
-add-put c = omega (arith, c .before .before .before .before .before .before .before .pre, c .before .before .before .before .loop .inv .1)
+add-put c = omega (arith, c .before .before .before .before .before .before .before .before .before .pre, c .before .before .before .before .before .loop .inv .1)
 
 sub-put : tie.Need-sub-put Inv-loop μ-loop
 sub-put c = omega (arith, c .before .if1 .taken)
 
 put-requires : tie.Need-put-requires Inv-loop μ-loop
-put-requires c κs = omega (arith, c .before .before .word .ensures .1)
+put-requires c κs = omega (arith, c .before .before .said .ensures, said-small (c .before .before .before .before .before .before .before .before .before .args .mem .now) (c .before .before .before .before .before .before .before .before .before .args .b) (c .before .before .before .body .result))
 
 loop-less : tie.Need-loop-less Inv-loop μ-loop
-loop-less c = omega (arith, c .before .before .before .before .before .before .loop-test .taken)
+loop-less c = omega (arith, c .before .before .before .before .before .before .before .loop-test .taken)
 
 loop-again : tie.Need-loop-again Inv-loop μ-loop
-loop-again c = (c .before .before .put .kept .0 ∙ c .before .before .before .before .before .before .before .loop .inv .0, omega (arith, c .before .before .before .before .before .before .before .loop .inv .1), ap (presetOf (c .before .before .before .before .before .before .before .before .before .before .args .mem .now) (c .before .before .before .before .before .before .before .before .before .before .args .b) (c .before .before .before .before .before .before .before .before .before .before .args .i) (c .before .before .before .before .before .before .before .loop .r - 1)) (c .before .before .put .ensures) ∙ preset-puts (c .before .before .before .before .before .before .before .before .before .before .args .mem .now) (c .before .before .before .before .before .before .before .before .before .before .args .b) (c .before .before .before .before .before .before .before .before .before .before .args .i) (c .before .before .before .before .before .before .before .loop .r) (c .before .before .before .before .before .word .result) (c .before .before .before .before .before .before .before .loop .cells) (c .before .before .before .before .before .before .loop-test .taken) (c .before .before .before .before .before .word .ensures .0) (c .before .before .before .before .if1 .taken) ∙ c .before .before .before .before .before .before .before .loop .inv .2)
+loop-again c = (c .before .before .put .kept .0 ∙ c .before .before .before .before .before .before .before .before .loop .inv .0, omega (arith, c .before .before .before .before .before .before .before .before .loop .inv .1), ap (presetOf (c .before .before .before .before .before .before .before .before .before .before .before .before .args .t .now) (c .before .before .before .before .before .before .before .before .before .before .before .before .args .mem .now) (c .before .before .before .before .before .before .before .before .before .before .before .before .args .b) (c .before .before .before .before .before .before .before .before .before .before .before .before .args .i) (c .before .before .before .before .before .before .before .before .loop .r - 1)) (c .before .before .put .ensures) ∙ preset-puts (c .before .before .before .before .before .before .before .before .before .before .before .before .args .t .now) (c .before .before .before .before .before .before .before .before .before .before .before .before .args .mem .now) (c .before .before .before .before .before .before .before .before .before .before .before .before .args .b) (c .before .before .before .before .before .before .before .before .before .before .before .before .args .i) (c .before .before .before .before .before .before .before .before .loop .r) (c .before .before .before .before .before .said .result) (c .before .before .before .before .before .before .before .before .loop .cells) (c .before .before .before .before .before .before .before .loop-test .taken) (c .before .before .before .before .before .said .ensures ∙ ap (saidOf (c .before .before .before .before .before .before .before .before .before .before .before .before .args .mem .now) (c .before .before .before .before .before .before .before .before .before .before .before .before .args .b)) (c .before .before .before .before .before .before .body .ensures .0)) (c .before .before .before .before .if1 .taken) ∙ c .before .before .before .before .before .before .before .before .loop .inv .2)
 
 loop-less-2 : tie.Need-loop-less-2 Inv-loop μ-loop
-loop-less-2 c = omega (arith, c .before .before .loop-test .taken)
+loop-less-2 c = omega (arith, c .before .before .before .loop-test .taken)
 
 loop-again-2 : tie.Need-loop-again-2 Inv-loop μ-loop
-loop-again-2 c = (c .before .before .before .loop .inv .0, omega (arith, c .before .before .before .loop .inv .1), preset-skips (c .before .before .before .before .before .before .args .mem .now) (c .before .before .before .before .before .before .args .b) (c .before .before .before .before .before .before .args .i) (c .before .before .before .loop .r) (c .before .before .before .loop .cells) (c .before .before .loop-test .taken) (sym (c .before .word .ensures .0) ∙ c .if1 .left) ∙ c .before .before .before .loop .inv .2)
+loop-again-2 c = (c .before .before .before .before .loop .inv .0, omega (arith, c .before .before .before .before .loop .inv .1), preset-skips (c .before .before .before .before .before .before .before .before .args .t .now) (c .before .before .before .before .before .before .before .before .args .mem .now) (c .before .before .before .before .before .before .before .before .args .b) (c .before .before .before .before .before .before .before .before .args .i) (c .before .before .before .before .loop .r) (c .before .before .before .before .loop .cells) (c .before .before .before .loop-test .taken) (ap (saidOf (c .before .before .before .before .before .before .before .before .args .mem .now) (c .before .before .before .before .before .before .before .before .args .b)) (sym (c .before .before .body .ensures .0)) ∙ sym (c .before .said .ensures) ∙ c .if1 .left) ∙ c .before .before .before .before .loop .inv .2)
 
 same-length : tie.Need-same-length Inv-loop μ-loop
 same-length c = c .before .loop .inv .0
 
 returns : tie.Need-returns Inv-loop μ-loop
-returns c = preset-ends (c .before .before .before .before .args .mem .now) (c .before .before .before .before .args .b) (c .before .before .before .before .args .i) (c .before .loop .r) (c .before .loop .cells) (omega (arith, c .loop-test .left)) ∙ c .before .loop .inv .2
+returns c = preset-ends (c .before .before .before .before .before .args .t .now) (c .before .before .before .before .before .args .mem .now) (c .before .before .before .before .before .args .b) (c .before .before .before .before .before .args .i) (c .before .loop .r) (c .before .loop .cells) (omega (arith, c .loop-test .left)) ∙ c .before .loop .inv .2
 
 pub preset-spec : {M : Type 1} → statement M
 preset-spec =
@@ -72,10 +68,8 @@ preset-spec =
     μ-loop
     loop-holds
     sub-r
-    mul-word
-    add-word
-    add-word-2
-    word-requires
+    body-requires
+    said-requires
     add-put
     sub-put
     put-requires

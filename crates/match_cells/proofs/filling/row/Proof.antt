@@ -18,10 +18,10 @@ use Rattle.base_words.proofs.word.Reads as word-reads
 use Rattle.match_cells.proofs.filling.store.Reads as store-reads
 
 abbrev Inv-loop : tie.InvT-loop
-Inv-loop t s cells₀ mem order n p b j₀ cells j = (j ≤ n) × (length cells ≡ length cells₀) × (rowOf (bodiesOf t) s p (wordsFrom order j (n - j)) cells ≡ rowOf (bodiesOf t) s p (wordsFrom order 0 n) cells₀) × Knows t s cells n mem (p + 1) p
+Inv-loop t s cells₀ mem order n p j₀ cells j = (j ≤ n) × (length cells ≡ length cells₀) × (rowOf (bodiesOf t) s p (wordsFrom order j (n - j)) cells ≡ rowOf (bodiesOf t) s p (wordsFrom order 0 n) cells₀) × Knows t s cells n mem (p + 1) p
 
 abbrev μ-loop : tie.MeasureT-loop
-μ-loop t s cells₀ mem order n p b j₀ cells j = n - j
+μ-loop t s cells₀ mem order n p j₀ cells j = n - j
 
 loop-holds : tie.Need-loop-holds Inv-loop μ-loop
 loop-holds c = (omega arith, refl, row-start (c .before .before .before .before .before .args .t .now) (c .before .before .before .before .before .args .s .now) (c .before .before .before .before .before .args .p) (c .before .before .before .before .before .args .order .now) (c .before .before .before .before .before .args .n) (c .before .before .before .before .before .args .cells .now), c .before .before .before .before .before .pre .1)
@@ -30,7 +30,7 @@ word-requires : tie.Need-word-requires Inv-loop μ-loop
 word-requires c κs = search needs
 
 store-requires : tie.Need-store-requires Inv-loop μ-loop
-store-requires c κs = ((c .before .before .before .before .before .before .before .before .before .pre .0 .0, c .before .before .before .before .before .before .before .before .before .pre .0 .1, subst (λ (x : ℕ). x < c .before .before .before .before .before .before .before .before .before .args .n) (sym (c .before .word .ensures .0)) (c .before .before .before .before .before .before .before .before .before .pre .0 .2 (c .before .before .before .loop .j) (c .before .before .loop-test .taken)), c .before .before .before .before .before .before .before .before .before .pre .0 .3, c .before .before .before .before .before .before .before .before .before .pre .0 .4, c .before .before .before .before .before .before .before .before .before .pre .0 .5, c .before .before .before .before .before .before .before .before .before .pre .0 .6), c .before .before .before .loop .inv .3)
+store-requires c κs = ((c .before .before .before .before .before .before .before .before .before .pre .0 .0, c .before .before .before .before .before .before .before .before .before .pre .0 .1, subst (λ (x : ℕ). x < c .before .before .before .before .before .before .before .before .before .args .n) (sym (c .before .word .ensures .0)) (c .before .before .before .before .before .before .before .before .before .pre .0 .2 (c .before .before .before .loop .j) (c .before .before .loop-test .taken)), c .before .before .before .before .before .before .before .before .before .pre .0 .3, c .before .before .before .before .before .before .before .before .before .pre .0 .4), c .before .before .before .loop .inv .3)
 
 add-j : tie.Need-add-j Inv-loop μ-loop
 add-j c = omega (arith, c .before .before .before .before .before .loop-test .taken, c .before .before .before .before .before .before .before .before .before .before .before .before .pre .0 .1)

@@ -8,14 +8,14 @@ use Rattle.match_cells.proofs.filling.rows_in.Tie as tie
 use Rattle.match_cells.proofs.filling.rows_in.Reads as reads
 use Rattle.match_cells.proofs.filling.rows_in.Lts as lts
 use Rattle.match_cells.proofs.filling.rows.Reads as rows-reads
-use Rattle.match_cells.proofs.firsts.decide_all.Reads as decide-all-reads
+use Rattle.match_firsts.proofs.decide_all.Reads as decide-all-reads
 use Rattle.match_cells.proofs.memory.enter_all.Reads as enter-all-reads
 
 slice-aggregate-enter-all : tie.Need-slice-aggregate-enter-all
 slice-aggregate-enter-all c = search needs
 
 enter-all-requires : tie.Need-enter-all-requires
-enter-all-requires c κs = fresh-none (c .before .before .before .before .before .args .t .now) 43397 (omega arith)
+enter-all-requires c κs = fresh-none (c .before .before .before .before .before .args .t .now) 26901 (omega arith)
 
 slice-aggregate-decide-all : tie.Need-slice-aggregate-decide-all
 slice-aggregate-decide-all c = search needs

@@ -1,0 +1,2 @@
+-- Laws of what a byte decides.
+pub mod Firsts
