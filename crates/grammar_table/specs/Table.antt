@@ -48,6 +48,13 @@ terminalKey = 1
 abbrev pub bodyAt : ℕ → ℕ
 bodyAt r = 9 + symbolWords * r
 
+-- where the name of symbol r begins, and the content of terminal x: the bytes of a literal or the marks of a class
+abbrev pub nameAt : ℕ → ℕ
+nameAt r = symbolsAt + symbolWords * r + 4
+
+abbrev pub contentAt : ℕ → ℕ
+contentAt x = terminalsAt + terminalWords * x + 2
+
 abbrev pub symbolCount : List ℕ → ℕ
 symbolCount t = getD t 0 0
 
@@ -91,13 +98,13 @@ symbolBy zero w = name w
 symbolBy (suc k) w = lake w
 
 unfoldable pub nameIn : List ℕ → ℕ → Symbol
-nameIn t r = symbolBy (symbolWord t r 0) (wordsFrom t (symbolsAt + symbolWords * r + 4) (symbolWord t r 3))
+nameIn t r = symbolBy (symbolWord t r 0) (wordsFrom t (nameAt r) (symbolWord t r 3))
 
 -- a terminal's content by its kind
 unfoldable pub leafBy : ℕ → List ℕ → ℕ → Leaf
 leafBy zero t x = any
-leafBy (suc zero) t x = literal (wordsFrom t (terminalsAt + terminalWords * x + 2) (terminalWord t x 1))
-leafBy (suc (suc k)) t x = class (marksFrom t (terminalsAt + terminalWords * x + 2) 256)
+leafBy (suc zero) t x = literal (wordsFrom t (contentAt x) (terminalWord t x 1))
+leafBy (suc (suc k)) t x = class (marksFrom t (contentAt x) 256)
 
 unfoldable pub leafIn : List ℕ → ℕ → Leaf
 leafIn t x = leafBy (terminalWord t x 0) t x

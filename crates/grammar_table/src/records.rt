@@ -4,13 +4,16 @@ ghost use Prim.Native.Nat.{_+_, _*_, _<_};
 ghost use mathlib.Core.Path.{_≡_};
 ghost use lib.ListN.{getD, set};
 ghost use Rattle.grammar_table.specs.Table.{symbolCount, terminalCount, expressionCount, symbolWord, terminalWord};
-ghost use Rattle.grammar_table.specs.Table.{opOf, leftOf, rightOf, symbolsAt, symbolWords, expressionsAt, expressionWords};
+ghost use Rattle.grammar_table.specs.Table.{opOf, leftOf, rightOf, symbolsAt, symbolWords, expressionsAt, expressionWords, nameAt, contentAt};
 use crate::BODY;
+use crate::CONTENT;
 use crate::EXPRESSION_WORDS;
 use crate::EXPRESSIONS_AT;
 use crate::KIND;
 use crate::LEFT;
 use crate::LENGTH;
+use crate::NAME;
+use crate::NAME_LENGTH;
 use crate::RIGHT;
 use crate::SYMBOL_WORDS;
 use crate::SYMBOLS_AT;
@@ -61,6 +64,28 @@ pub fn store_body(t: &mut [u32], r: usize, x: usize)
     put(t, SYMBOLS_AT + SYMBOL_WORDS * r + BODY, x);
 }
 
+// Of its name: how many bytes, where the first stands, and byte j.
+pub fn name_length(t: &[u32], r: usize) -> usize
+    requires { ⌜ r < 1125899906842624 ⌝ }
+    ensures { λ n. ⌜ (n ≡ symbolWord (now (t .entry)) r 3) × (n < 4294967296) ⌝ }
+{
+    word(t, SYMBOLS_AT + SYMBOL_WORDS * r + NAME_LENGTH)
+}
+
+pub fn name_at(r: usize) -> usize
+    requires { ⌜ r < 1125899906842624 ⌝ }
+    ensures { λ i. ⌜ i ≡ nameAt r ⌝ }
+{
+    SYMBOLS_AT + SYMBOL_WORDS * r + NAME
+}
+
+pub fn name_word(t: &[u32], r: usize, j: usize) -> usize
+    requires { ⌜ (r < 1125899906842624) × (j < 1125899906842624) ⌝ }
+    ensures { λ v. ⌜ (v ≡ getD (now (t .entry)) (nameAt r + j) 0) × (v < 4294967296) ⌝ }
+{
+    word(t, SYMBOLS_AT + SYMBOL_WORDS * r + NAME + j)
+}
+
 // The kind of terminal x, and the length of a literal.
 pub fn leaf_kind(t: &[u32], x: usize) -> usize
     requires { ⌜ x < 1125899906842624 ⌝ }
@@ -74,6 +99,21 @@ pub fn leaf_length(t: &[u32], x: usize) -> usize
     ensures { λ n. ⌜ (n ≡ terminalWord (now (t .entry)) x 1) × (n < 4294967296) ⌝ }
 {
     word(t, TERMINALS_AT + TERMINAL_WORDS * x + LENGTH)
+}
+
+// Of its content: where the first word stands, and word j, a byte of a literal or a mark of a class.
+pub fn content_at(x: usize) -> usize
+    requires { ⌜ x < 1125899906842624 ⌝ }
+    ensures { λ i. ⌜ i ≡ contentAt x ⌝ }
+{
+    TERMINALS_AT + TERMINAL_WORDS * x + CONTENT
+}
+
+pub fn leaf_word(t: &[u32], x: usize, j: usize) -> usize
+    requires { ⌜ (x < 1125899906842624) × (j < 1125899906842624) ⌝ }
+    ensures { λ v. ⌜ (v ≡ getD (now (t .entry)) (contentAt x + j) 0) × (v < 4294967296) ⌝ }
+{
+    word(t, TERMINALS_AT + TERMINAL_WORDS * x + CONTENT + j)
 }
 
 // The kind of expression e, its left word and its right one.

@@ -7,7 +7,7 @@ ghost use lib.Dec.{eqb};
 ghost use Rattle.lake_step_one.specs.steps.Runs.{Near, CopiedOne, CopiedRun, WaterTo, BodyTo};
 ghost use Rattle.lake_step_one.specs.steps.Runs.{moved as movedTo};
 ghost use Rattle.lake_step_one.specs.steps.Made.{nextBy, lakeAt, MadeNext, WaterAt, SteppedOne, BuiltAll};
-ghost use Rattle.grammar_table.specs.Table.{expressionsAt, symbolWord, nameIn};
+ghost use Rattle.grammar_table.specs.Table.{expressionsAt, symbolWord, nameAt, nameIn};
 ghost use Rattle.grammar.specs.Same.{sameSymbol};
 ghost use Rattle.lake_step_one.specs.Intermediate.{waterName};
 use grammar_table::records;
@@ -180,11 +180,12 @@ fn symbol(t: &[u32], mid: &mut [u32], r: usize, water: Extent, from: usize, m: u
     Reached { from: f, count: p }
 }
 
-// Whether the word at i is v.
-fn is_word(t: &[u32], i: usize, v: usize) -> bool
-    ensures { λ u. ⌜ u ≡ eqb v (getD (now (t .entry)) i 0) ⌝ }
+// Whether word j of the name of symbol s is v.
+fn is_byte(t: &[u32], s: usize, j: usize, v: usize) -> bool
+    requires { ⌜ (s < 64) × (j < 64) ⌝ }
+    ensures { λ u. ⌜ u ≡ eqb v (getD (now (t .entry)) (nameAt s + j) 0) ⌝ }
 {
-    v == base_words::word(t, i)
+    v == records::name_word(t, s, j)
 }
 
 // Whether symbol s is called `water`.
@@ -192,26 +193,27 @@ pub fn is_water(t: &[u32], s: usize) -> bool
     requires { ⌜ s < 64 ⌝ }
     ensures { λ u. ⌜ u ≡ sameSymbol waterName (nameIn (now (t .entry)) s) ⌝ }
 {
-    let at = grammar_table::SYMBOLS_AT + grammar_table::SYMBOL_WORDS * s;
-    if !is_word(t, at, 0) {
+    let k = records::kind(t, s);
+    if k != 0 {
         return false;
     }
-    if !is_word(t, at + 3, 5) {
+    let n = records::name_length(t, s);
+    if n != 5 {
         return false;
     }
-    if !is_word(t, at + 4, 119) {
+    if !is_byte(t, s, 0, 119) {
         return false;
     }
-    if !is_word(t, at + 5, 97) {
+    if !is_byte(t, s, 1, 97) {
         return false;
     }
-    if !is_word(t, at + 6, 116) {
+    if !is_byte(t, s, 2, 116) {
         return false;
     }
-    if !is_word(t, at + 7, 101) {
+    if !is_byte(t, s, 3, 101) {
         return false;
     }
-    is_word(t, at + 8, 114)
+    is_byte(t, s, 4, 114)
 }
 
 // Where the run of symbol s + 1 begins.

@@ -8,7 +8,7 @@ use native.Mathlib.Numerals.{add-one}
 use lib.Dec.{eqb}
 use lib.ListN.{length, getD}
 use Rattle.read_tokens.specs.Token.{Leaf, any, literal, class}
-use Rattle.grammar_table.specs.Table.{terminalsAt, terminalWords, terminalWord, wordsFrom, marksFrom, leafBy, leafIn}
+use Rattle.grammar_table.specs.Table.{contentAt, terminalWord, wordsFrom, marksFrom, leafBy, leafIn}
 
 -- one word more
 pub words-more : (t : List ℕ) (i k : ℕ) → 0 < k → wordsFrom t i k ≡ getD t i 0 ∷ wordsFrom t (i + 1) (k - 1)
@@ -37,15 +37,15 @@ module _ (t : List ℕ) (x k : ℕ) (e : k ≡ terminalWord t x 0) where
   unfolding leafBy
   is-any z = sym (ap (λ (j : ℕ). leafBy j t x) z) ∙ by-kind
 
-  pub is-literal : (n : ℕ) → n ≡ terminalWord t x 1 → k ≡ 1 → literal (wordsFrom t (terminalsAt + terminalWords * x + 2) n) ≡ leafIn t x
+  pub is-literal : (n : ℕ) → n ≡ terminalWord t x 1 → k ≡ 1 → literal (wordsFrom t (contentAt x) n) ≡ leafIn t x
   unfolding leafBy
-  is-literal n g z = ap (λ (j : ℕ). literal (wordsFrom t (terminalsAt + terminalWords * x + 2) j)) g ∙ sym (ap (λ (j : ℕ). leafBy j t x) z) ∙ by-kind
+  is-literal n g z = ap (λ (j : ℕ). literal (wordsFrom t (contentAt x) j)) g ∙ sym (ap (λ (j : ℕ). leafBy j t x) z) ∙ by-kind
 
-  pub is-class : (k ≡ 0 → ⊥) → (k ≡ 1 → ⊥) → class (marksFrom t (terminalsAt + terminalWords * x + 2) 256) ≡ leafIn t x
+  pub is-class : (k ≡ 0 → ⊥) → (k ≡ 1 → ⊥) → class (marksFrom t (contentAt x) 256) ≡ leafIn t x
   unfolding leafBy
   is-class f g = class-by k f g ∙ by-kind
     where
-      class-by : (j : ℕ) → (j ≡ 0 → ⊥) → (j ≡ 1 → ⊥) → class (marksFrom t (terminalsAt + terminalWords * x + 2) 256) ≡ leafBy j t x
+      class-by : (j : ℕ) → (j ≡ 0 → ⊥) → (j ≡ 1 → ⊥) → class (marksFrom t (contentAt x) 256) ≡ leafBy j t x
       class-by zero f g = absurd (f refl)
       class-by (suc zero) f g = absurd (g refl)
       class-by (suc (suc j)) f g = refl

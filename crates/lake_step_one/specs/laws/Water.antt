@@ -15,7 +15,7 @@ use Rattle.read_tokens.specs.Token.{Symbol, Leaf, name, lake}
 use Rattle.grammar.specs.Exp.{Exp}
 use Rattle.grammar.specs.Same.{sameBytes, sameSymbol, indexOf}
 use Rattle.grammar.specs.Numbers.{Grammar}
-use Rattle.grammar_table.specs.Table.{symbolsAt, symbolWords, symbolCount, symbolWord, symbolBy, nameIn, wordsFrom}
+use Rattle.grammar_table.specs.Table.{nameAt, symbolCount, symbolWord, symbolBy, nameIn, wordsFrom}
 use Rattle.grammar_table.specs.Holds.{Holds, present}
 use Rattle.lake_step_one.specs.Intermediate.{waterName, waterIn}
 use Rattle.grammar.specs.Numbers.{terminalIn}
@@ -70,24 +70,24 @@ unfolding sameSymbol
 by-kind zero v w = refl
 by-kind (suc k) v w = sym (ap (λ (b : Bool). b && sameBytes v w) (ne-eqb 0 (suc k) (λ e. let z : ⊥ = omega arith in z)))
 
-pub water-is : (t : List ℕ) (s : ℕ) → waterTest (getD t (symbolsAt + symbolWords * s) 0) (getD t (symbolsAt + symbolWords * s + 3) 0)
-    (five (getD t (symbolsAt + symbolWords * s + 4) 0) (getD t (symbolsAt + symbolWords * s + 5) 0) (getD t (symbolsAt + symbolWords * s + 6) 0) (getD t (symbolsAt + symbolWords * s + 7) 0) (getD t (symbolsAt + symbolWords * s + 8) 0)) ≡ sameSymbol waterName (nameIn t s)
+pub water-is : (t : List ℕ) (s : ℕ) → waterTest (symbolWord t s 0) (symbolWord t s 3)
+    (five (getD t (nameAt s + 0) 0) (getD t (nameAt s + 1) 0) (getD t (nameAt s + 2) 0) (getD t (nameAt s + 3) 0) (getD t (nameAt s + 4) 0)) ≡ sameSymbol waterName (nameIn t s)
 unfolding nameIn
 water-is t s =
-    let at = symbolsAt + symbolWords * s in
-    let i = at + 4 in
-    let p0 : at ≡ at + 0 = omega arith in
-    let p1 : at + 5 ≡ suc i = omega arith in
-    let p2 : at + 6 ≡ suc (suc i) = omega arith in
-    let p3 : at + 7 ≡ suc (suc (suc i)) = omega arith in
-    let p4 : at + 8 ≡ suc (suc (suc (suc i))) = omega arith in
+    let i = nameAt s in
+    let p0 : i + 0 ≡ i = omega arith in
+    let p1 : i + 1 ≡ suc i = omega arith in
+    let p2 : i + 2 ≡ suc (suc i) = omega arith in
+    let p3 : i + 3 ≡ suc (suc (suc i)) = omega arith in
+    let p4 : i + 4 ≡ suc (suc (suc (suc i))) = omega arith in
     let word : ℕ → ℕ = λ j. getD t j 0 in
-    ap (λ (j : ℕ). waterTest (word j) (word (at + 3)) (five (word i) (word (at + 5)) (word (at + 6)) (word (at + 7)) (word (at + 8)))) p0
-    ∙ ap (λ (j : ℕ). waterTest (word (at + 0)) (word (at + 3)) (five (word i) (word j) (word (at + 6)) (word (at + 7)) (word (at + 8)))) p1
-    ∙ ap (λ (j : ℕ). waterTest (word (at + 0)) (word (at + 3)) (five (word i) (word (suc i)) (word j) (word (at + 7)) (word (at + 8)))) p2
-    ∙ ap (λ (j : ℕ). waterTest (word (at + 0)) (word (at + 3)) (five (word i) (word (suc i)) (word (suc (suc i))) (word j) (word (at + 8)))) p3
-    ∙ ap (λ (j : ℕ). waterTest (word (at + 0)) (word (at + 3)) (five (word i) (word (suc i)) (word (suc (suc i))) (word (suc (suc (suc i)))) (word j))) p4
-    ∙ sym (by-kind (word (at + 0)) (119 ∷ 97 ∷ 116 ∷ 101 ∷ 114 ∷ []) (wordsFrom t i (word (at + 3))) ∙ ap (λ (b : Bool). eqb 0 (word (at + 0)) && b) (bytes-five t i (word (at + 3))))
+    let test : ℕ → ℕ → ℕ → ℕ → ℕ → Bool = λ a b c d e. waterTest (symbolWord t s 0) (symbolWord t s 3) (five (word a) (word b) (word c) (word d) (word e)) in
+    ap (λ (j : ℕ). test j (i + 1) (i + 2) (i + 3) (i + 4)) p0
+    ∙ ap (λ (j : ℕ). test i j (i + 2) (i + 3) (i + 4)) p1
+    ∙ ap (λ (j : ℕ). test i (suc i) j (i + 3) (i + 4)) p2
+    ∙ ap (λ (j : ℕ). test i (suc i) (suc (suc i)) j (i + 4)) p3
+    ∙ ap (λ (j : ℕ). test i (suc i) (suc (suc i)) (suc (suc (suc i))) j) p4
+    ∙ sym (by-kind (symbolWord t s 0) (119 ∷ 97 ∷ 116 ∷ 101 ∷ 114 ∷ []) (wordsFrom t i (symbolWord t s 3)) ∙ ap (λ (b : Bool). eqb 0 (symbolWord t s 0) && b) (bytes-five t i (symbolWord t s 3)))
 
 -- ---- the first of a list
 pub index-at : {A : Type 0} (same : A → A → Bool) (x d : A) (l : List A) (s : ℕ) → s < length l → ((j : ℕ) → j < s → same x (getD l j d) ≡ false) → same x (getD l s d) ≡ true → indexOf same x l ≡ s
