@@ -1,13 +1,12 @@
 // What every call on a grammar does first (01: "Every call on a grammar checks 1 to 8"): the text becomes a table, the table an intermediate grammar with
 // its sets, and that a plain grammar; or a refusal with number and place.
 ghost use mathlib.Core.Path.{_≡_};
-ghost use Prim.Native.Nat.{_≤_};
 ghost use lib.ListN.{length};
 ghost use Rattle.grammar_table.specs.Table.{tableWords, symbolCount, expressionCount};
 ghost use Rattle.lake_calls.specs.steps.Marks.{LoopedAll};
 ghost use Rattle.read_tokens.specs.Bounds.{expressionBound};
 ghost use Rattle.prepare.specs.Reads.{isRefused};
-ghost use Rattle.prepare.specs.steps.Loads.{Loads, Translated, Ready, Plainly};
+ghost use Rattle.prepare.specs.steps.Loads.{Loads, Between, Follows, Finished, Ready, Plainly};
 ghost use Rattle.prepare.specs.declared.Verdict.the-variants.{Refused as VerdictRefused};
 
 pub mod refusals;
@@ -53,7 +52,7 @@ fn expression_bound(mode: Mode) -> usize
 }
 
 // Refusals 1 to 6, or the counts of a grammar, which the table then holds.
-fn load(mode: Mode, text: &[u8], t: &mut Table) -> Counted
+pub fn load(mode: Mode, text: &[u8], t: &mut Table) -> Counted
     ensures { λ r. ⌜ Loads mode (now (text .entry)) (now (t .entry)) (now (t .exit)) r ⌝ }
 {
     let f = refusals::refused(mode, text);
@@ -78,14 +77,14 @@ fn load(mode: Mode, text: &[u8], t: &mut Table) -> Counted
     }
 }
 
-// How many expressions the plain grammar has, 1,025 for more than 1,024, and how many rounds ALT took.
-pub struct Translation {
+// How many expressions the intermediate grammar has, and how many rounds ALT took.
+pub struct Intermediate {
     pub expressions: usize,
     pub rounds: usize,
 }
 
-// The intermediate grammar with its sets and the plain grammar of a table.
-fn translate(
+// The intermediate grammar of a table with its sets; no sets where it has too many expressions.
+pub fn analyse(
     t: &Table,
     mid: &mut Table,
     marks: &mut [bool; 64],
@@ -93,32 +92,43 @@ fn translate(
     eps: &mut [bool; 1024],
     succ: &mut [[u64; 2]; 1024],
     alts: &mut [[u64; 2]; 1024],
-    out: &mut Table,
-) -> Translation
+) -> Intermediate
     ensures { λ r.
-        ⌜ Translated (now (t .entry)) (now (mid .exit)) (now (marks .exit)) (now (sets .exit)) (now (eps .exit)) (now (succ .exit)) (now (alts .exit))
-        (now (out .exit)) (r .expressions) (r .rounds) ⌝ }
+        ⌜ Between (now (t .entry)) (now (mid .exit)) (now (marks .exit)) (now (sets .exit)) (now (eps .exit)) (now (succ .exit)) (now (alts .exit))
+        (r .expressions) (r .rounds) ⌝ }
 {
     let n = lake_step_one::step_one(t, mid);
     if 1024 < n {
-        return Translation {
+        return Intermediate {
             expressions: n,
             rounds: 0,
         };
     }
     let k = lake_analysis::analyse_table(mid, marks, sets, eps, succ, alts);
-    let m = lake_step_two::step_two(mid, alts, out);
-    Translation {
-        expressions: m,
+    Intermediate {
+        expressions: n,
         rounds: k,
     }
 }
 
+// The plain grammar of an intermediate one with n expressions: how many it has, more than 1,024 where it is refused.
+fn translate(n: usize, mid: &Table, alts: &[[u64; 2]; 1024], out: &mut Table) -> usize
+    ensures { λ k. ⌜ Follows n (now (mid .entry)) (now (alts .entry)) (now (out .exit)) k ⌝ }
+{
+    if 1024 < n {
+        return n;
+    }
+    lake_step_two::step_two(mid, alts, out)
+}
+
 // The smallest symbol on a loop of first calls; the number of symbols where there is none.
 fn loop_of(t: &Table) -> usize
-    requires { ⌜ symbolCount (now t) ≤ 64 ⌝ }
     ensures { λ r. ⌜ LoopedAll (now (t .entry)) r ⌝ }
 {
+    let n = records::symbols(t);
+    if 64 < n {
+        return 0;
+    }
     lake_calls::loops::table_loop(t)
 }
 
@@ -163,6 +173,39 @@ fn refused(r: Counted) -> Prepared
     }
 }
 
+// What 1 to 6 said, then refusal 7 and 8 of the plain grammar.
+pub fn finish(
+    r: Counted,
+    made: Intermediate,
+    mid: &Table,
+    alts: &[[u64; 2]; 1024],
+    out: &mut Table,
+) -> Prepared
+    ensures { λ p.
+        ⌜ Finished r (made .expressions) (made .rounds) (now (mid .entry)) (now (alts .entry)) (now (out .exit)) (p .counted) (p .rounds) ⌝ }
+{
+    let v = r.verdict;
+    if is_refused(v) {
+        return refused(r);
+    }
+    let n = made.expressions;
+    let e = translate(n, mid, alts, out);
+    if 1024 < e {
+        let f = refusal(7, 1025);
+        return refused(f);
+    }
+    let k = r.symbols;
+    let l = loop_of(out);
+    if l < k {
+        let f = refusal(8, l);
+        return refused(f);
+    }
+    Prepared {
+        counted: r,
+        rounds: made.rounds,
+    }
+}
+
 // A grammar text worked out, or refused 1 to 8.
 pub fn prepare(
     mode: Mode,
@@ -182,42 +225,27 @@ pub fn prepare(
         (now (alts .exit)) (now (out .exit)) (r .counted) (r .rounds) ⌝ }
 {
     let r = load(mode, text, t);
-    let v = r.verdict;
-    if is_refused(v) {
-        return refused(r);
-    }
-    let n = translate(t, mid, marks, sets, eps, succ, alts, out);
-    let e = n.expressions;
-    if 1024 < e {
-        let f = refusal(7, 1025);
-        return refused(f);
-    }
-    let k = r.symbols;
-    let l = loop_of(out);
-    if l < k {
-        let f = refusal(8, l);
-        return refused(f);
-    }
-    Prepared {
-        counted: r,
-        rounds: n.rounds,
-    }
+    let made = analyse(t, mid, marks, sets, eps, succ, alts);
+    finish(r, made, mid, alts, out)
 }
 
-// The same where only the grammar and its plain form are wanted.
+// The grammar and its plain form, or a refusal 1 to 8.
 pub fn plainly(mode: Mode, text: &[u8], t: &mut Table, out: &mut Table) -> Counted
     requires { ⌜ length (now t) ≡ tableWords ⌝ }
     ensures { λ r. ⌜ Plainly mode (now (text .entry)) (now (t .exit)) (now (out .exit)) r ⌝ }
 {
+    let r = load(mode, text, t);
+    let v = r.verdict;
+    if is_refused(v) {
+        return r;
+    }
     let mut mid: Table = [0; grammar_table::WORDS];
     let mut marks = [false; 64];
     let mut sets: [[u64; 2]; 1024] = [[0, 0]; 1024];
     let mut eps = [false; 1024];
     let mut succ: [[u64; 2]; 1024] = [[0, 0]; 1024];
     let mut alts: [[u64; 2]; 1024] = [[0, 0]; 1024];
-    let p = prepare(
-        mode,
-        text,
+    let made = analyse(
         t,
         &mut mid,
         &mut marks,
@@ -225,7 +253,7 @@ pub fn plainly(mode: Mode, text: &[u8], t: &mut Table, out: &mut Table) -> Count
         &mut eps,
         &mut succ,
         &mut alts,
-        out,
     );
+    let p = finish(r, made, &mid, &alts, out);
     p.counted
 }

@@ -38,7 +38,7 @@ use Rattle.prepare.specs.declared.Prepared.{Prepared as Worth}
 use Rattle.prepare.specs.Prepare.{Prepared, prepared, preparedBy, refuses}
 use Rattle.prepare.specs.Reads.{verdictOf, isRefused}
 use Rattle.prepare.specs.Reads.{readBy, readOf}
-use Rattle.prepare.specs.steps.Loads.{readUpTo6, Good, Loads, Worked, Translated, Ready}
+use Rattle.prepare.specs.steps.Loads.{readUpTo6, Good, Loads, Worked, Translated, Ready, Plainly}
 use Rattle.prepare.specs.laws.Loads.{refused, clean, grammar-of, some-none}
 use Rattle.prepare.specs.laws.Translates.{good}
 
@@ -172,6 +172,14 @@ pub refusing : {m : Mode} {s t mid : List ℕ} {ms : List Bool} {sets : List (Li
 refusing {m} {s} {t} {mid} {ms} {sets} {eps} {succ} {alts} {out} {r} p q h e =
     subst (λ (x : Worth). Ready m s t mid ms sets eps succ alts out (x .counted) (x .rounds)) (sym q) (record { answer = e; stands = λ z. absurd (true≢false (sym h ∙ z)) })
 
+pub refused-plainly : (m : Mode) (s t out : List ℕ) (r : Counted) → isRefused (r .verdict) ≡ true → r ≡ readOf m s → Plainly m s t out r
+refused-plainly m s t out r h e =
+    record { answer = e; clear = λ z. absurd (true≢false (sym h ∙ z)); table = λ z. absurd (true≢false (sym h ∙ z)); plain = λ z. absurd (true≢false (sym h ∙ z)) }
+
+pub as-plainly : {m : Mode} {s t mid : List ℕ} {ms : List Bool} {sets : List (List ℕ)} {eps : List Bool} {succ alts : List (List ℕ)} {out : List ℕ} {r : Counted} {rounds : ℕ}
+    → Ready m s t mid ms sets eps succ alts out r rounds → Plainly m s t out r
+as-plainly k = record { answer = k .answer; clear = λ h. k .stands h .clear; table = λ h. k .stands h .table; plain = λ h. k .stands h .worked .plain }
+
 module _ (m : Mode) (s old t : List ℕ) (r : Counted) (long : length old ≡ tableWords) (a : Loads m s old t r) where
   pub first-six : isRefused (r .verdict) ≡ true → r ≡ readOf m s
   first-six h = stays m s r (a .answer long) h
@@ -200,9 +208,6 @@ module _ (m : Mode) (s old t : List ℕ) (r : Counted) (long : length old ≡ ta
 
         sound : SoundAll (terminalIn g) (length (g .names)) (length (g .terminals)) (plainOf g)
         sound = plain-proper g (is-good m s ok .proper) (is-good m s ok .once) (is-good m s ok .none-empty) (omega (arith, dot-in (rulesOf m s)))
-
-        pub few-out : symbolCount out ≤ 64
-        few-out = done .plain .few-symbols
 
         at-is : (at : ℕ) → LoopedAll out at → at ≡ placed (length (plainOf g)) (loop (plainOf g))
         at-is at k = k .is g (plainOf g) (done .plain) sound

@@ -14,38 +14,45 @@ use Rattle.read_grammar.specs.steps.Promises.{Sound}
 use Rattle.lake_sets.specs.Analysis.{analysis}
 use Rattle.lake_step_one.specs.Proper.{middle}
 use Rattle.grammar_table.specs.laws.Parts.{total}
-use Rattle.lake_analysis.specs.steps.Lent.{Fronted}
-use Rattle.lake_step_one.specs.steps.Made.{SteppedOne, withBodies}
+use Rattle.lake_step_one.specs.steps.Made.{withBodies}
 use Rattle.lake_step_two.specs.steps.Stepped.{SteppedTwo, plainOf}
 use Rattle.lake_step_two.specs.laws.Once.{once-numbered}
 use Rattle.lake_step_two.specs.laws.Refused.{refused, let-through, refused-early}
 use Rattle.prepare.specs.laws.Short.{short}
 use Rattle.prepare.specs.laws.Rights.{proper}
 use Rattle.prepare.specs.laws.Terminals.{none-empty}
-use Rattle.prepare.specs.steps.Loads.{Good, Translated}
+use Rattle.prepare.specs.steps.Loads.{Good, Between, Follows, Worked}
 
 pub good : (m : Mode) (s : List ℕ) (g : Rules) → Sound m s g → Good (numbered (trees g))
 good m s g h = record { proper = proper m s g h; once = once-numbered (trees g); short = short m s g h; none-empty = none-empty m s g h }
 
-module _ (t mid : List ℕ) (ms : List Bool) (sets : List (List ℕ)) (eps : List Bool) (succ alts : List (List ℕ)) (out : List ℕ) (n : ℕ) (p : SteppedOne t mid n) where
-  pub early-over : 1024 < n → Translated t mid ms sets eps succ alts out n 0
+module _ (mid : List ℕ) (alts : List (List ℕ)) (out : List ℕ) (n : ℕ) where
+  pub early-over : 1024 < n → Follows n mid alts out n
   early-over h = record {
-    over = λ g a b l. refused-early g (analysis g) n (p g a (b .once .dot) (b .short) .0) h;
-    within = λ g a b l. absurd (omega arith);
+    translated = λ t ms sets eps succ rounds w. record {
+      over = λ g a b l. refused-early g (analysis g) n (w .stepped g a (b .once .dot) (b .short) .0) h;
+      within = λ g a b l. absurd (omega arith);
+    };
   }
 
-  module _ (k rounds : ℕ) (h : n ≤ 1024) (f : Fronted mid ms sets eps succ alts rounds) (q : SteppedTwo mid alts out k) where
-    held : (g : Grammar) → Holds t g → Good g → Holds mid (middle g)
-    held g a b = let one = p g a (b .once .dot) (b .short) in one .1 (omega (arith, one .0, h))
+  module _ (k : ℕ) (h : n ≤ 1024) (q : SteppedTwo mid alts out k) where
+    module _ (t : List ℕ) (ms : List Bool) (sets : List (List ℕ)) (eps : List Bool) (succ : List (List ℕ)) (rounds : ℕ) (w : Between t mid ms sets eps succ alts n rounds)
+        (g : Grammar) (a : Holds t g) (b : Good g) where
+      held : Holds mid (middle g)
+      held = let one = w .stepped g a (b .once .dot) (b .short) in one .1 (omega (arith, one .0, h))
 
-    two : (g : Grammar) → Holds t g → Good g → (k ≡ min 1025 (total (plainOf g))) × (total (plainOf g) ≤ 1024 → Holds out (withBodies g (plainOf g)))
-    two g a b = q g (record { holds = held g a b; proper = b .proper; once = b .once; alts-are = f g (held g a b) (b .proper) .alts-is }) (b .short)
+      two : (k ≡ min 1025 (total (plainOf g))) × (total (plainOf g) ≤ 1024 → Holds out (withBodies g (plainOf g)))
+      two = q g (record { holds = held; proper = b .proper; once = b .once; alts-are = w .fronted h g held (b .proper) .alts-is }) (b .short)
 
-    pub translates : Translated t mid ms sets eps succ alts out k rounds
+      worked : k ≤ 1024 → Worked g mid ms sets eps succ alts out rounds
+      worked l =
+          let x = let-through (plainOf g) k (two .0) l in
+          record { between = held; analysed = w .fronted h g held (b .proper); few = x .0; plain = two .1 (x .1) }
+
+    pub translates : Follows n mid alts out k
     translates = record {
-      over = λ g a b l. refused (plainOf g) k (two g a b .0) l;
-      within =
-          λ g a b l.
-          let w = let-through (plainOf g) k (two g a b .0) l in
-          record { between = held g a b; analysed = f g (held g a b) (b .proper); few = w .0; plain = two g a b .1 (w .1) };
+      translated = λ t ms sets eps succ rounds w. record {
+        over = λ g a b l. refused (plainOf g) k (two t ms sets eps succ rounds w g a b .0) l;
+        within = λ g a b l. worked t ms sets eps succ rounds w g a b l;
+      };
     }

@@ -15,7 +15,8 @@ use Rattle.read_syntax.specs.Reading.{refusesText, rulesOf}
 use Rattle.lake_sets.specs.Analysis.{analysis}
 use Rattle.lake_step_one.specs.Proper.{Proper, middle}
 use Rattle.lake_sets.specs.steps.Analysed.{Analysed}
-use Rattle.lake_step_one.specs.steps.Made.{Short, withBodies}
+use Rattle.lake_analysis.specs.steps.Lent.{Fronted}
+use Rattle.lake_step_one.specs.steps.Made.{Short, SteppedOne, withBodies}
 use Rattle.lake_step_two.specs.Plain.{tooLarge}
 use Rattle.lake_step_two.specs.steps.Stepped.{Once, plainOf}
 use Rattle.lake_step_two.specs.laws.Proper.{NoneEmpty}
@@ -48,11 +49,21 @@ pub record Worked (g : Grammar) (mid : List ℕ) (ms : List Bool) (sets : List (
   pub few : tooLarge (plainOf g) ≡ none
   pub plain : Holds out (withBodies g (plainOf g))
 
+-- step 1 to n expressions, and the sets of them where they are few
+pub record Between (t mid : List ℕ) (ms : List Bool) (sets : List (List ℕ)) (eps : List Bool) (succ alts : List (List ℕ)) (n rounds : ℕ) : Type 0 where
+  pub stepped : SteppedOne t mid n
+  pub fronted : n ≤ 1024 → Fronted mid ms sets eps succ alts rounds
+
 -- step 1, the sets and step 2: refusal 7, or all that
 pub record Translated (t mid : List ℕ) (ms : List Bool) (sets : List (List ℕ)) (eps : List Bool) (succ alts : List (List ℕ)) (out : List ℕ)
     (k rounds : ℕ) : Type 0 where
   pub over : (g : Grammar) → Holds t g → Good g → 1024 < k → tooLarge (plainOf g) ≡ some (refusal 7 1025)
   pub within : (g : Grammar) → Holds t g → Good g → k ≤ 1024 → Worked g mid ms sets eps succ alts out rounds
+
+-- step 2 behind them
+pub record Follows (n : ℕ) (mid : List ℕ) (alts : List (List ℕ)) (out : List ℕ) (k : ℕ) : Type 0 where
+  pub translated : (t : List ℕ) (ms : List Bool) (sets : List (List ℕ)) (eps : List Bool) (succ : List (List ℕ)) (rounds : ℕ)
+      → Between t mid ms sets eps succ alts n rounds → Translated t mid ms sets eps succ alts out k rounds
 
 -- of a text that 1 to 8 let through
 pub record Stands (m : Mode) (s t mid : List ℕ) (ms : List Bool) (sets : List (List ℕ)) (eps : List Bool) (succ alts : List (List ℕ)) (out : List ℕ)
@@ -66,6 +77,11 @@ pub record Ready (m : Mode) (s t mid : List ℕ) (ms : List Bool) (sets : List (
     (r : Counted) (rounds : ℕ) : Type 0 where
   pub answer : r ≡ readOf m s
   pub stands : isRefused (r .verdict) ≡ false → Stands m s t mid ms sets eps succ alts out rounds
+
+-- whatever text was loaded and analysed before
+pub record Finished (r : Counted) (n rounds : ℕ) (mid : List ℕ) (alts : List (List ℕ)) (out : List ℕ) (c : Counted) (took : ℕ) : Type 0 where
+  pub ready : (m : Mode) (s old t : List ℕ) (ms : List Bool) (sets : List (List ℕ)) (eps : List Bool) (succ : List (List ℕ))
+      → length old ≡ tableWords → Loads m s old t r → Between t mid ms sets eps succ alts n rounds → Ready m s t mid ms sets eps succ alts out c took
 
 -- the same of the tables of the grammar and its plain form
 pub record Plainly (m : Mode) (s t out : List ℕ) (r : Counted) : Type 0 where
