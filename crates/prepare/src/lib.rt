@@ -53,7 +53,8 @@ fn expression_bound(mode: Mode) -> usize
 
 // Refusals 1 to 6, or the counts of a grammar, which the table then holds.
 pub fn load(mode: Mode, text: &[u8], t: &mut Table) -> Counted
-    ensures { λ r. ⌜ Loads mode (now (text .entry)) (now (t .entry)) (now (t .exit)) r ⌝ }
+    requires { ⌜ length (now t) ≡ tableWords ⌝ }
+    ensures { λ r. ⌜ Loads mode (now (text .entry)) (now (t .exit)) r ⌝ }
 {
     let f = refusals::refused(mode, text);
     if f.number != 0 {

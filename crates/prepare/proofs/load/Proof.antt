@@ -20,7 +20,7 @@ refusal-requires : tie.Need-refusal-requires
 refusal-requires c κs = search needs
 
 returns : tie.Need-returns
-returns c = loads-refused (c .refusal .ensures) (λ l. early (c .before .before .before .before .before .args .mode) (c .before .before .before .before .before .args .text .now) (c .before .before .before .refused .result) (c .before .before .before .refused .ensures) (c .before .if1 .taken))
+returns c = loads-refused (c .refusal .ensures) (early (c .before .before .before .before .before .args .mode) (c .before .before .before .before .before .args .text .now) (c .before .before .before .refused .result) (c .before .before .before .refused .ensures) (c .before .if1 .taken))
 
 build-requires : tie.Need-build-requires
 build-requires c κs = not-long (c .before .before .before .before .before .args .mode) (c .before .before .before .before .before .args .text .now) (clean-by (c .before .before .before .before .before .args .mode) (c .before .before .before .before .before .args .text .now) (c .before .before .before .refused .result) (c .before .before .before .refused .ensures) (c .before .if1 .left))
@@ -29,13 +29,13 @@ refusal-requires-2 : tie.Need-refusal-requires-2
 refusal-requires-2 c κs = search needs
 
 returns-2 : tie.Need-returns-2
-returns-2 c = loads-refused (c .refusal2 .ensures) (λ l. six-one (c .before .before .before .before .before .before .before .before .before .args .mode) (c .before .before .before .before .before .before .before .before .before .args .text .now) _ _ (clean-by (c .before .before .before .before .before .before .before .before .before .args .mode) (c .before .before .before .before .before .before .before .before .before .args .text .now) (c .before .before .before .before .before .before .before .refused .result) (c .before .before .before .before .before .before .before .refused .ensures) (c .before .before .before .before .before .if1 .left)) (c .before .before .before .build .result) (c .before .before .before .build .ensures) l (c .before .if2 .taken))
+returns-2 c = loads-refused (c .refusal2 .ensures) (six-one (c .before .before .before .before .before .before .before .before .before .args .mode) (c .before .before .before .before .before .before .before .before .before .args .text .now) _ _ (clean-by (c .before .before .before .before .before .before .before .before .before .args .mode) (c .before .before .before .before .before .before .before .before .before .args .text .now) (c .before .before .before .before .before .before .before .refused .result) (c .before .before .before .before .before .before .before .refused .ensures) (c .before .before .before .before .before .if1 .left)) (c .before .before .before .build .result) (c .before .before .before .build .ensures) (c .before .before .before .before .before .before .before .before .before .pre) (c .before .if2 .taken))
 
 refusal-requires-3 : tie.Need-refusal-requires-3
 refusal-requires-3 c κs = search needs
 
 returns-3 : tie.Need-returns-3
-returns-3 c = loads-refused (c .refusal3 .ensures) (λ l. six-two (c .before .before .before .before .before .before .before .before .before .before .before .args .mode) (c .before .before .before .before .before .before .before .before .before .before .before .args .text .now) _ _ (clean-by (c .before .before .before .before .before .before .before .before .before .before .before .args .mode) (c .before .before .before .before .before .before .before .before .before .before .before .args .text .now) (c .before .before .before .before .before .before .before .before .before .refused .result) (c .before .before .before .before .before .before .before .before .before .refused .ensures) (c .before .before .before .before .before .before .before .if1 .left)) (c .before .before .before .before .before .build .result) (c .before .before .before .before .before .build .ensures) l (omega (arith, c .before .before .before .if2 .left)) (c .before .if3 .taken))
+returns-3 c = loads-refused (c .refusal3 .ensures) (six-two (c .before .before .before .before .before .before .before .before .before .before .before .args .mode) (c .before .before .before .before .before .before .before .before .before .before .before .args .text .now) _ _ (clean-by (c .before .before .before .before .before .before .before .before .before .before .before .args .mode) (c .before .before .before .before .before .before .before .before .before .before .before .args .text .now) (c .before .before .before .before .before .before .before .before .before .refused .result) (c .before .before .before .before .before .before .before .before .before .refused .ensures) (c .before .before .before .before .before .before .before .if1 .left)) (c .before .before .before .before .before .build .result) (c .before .before .before .before .before .build .ensures) (c .before .before .before .before .before .before .before .before .before .before .before .pre) (omega (arith, c .before .before .before .if2 .left)) (c .before .if3 .taken))
 
 expression-bound-requires : tie.Need-expression-bound-requires
 expression-bound-requires c κs = search needs
@@ -44,10 +44,10 @@ refusal-requires-4 : tie.Need-refusal-requires-4
 refusal-requires-4 c κs = search needs
 
 returns-4 : tie.Need-returns-4
-returns-4 c = loads-refused (c .refusal4 .ensures) (λ l. six-three (c .before .before .before .before .before .before .before .before .before .before .before .before .before .before .args .mode) (c .before .before .before .before .before .before .before .before .before .before .before .before .before .before .args .text .now) _ _ (clean-by (c .before .before .before .before .before .before .before .before .before .before .before .before .before .before .args .mode) (c .before .before .before .before .before .before .before .before .before .before .before .before .before .before .args .text .now) (c .before .before .before .before .before .before .before .before .before .before .before .before .refused .result) (c .before .before .before .before .before .before .before .before .before .before .before .before .refused .ensures) (c .before .before .before .before .before .before .before .before .before .before .if1 .left)) (c .before .before .before .before .before .before .before .before .build .result) (c .before .before .before .before .before .before .before .before .build .ensures) l (omega (arith, c .before .before .before .before .before .before .if2 .left)) (omega (arith, c .before .before .before .before .if3 .left)) (omega (arith, c .before .if4 .taken, c .before .before .before .expression-bound .ensures)))
+returns-4 c = loads-refused (c .refusal4 .ensures) (six-three (c .before .before .before .before .before .before .before .before .before .before .before .before .before .before .args .mode) (c .before .before .before .before .before .before .before .before .before .before .before .before .before .before .args .text .now) _ _ (clean-by (c .before .before .before .before .before .before .before .before .before .before .before .before .before .before .args .mode) (c .before .before .before .before .before .before .before .before .before .before .before .before .before .before .args .text .now) (c .before .before .before .before .before .before .before .before .before .before .before .before .refused .result) (c .before .before .before .before .before .before .before .before .before .before .before .before .refused .ensures) (c .before .before .before .before .before .before .before .before .before .before .if1 .left)) (c .before .before .before .before .before .before .before .before .build .result) (c .before .before .before .before .before .before .before .before .build .ensures) (c .before .before .before .before .before .before .before .before .before .before .before .before .before .before .pre) (omega (arith, c .before .before .before .before .before .before .if2 .left)) (omega (arith, c .before .before .before .before .if3 .left)) (omega (arith, c .before .if4 .taken, c .before .before .before .expression-bound .ensures)))
 
 returns-5 : tie.Need-returns-5
-returns-5 c = loads-accepted (clean-by (c .before .before .before .before .before .before .before .before .before .before .before .before .before .args .mode) (c .before .before .before .before .before .before .before .before .before .before .before .before .before .args .text .now) (c .before .before .before .before .before .before .before .before .before .before .before .refused .result) (c .before .before .before .before .before .before .before .before .before .before .before .refused .ensures) (c .before .before .before .before .before .before .before .before .before .if1 .left)) (c .before .before .before .before .before .before .before .build .ensures) (omega (arith, c .before .before .before .before .before .if2 .left)) (omega (arith, c .before .before .before .if3 .left)) (omega (arith, c .if4 .left, c .before .before .expression-bound .ensures))
+returns-5 c = loads-accepted (clean-by (c .before .before .before .before .before .before .before .before .before .before .before .before .before .args .mode) (c .before .before .before .before .before .before .before .before .before .before .before .before .before .args .text .now) (c .before .before .before .before .before .before .before .before .before .before .before .refused .result) (c .before .before .before .before .before .before .before .before .before .before .before .refused .ensures) (c .before .before .before .before .before .before .before .before .before .if1 .left)) (c .before .before .before .before .before .before .before .build .ensures) (c .before .before .before .before .before .before .before .before .before .before .before .before .before .pre) (omega (arith, c .before .before .before .before .before .if2 .left)) (omega (arith, c .before .before .before .if3 .left)) (omega (arith, c .if4 .left, c .before .before .expression-bound .ensures))
 
 pub load-spec : {M : Type 1} → statement M
 load-spec =

@@ -18,7 +18,7 @@ is-refused-requires : tie.Need-is-refused-requires
 is-refused-requires c κs = search needs
 
 returns : tie.Need-returns
-returns c = refused-plainly (c .before .before .before .before .before .args .mode) (c .before .before .before .before .before .args .text .now) _ _ (c .before .before .load .result) (sym (c .before .is-refused .ensures) ∙ c .if1 .taken) (first-six (c .before .before .before .before .before .args .mode) (c .before .before .before .before .before .args .text .now) _ _ (c .before .before .load .result) (c .before .before .before .before .before .pre) (c .before .before .load .ensures) (sym (c .before .is-refused .ensures) ∙ c .if1 .taken))
+returns c = refused-plainly (c .before .before .before .before .before .args .mode) (c .before .before .before .before .before .args .text .now) _ _ (c .before .before .load .result) (sym (c .before .is-refused .ensures) ∙ c .if1 .taken) (first-six (c .before .before .before .before .before .args .mode) (c .before .before .before .before .before .args .text .now) _ (c .before .before .load .result) (c .before .before .load .ensures) (sym (c .before .is-refused .ensures) ∙ c .if1 .taken))
 
 analyse-requires : tie.Need-analyse-requires
 analyse-requires c κs = search needs
@@ -27,7 +27,7 @@ finish-requires : tie.Need-finish-requires
 finish-requires c κs = search needs
 
 returns-2 : tie.Need-returns-2
-returns-2 c = as-plainly (c .before .finish .ensures .ready (c .before .before .before .before .before .before .before .before .before .before .before .before .before .before .before .before .before .before .args .mode) (c .before .before .before .before .before .before .before .before .before .before .before .before .before .before .before .before .before .before .args .text .now) _ _ _ _ _ _ (c .before .before .before .before .before .before .before .before .before .before .before .before .before .before .before .before .before .before .pre) (c .before .before .before .before .before .before .before .before .before .before .before .before .before .before .before .load .ensures) (c .before .before .before .before .before .analyse .ensures))
+returns-2 c = as-plainly (c .before .finish .ensures .ready (c .before .before .before .before .before .before .before .before .before .before .before .before .before .before .before .before .before .before .args .mode) (c .before .before .before .before .before .before .before .before .before .before .before .before .before .before .before .before .before .before .args .text .now) _ _ _ _ _ (c .before .before .before .before .before .before .before .before .before .before .before .before .before .before .before .load .ensures) (c .before .before .before .before .before .analyse .ensures))
 
 pub plainly-spec : {M : Type 1} → statement M
 plainly-spec =

@@ -192,8 +192,8 @@ early m s f e n = go (scanned m s) refl
         let d : refusesText m s ≡ some x = text-by-scan m s ∙ ap (λ (o : Option Refusal). o ▸ tooMany m (rulesOf m s)) q in
         subst (λ (y : Found). Refuses m s (y .number) (y .place)) (sym (e ∙ ap found q)) (refuses-by m s (x .number) (x .place) d)
 
-pub loads-refused : {m : Mode} {s old new : List ℕ} {r : Counted} {n p : ℕ} → r ≡ refused n p → (length old ≡ tableWords → Refuses m s n p) → Loads m s old new r
-loads-refused q f = record { answer = λ l. q ∙ f l .answer; table = λ l e. absurd (f l .not-accepted e) }
+pub loads-refused : {m : Mode} {s t : List ℕ} {r : Counted} {n p : ℕ} → r ≡ refused n p → Refuses m s n p → Loads m s t r
+loads-refused q f = record { answer = q ∙ f .answer; table = λ e. absurd (f .not-accepted e) }
 
 pub clean-by : (m : Mode) (s : List ℕ) (f : Found) → f ≡ found (scanned m s) → f .number ≡ 0 → Clean m s
 clean-by m s f e z = clean m s (sym (ap (λ (x : Found). x .number) e) ∙ z)
@@ -271,6 +271,7 @@ module _ (m : Mode) (s old new : List ℕ) (cl : Clean m s) (k : Counts) (b : Bu
             subst (λ (x : List Rule). Holds new (numbered x)) same
             (b .holds g sound long s-few t-few (subst (λ (x : List Rule). expressionsOf x ≤ 1024) (sym same) (omega (arith, e-is, h3, at-most m))))
 
-pub loads-accepted : {m : Mode} {s old new : List ℕ} {k : Counts} → Clean m s → Built m s old new k → k .symbols ≤ 64 → k .terminals ≤ 64 → k .expressions ≤ expressionBound m
-    → Loads m s old new (record { symbols = k .symbols; terminals = k .terminals; expressions = k .expressions; verdict = Accepted })
-loads-accepted {m} {s} {old} {new} {k} c b h1 h2 h3 = record { answer = λ l. counted m s old new c k b l h1 h2 h3; table = λ l e. held m s old new c k b l h1 h2 h3 }
+pub loads-accepted : {m : Mode} {s old t : List ℕ} {k : Counts} → Clean m s → Built m s old t k → length old ≡ tableWords
+    → k .symbols ≤ 64 → k .terminals ≤ 64 → k .expressions ≤ expressionBound m
+    → Loads m s t (record { symbols = k .symbols; terminals = k .terminals; expressions = k .expressions; verdict = Accepted })
+loads-accepted {m} {s} {old} {t} {k} c b l h1 h2 h3 = record { answer = counted m s old t c k b l h1 h2 h3; table = λ e. held m s old t c k b l h1 h2 h3 }

@@ -14,7 +14,7 @@ use Rattle.grammar.specs.Syntax.{Rules}
 use Rattle.grammar.specs.Trees.{trees}
 use Rattle.read_grammar.specs.steps.Promises.{Sound}
 use Rattle.grammar_table.specs.Holds.{Holds}
-use Rattle.grammar_table.specs.Table.{tableWords, symbolCount, symbolWord, nameIn, rootsIn}
+use Rattle.grammar_table.specs.Table.{symbolCount, symbolWord, nameIn, rootsIn}
 use Rattle.grammar.specs.Numbers.{terminalIn}
 use Rattle.lake_step_one.specs.Proper.{SoundAll}
 use Rattle.grammar_table.specs.laws.Places.{upTo-long}
@@ -180,28 +180,28 @@ pub as-plainly : {m : Mode} {s t mid : List ℕ} {ms : List Bool} {sets : List (
     → Ready m s t mid ms sets eps succ alts out r rounds → Plainly m s t out r
 as-plainly k = record { answer = k .answer; clear = λ h. k .stands h .clear; table = λ h. k .stands h .table; plain = λ h. k .stands h .worked .plain }
 
-module _ (m : Mode) (s old t : List ℕ) (r : Counted) (long : length old ≡ tableWords) (a : Loads m s old t r) where
+module _ (m : Mode) (s t : List ℕ) (r : Counted) (a : Loads m s t r) where
   pub first-six : isRefused (r .verdict) ≡ true → r ≡ readOf m s
-  first-six h = stays m s r (a .answer long) h
+  first-six h = stays m s r (a .answer) h
 
   module _ (h : isRefused (r .verdict) ≡ false) where
     ok : refusesText m s ≡ none
-    ok = passed m s r (a .answer long) h
+    ok = passed m s r (a .answer) h
 
     abbrev g : Grammar
     g = numbered (rulesOf m s)
 
     module _ (mid : List ℕ) (ms : List Bool) (sets : List (List ℕ)) (eps : List Bool) (succ alts : List (List ℕ)) (out : List ℕ) (n rounds : ℕ) (tr : Translated t mid ms sets eps succ alts out n rounds) where
       pub by-seven : 1024 < n → refused 7 1025 ≡ readOf m s
-      by-seven l = seven m s ok (tr .over g (a .table long ok) (is-good m s ok) l)
+      by-seven l = seven m s ok (tr .over g (a .table ok) (is-good m s ok) l)
 
       module _ (l : n ≤ 1024) where
         done : Worked g mid ms sets eps succ alts out rounds
-        done = tr .within g (a .table long ok) (is-good m s ok) l
+        done = tr .within g (a .table ok) (is-good m s ok) l
 
         symbols-is : r .symbols ≡ length (g .names)
         unfolding readUpTo6 prepared preparedBy
-        symbols-is = ap (λ (c : Counted). c .symbols) (a .answer long ∙ ap (λ (o : Option Refusal). readBy o (prepared m s)) ok)
+        symbols-is = ap (λ (c : Counted). c .symbols) (a .answer ∙ ap (λ (o : Option Refusal). readBy o (prepared m s)) ok)
 
         count : r .symbols ≡ length (plainOf g)
         count = symbols-is ∙ same-count out g (plainOf g) (done .plain)
@@ -217,5 +217,5 @@ module _ (m : Mode) (s old t : List ℕ) (r : Counted) (long : length old ≡ ta
 
         pub by-none : (at : ℕ) → LoopedAll out at → r .symbols ≤ at → Ready m s t mid ms sets eps succ alts out r rounds
         by-none at k p =
-            let w = fine m s ok (done .few) r (a .answer long) (unlooped (plainOf g) at (at-is at k) (omega (arith, p, count))) in
-            record { answer = w .1; stands = λ z. record { clear = w .0; table = a .table long ok; worked = done } }
+            let w = fine m s ok (done .few) r (a .answer) (unlooped (plainOf g) at (at-is at k) (omega (arith, p, count))) in
+            record { answer = w .1; stands = λ z. record { clear = w .0; table = a .table ok; worked = done } }

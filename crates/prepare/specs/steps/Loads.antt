@@ -5,12 +5,12 @@ use mathlib.Core.Path.{_≡_}
 use mathlib.Core.Bool.{Bool, false}
 use mathlib.Core.List.{List}
 use mathlib.Core.Option.{none, some}
-use lib.ListN.{length, take}
+use lib.ListN.{take}
 use Rattle.read_tokens.specs.declared.Mode.{Mode}
 use Rattle.grammar.specs.Numbers.{Grammar, numbered}
 use Rattle.grammar.specs.Refusal.{refusal}
 use Rattle.grammar_table.specs.Holds.{Holds}
-use Rattle.grammar_table.specs.Table.{tableWords, symbolCount, expressionCount}
+use Rattle.grammar_table.specs.Table.{symbolCount, expressionCount}
 use Rattle.read_syntax.specs.Reading.{refusesText, rulesOf}
 use Rattle.lake_sets.specs.Analysis.{analysis}
 use Rattle.lake_step_one.specs.Proper.{Proper, middle}
@@ -29,9 +29,9 @@ unfoldable pub readUpTo6 : Mode → List ℕ → Counted
 readUpTo6 m t = readBy (refusesText m t) (prepared m t)
 
 -- that answer, and a table that holds the grammar of a text that is accepted
-pub record Loads (m : Mode) (s old new : List ℕ) (r : Counted) : Type 0 where
-  pub answer : length old ≡ tableWords → r ≡ readUpTo6 m s
-  pub table : length old ≡ tableWords → refusesText m s ≡ none → Holds new (numbered (rulesOf m s))
+pub record Loads (m : Mode) (s t : List ℕ) (r : Counted) : Type 0 where
+  pub answer : r ≡ readUpTo6 m s
+  pub table : refusesText m s ≡ none → Holds t (numbered (rulesOf m s))
 
 -- what every grammar has that refusals 1 to 6 let through
 pub record Good (g : Grammar) : Type 0 where
@@ -80,8 +80,8 @@ pub record Ready (m : Mode) (s t mid : List ℕ) (ms : List Bool) (sets : List (
 
 -- whatever text was loaded and analysed before
 pub record Finished (r : Counted) (n rounds : ℕ) (mid : List ℕ) (alts : List (List ℕ)) (out : List ℕ) (c : Counted) (took : ℕ) : Type 0 where
-  pub ready : (m : Mode) (s old t : List ℕ) (ms : List Bool) (sets : List (List ℕ)) (eps : List Bool) (succ : List (List ℕ))
-      → length old ≡ tableWords → Loads m s old t r → Between t mid ms sets eps succ alts n rounds → Ready m s t mid ms sets eps succ alts out c took
+  pub ready : (m : Mode) (s t : List ℕ) (ms : List Bool) (sets : List (List ℕ)) (eps : List Bool) (succ : List (List ℕ))
+      → Loads m s t r → Between t mid ms sets eps succ alts n rounds → Ready m s t mid ms sets eps succ alts out c took
 
 -- the same of the tables of the grammar and its plain form
 pub record Plainly (m : Mode) (s t out : List ℕ) (r : Counted) : Type 0 where
