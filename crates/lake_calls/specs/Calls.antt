@@ -35,13 +35,13 @@ abbrev pub holds : ℕ → ℕ → Bool
 holds w r = eqb (bit w r) 1
 
 -- the union of what the symbols of w, those below n, call
-unfoldable pub calledBy : List ℕ → ℕ → ℕ → ℕ
-calledBy calls w zero = 0
-calledBy calls w (suc n) = bitOr (calledBy calls w n) (cond (holds w n) (getD calls n 0) 0)
+unfoldable pub allCalled : List ℕ → ℕ → ℕ → ℕ
+allCalled calls w zero = 0
+allCalled calls w (suc n) = bitOr (allCalled calls w n) (cond (holds w n) (getD calls n 0) 0)
 
 -- what r reaches in one call or more
 unfoldable pub reach : List ℕ → ℕ → ℕ
-reach calls r = iter (λ w. bitOr w (calledBy calls w (length calls))) (getD calls r 0) (length calls)
+reach calls r = iter (λ w. bitOr w (allCalled calls w (length calls))) (getD calls r 0) (length calls)
 
 -- refusal 8: "a loop is a symbol that reaches itself", "smallest symbol on one"; of the n symbols from r on
 unfoldable pub loopFrom : List ℕ → ℕ → ℕ → Option ℕ

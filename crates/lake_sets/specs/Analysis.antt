@@ -15,7 +15,7 @@ use Rattle.lake_sets.specs.declared.Sets.{Sets}
 use Rattle.lake_step_one.specs.Intermediate.{intermediate}
 use Rattle.grammar.specs.Parts.{Part, partsAll, rootsOf}
 use Rattle.lake_sets.specs.Beginning.{Beginning, nothing, marksOf, marked, beginnings}
-use Rattle.lake_sets.specs.Flows.{over, succeedGifts, succeedEdges, altGifts, altEdges, leastBy}
+use Rattle.lake_sets.specs.Flows.{overParts, succeedGifts, succeedEdges, altGifts, altEdges, leastBy}
 use Rattle.grammar.specs.Numbers.{terminalIn}
 
 -- ε marks by symbol, the number of each symbol's body, and by expression BEGINNING, SUCCEED and ALT
@@ -32,9 +32,9 @@ analysed marks roots parts most =
     let begins : List Beginning = beginnings (marked marks) parts in
     let bs : ℕ → Beginning = λ i. getD begins i nothing in
     let root : ℕ → ℕ = λ r. getD roots r 0 in
-    let succeed : Settled (List (List ℕ)) = leastBy most (length parts) (over (succeedGifts bs root) 0 parts) (over (succeedEdges bs root) 0 parts) in
-    let alt : Settled (List (List ℕ)) = leastBy most (length parts) (over (altGifts bs root (λ i. getD (succeed .state) i empty)) 0 parts)
-    (over (altEdges bs root) 0 parts) in
+    let succeed : Settled (List (List ℕ)) = leastBy most (length parts) (overParts (succeedGifts bs root) 0 parts) (overParts (succeedEdges bs root) 0 parts) in
+    let alt : Settled (List (List ℕ)) = leastBy most (length parts) (overParts (altGifts bs root (λ i. getD (succeed .state) i empty)) 0 parts)
+    (overParts (altEdges bs root) 0 parts) in
     record { marks = marks; roots = roots; begins = begins; succeeds = succeed .state; alts = alt .state; rounds = alt .count }
 
 unfoldable pub analysis : Grammar → Analysis

@@ -77,9 +77,9 @@ module _ (bs : ℕ → Beginning) (root : ℕ → ℕ) where
   altEdges i (denies e) = []
 
 -- over all expressions, numbered from i on
-unfoldable pub over : {A : Type 0} → (ℕ → Part → List A) → ℕ → List Part → List A
-over f i [] = []
-over f i (p ∷ ps) = f i p ++ over f (suc i) ps
+unfoldable pub overParts : {A : Type 0} → (ℕ → Part → List A) → ℕ → List Part → List A
+overParts f i [] = []
+overParts f i (p ∷ ps) = f i p ++ overParts f (suc i) ps
 
 -- the sets with the gifts in them
 unfoldable pub given : List Gift → List (List ℕ) → List (List ℕ)

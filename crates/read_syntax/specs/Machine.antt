@@ -115,9 +115,9 @@ stepped none t = none
 stepped (some s) t = step s t
 
 -- the state after all tokens; none: dead on the way
-unfoldable pub runs : Option State → List Tok → Option State
-runs o [] = o
-runs o (t ∷ l) = runs (stepped o t) l
+unfoldable pub stateAfter : Option State → List Tok → Option State
+stateAfter o [] = o
+stateAfter o (t ∷ l) = stateAfter (stepped o t) l
 
 abbrev pub accepts : Option State → Bool
 accepts none = false

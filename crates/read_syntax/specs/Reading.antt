@@ -103,13 +103,13 @@ tooMany m rs =
     ▸ refuseIf (ltb (expressionBound m) (expressionsOf rs)) 6 3
 
 -- the rules of a text that 2 lets through; of any other text none
-abbrev pub rulesBy : Res Rules → List Rule
-rulesBy (ok g l) = trees g
-rulesBy (no l) = []
-rulesBy out = []
+abbrev pub rulesRead : Res Rules → List Rule
+rulesRead (ok g l) = trees g
+rulesRead (no l) = []
+rulesRead out = []
 
-unfoldable pub rulesIn : List Tok → List Rule
-rulesIn ts = rulesBy (rulesP (5 * length ts) ts)
+unfoldable pub rulesFrom : List Tok → List Rule
+rulesFrom ts = rulesRead (rulesP (5 * length ts) ts)
 
 -- 1 to 6
 unfoldable pub refusesText : Mode → List ℕ → Option Refusal
@@ -119,8 +119,8 @@ refusesText m s =
     ▸ offence (length s) xs (judge m 0 start xs)
     ▸ refuseAt 4 (second m [] xs)
     ▸ refuseAt 5 (unruled (leftsIn xs) xs)
-    ▸ tooMany m (rulesIn (toksOf xs))
+    ▸ tooMany m (rulesFrom (toksOf xs))
 
 -- what is read
 unfoldable pub rulesOf : Mode → List ℕ → List Rule
-rulesOf m s = rulesIn (toksOf (lexemes m s))
+rulesOf m s = rulesFrom (toksOf (lexemes m s))

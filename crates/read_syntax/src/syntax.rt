@@ -9,7 +9,7 @@ ghost use Rattle.read_tokens.specs.Tokens.{lexemes};
 ghost use Rattle.grammar.specs.Refusal.{refusal};
 ghost use Rattle.read_syntax.specs.Machine.{accepting, judge, start};
 ghost use Rattle.read_syntax.specs.Reading.{offence};
-ghost use Rattle.read_syntax.specs.steps.Numbers.{classBy, nextOf, moved, deep, stateOf, overBy};
+ghost use Rattle.read_syntax.specs.steps.Numbers.{kindClass, nextOf, moved, deep, stateOf, overBy};
 ghost use Rattle.read_syntax.specs.steps.Found.{found};
 use read_tokens::Mode;
 
@@ -154,7 +154,7 @@ const CLASS: [u8; 16] = [0, 0, 0, 1, 1, 1, 2, 2, 3, 3, 3, 4, 5, 6, 7, 8];
 
 fn class(kind: u8) -> u8
     requires { ⌜ kind < 16 ⌝ }
-    ensures { λ r. ⌜ r ≡ classBy kind ⌝ }
+    ensures { λ r. ⌜ r ≡ kindClass kind ⌝ }
 {
     CLASS[kind as usize]
 }

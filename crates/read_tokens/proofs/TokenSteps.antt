@@ -16,7 +16,7 @@ use Rattle.read_tokens.specs.declared.Mode.the-variants.{Lake, Plain}
 use Rattle.read_tokens.specs.declared.Token.{Token}
 use Rattle.read_tokens.specs.Token as spec
 use Rattle.read_tokens.specs.Token.{lake, symbol, arrow}
-use Rattle.read_tokens.specs.Tokens.{tok, badAt, blankBy, skip, nameByte, nameSpan, lakeBy, less, byKind, tokenFrom, tokenAt}
+use Rattle.read_tokens.specs.Tokens.{tok, badAt, blankBy, skip, nameByte, nameSpan, lakeBy, angle, byKind, tokenFrom, tokenAt}
 use Rattle.read_tokens.specs.steps.Code.{coded, made, named, laked}
 use Rattle.read_tokens.proofs.CharSteps.{suffix, first-at}
 use Rattle.read_tokens.proofs.LiteralSteps.{bad-is}
@@ -116,30 +116,30 @@ module _ (s : List ℕ) (i : ℕ) where
   at-suc : getD (drop (suc i) s) 0 256 ≡ getD s (i + 1) 256
   at-suc = first-at s (suc i) ∙ ap (λ (j : ℕ). getD s j 256) (sym (add-one i))
 
-  arrow-go : (m : Mode) (l : List ℕ) → getD l 0 256 ≡ 45 → less m i l ≡ tok arrow i (i + 2)
-  unfolding less
+  arrow-go : (m : Mode) (l : List ℕ) → getD l 0 256 ≡ 45 → angle m i l ≡ tok arrow i (i + 2)
+  unfolding angle
   arrow-go Lake [] e = absurd (omega arith)
   arrow-go Plain [] e = absurd (omega arith)
-  arrow-go Lake (b ∷ l) e = rw (less, eq-eqb b 45 e)
+  arrow-go Lake (b ∷ l) e = rw (angle, eq-eqb b 45 e)
   arrow-go Plain (b ∷ l) e = rw (eq-eqb b 45 e)
 
-  pub less-arrow : (m : Mode) → getD s (i + 1) 256 ≡ 45 → made 11 i (i + 2) 0 ≡ coded (less m i (drop (suc i) s))
+  pub less-arrow : (m : Mode) → getD s (i + 1) 256 ≡ 45 → made 11 i (i + 2) 0 ≡ coded (angle m i (drop (suc i) s))
   less-arrow m e = sym (ap coded (arrow-go m (drop (suc i) s) (at-suc ∙ e)))
 
-  plain-go : (l : List ℕ) → (getD l 0 256 ≡ 45 → ⊥) → less Plain i l ≡ badAt i
-  unfolding less
+  plain-go : (l : List ℕ) → (getD l 0 256 ≡ 45 → ⊥) → angle Plain i l ≡ badAt i
+  unfolding angle
   plain-go [] f = refl
   plain-go (b ∷ l) f = rw (ne-eqb b 45 f)
 
-  pub less-plain : (getD s (i + 1) 256 ≡ 45 → ⊥) → coded (badAt i) ≡ coded (less Plain i (drop (suc i) s))
+  pub less-plain : (getD s (i + 1) 256 ≡ 45 → ⊥) → coded (badAt i) ≡ coded (angle Plain i (drop (suc i) s))
   less-plain f = sym (ap coded (plain-go (drop (suc i) s) (λ x. f (sym at-suc ∙ x))))
 
-  lake-go : (l : List ℕ) → (getD l 0 256 ≡ 45 → ⊥) → less Lake i l ≡ laked i l
-  unfolding less laked
+  lake-go : (l : List ℕ) → (getD l 0 256 ≡ 45 → ⊥) → angle Lake i l ≡ laked i l
+  unfolding angle laked
   lake-go [] f = refl
-  lake-go (b ∷ l) f = rw (less, ne-eqb b 45 f)
+  lake-go (b ∷ l) f = rw (angle, ne-eqb b 45 f)
 
-  pub less-lake : (getD s (i + 1) 256 ≡ 45 → ⊥) → coded (laked i (drop (suc i) s)) ≡ coded (less Lake i (drop (suc i) s))
+  pub less-lake : (getD s (i + 1) 256 ≡ 45 → ⊥) → coded (laked i (drop (suc i) s)) ≡ coded (angle Lake i (drop (suc i) s))
   less-lake f = sym (ap coded (lake-go (drop (suc i) s) (λ x. f (sym at-suc ∙ x))))
 
 -- ── the token ──

@@ -45,10 +45,10 @@ lakeBy i w [] = badAt i
 lakeBy i w (b ∷ l) = cond (eqb b 62) (tok (symbol (lake w)) i (i + length w + 2)) (badAt i)
 
 -- `<` and what follows it: "`<` followed by `-` is the arrow"; in plain mode there are no lakes
-unfoldable pub less : Mode → ℕ → List ℕ → Token
-less m i [] = badAt i
-less Plain i (b ∷ l) = cond (eqb b 45) (tok arrow i (i + 2)) (badAt i)
-less Lake i (b ∷ l) =
+unfoldable pub angle : Mode → ℕ → List ℕ → Token
+angle m i [] = badAt i
+angle Plain i (b ∷ l) = cond (eqb b 45) (tok arrow i (i + 2)) (badAt i)
+angle Lake i (b ∷ l) =
     elim (eqb b 45) [
       | true ↦ tok arrow i (i + 2)
       | false ↦ elim (eqb (kindAt b) 2) [ true ↦ (let w : List ℕ = nameSpan (b ∷ l) in lakeBy i w (drop (length w) (b ∷ l))) | false ↦ badAt i ]
@@ -144,7 +144,7 @@ byKind k m b i l =
                                                     elim (eqb k 12) [
                                                       | true ↦ bracket m i l
                                                       | false ↦
-                                                          elim (eqb k 13) [ true ↦ less m i l | false ↦ badAt i ]
+                                                          elim (eqb k 13) [ true ↦ angle m i l | false ↦ badAt i ]
                                                     ]
                                               ]
                                         ]

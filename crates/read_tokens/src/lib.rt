@@ -5,7 +5,7 @@ ghost use mathlib.Core.Option.{some};
 ghost use lib.ListN.{length, drop};
 ghost use Rattle.read_tokens.specs.Chars.{body, single};
 ghost use Rattle.read_tokens.specs.Token.{pre, suf};
-ghost use Rattle.read_tokens.specs.Tokens.{nameSpan, literalBy, bracket, less, preOf, sufOf, tokenAt};
+ghost use Rattle.read_tokens.specs.Tokens.{nameSpan, literalBy, bracket, angle, preOf, sufOf, tokenAt};
 ghost use Rattle.read_tokens.specs.steps.Code.{kindOf, coded, named, laked, made};
 
 pub mod chars;
@@ -136,7 +136,7 @@ fn lake_token(text: &[u8], at: usize) -> Token
 // The token that begins with the `<` at `at`: "`<` followed by `-` is the arrow"; plain mode has no lakes.
 fn less_token(mode: Mode, text: &[u8], at: usize) -> Token
     requires { ⌜ at < length (now text) ⌝ }
-    ensures { λ r. ⌜ r ≡ coded (less mode at (drop (suc at) (now (text .entry)))) ⌝ }
+    ensures { λ r. ⌜ r ≡ coded (angle mode at (drop (suc at) (now (text .entry)))) ⌝ }
 {
     let from = at + 1;
     let b = byte_at(text, from);

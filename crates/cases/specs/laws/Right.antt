@@ -5,7 +5,7 @@ use Rattle.read_tokens.specs.Kinds.{oneOf, ranges, kindAt}
 use Rattle.read_tokens.specs.Bounds.{textBound, nameBound, openBound, expressionBound, symbolBound, terminalBound, literalBound, plainBound}
 use Rattle.read_tokens.specs.Bounds.{inputBound, depthBound, firstOctal, rawFrom, nodeWords}
 use Rattle.read_tokens.specs.Chars.{octals, letters, four, char, single, dashed, listed, body}
-use Rattle.read_tokens.specs.Tokens.{skip, nameSpan, less, literalBy, among, table, someTrue, marksOf as tokens-marksOf, classBy, bracket, byKind}
+use Rattle.read_tokens.specs.Tokens.{skip, nameSpan, angle, literalBy, among, table, someTrue, marksOf as tokens-marksOf, classBy, bracket, byKind}
 use Rattle.read_tokens.specs.Tokens.{tokenFrom, tokenAt, lexemesFrom, lexemes, toksOf, toks}
 use Rattle.grammar.specs.Empty.{emptyLeaf, hasEmpty}
 use Rattle.grammar.specs.Exp.{size, rename, symbolsIn, leavesIn}
@@ -16,15 +16,15 @@ use Rattle.grammar.specs.Same.{sameBytes, sameMarks, sameSymbol, sameLeaf, isIn
 use Rattle.grammar.specs.Syntax.{tokens, choiceToks, seqToks, prefToks, sufToks, primToks}
 use Rattle.grammar_table.specs.Table.{upTo}
 use Rattle.grammar.specs.Trees.{trees, treeC, treeS, treeP, treeF, treeQ}
-use Rattle.read_syntax.specs.Machine.{close, newRule, after, step, accepting, runs as reading-runs, offendsFrom, finish, over as reading-over, judge, placeOf}
+use Rattle.read_syntax.specs.Machine.{close, newRule, after, step, accepting, stateAfter, offendsFrom, finish, over, judge, placeOf}
 use Rattle.read_syntax.specs.Reader.{closeBy, primBy, sufBy, prefBy, choiceBy, arrowBy, ruleBy, rulesR, rulesP, choiceP, choiceR, seqP, seqR, prefP, primP}
-use Rattle.read_syntax.specs.Reading.{startsWith, reserved, second, leftsIn, unruled, tooMany, rulesIn, refusesText, rulesOf}
+use Rattle.read_syntax.specs.Reading.{startsWith, reserved, second, leftsIn, unruled, tooMany, rulesFrom, refusesText, rulesOf}
 use Rattle.base_rounds.specs.Rounds.{settle}
 use Rattle.lake_sets.specs.Analysis.{analysed, analysis, setsAt, blockedBy, cannotSkipBelow, cannotSkip}
 use Rattle.lake_sets.specs.Beginning.{markRound, marksOf as sets-marksOf, beginningsFrom, beginnings}
-use Rattle.lake_sets.specs.Flows.{over as sets-over, given, leastBy}
+use Rattle.lake_sets.specs.Flows.{overParts, given, leastBy}
 use Rattle.lake_step_one.specs.Intermediate.{waterIn, bodiesBy, intermediate}
-use Rattle.lake_calls.specs.Calls.{firstCalls, callsOf, calledBy, reach, loopFrom, loop, ranksOf, ofRank, orderFrom, order}
+use Rattle.lake_calls.specs.Calls.{firstCalls, callsOf, allCalled, reach, loopFrom, loop, ranksOf, ofRank, orderFrom, order}
 use Rattle.lake_step_two.specs.Plain.{nonterminalsIn, terminalsIn, alternatives, plainFrom, plainBodies, sizes, rulesBy, plainRules}
 use Rattle.match_cells.specs.Cells.{bodyAt, rowOf, fillOf, cells}
 use Rattle.match_eval.specs.Eval.{stands, leafAt, cellAt, joinOf, seqOf, altOf, stepOf, rep, plusOf, optOf, aheadOf, neverOf, ev}
@@ -41,14 +41,14 @@ use Rattle.cases.specs.Table.{cases}
 
 pub cases-right : map (λ (c : Case). answered (c .asked)) cases ≡ map (λ (c : Case). c .said) cases
 unfolding cases answered text-bytes oneOf ranges kindAt textBound nameBound openBound expressionBound symbolBound terminalBound literalBound
-    plainBound inputBound depthBound firstOctal rawFrom nodeWords octals letters four char single dashed listed body skip nameSpan less literalBy
+    plainBound inputBound depthBound firstOctal rawFrom nodeWords octals letters four char single dashed listed body skip nameSpan angle literalBy
     among table someTrue tokens-marksOf classBy bracket byKind tokenFrom tokenAt lexemesFrom lexemes toksOf toks emptyLeaf hasEmpty size rename
     symbolsIn leavesIn waterOf stepOne choiceOf skipOf stepTwo plainName leftSides usesOf onlyLakes looseLakes symbolsOf leavesOf terminalsOf
     expressionsOf numbered partsOf partsAll rootsOf sameBytes sameMarks sameSymbol sameLeaf isIn indexOf newIn tokens choiceToks seqToks prefToks
-    sufToks primToks upTo trees treeC treeS treeP treeF treeQ close newRule after step accepting reading-runs offendsFrom finish reading-over judge
+    sufToks primToks upTo trees treeC treeS treeP treeF treeQ close newRule after step accepting stateAfter offendsFrom finish over judge
     placeOf closeBy primBy sufBy prefBy choiceBy arrowBy ruleBy rulesR rulesP choiceP choiceR seqP seqR prefP primP startsWith reserved second leftsIn
-    unruled tooMany rulesIn refusesText rulesOf settle analysed analysis setsAt blockedBy cannotSkipBelow cannotSkip markRound sets-marksOf
-    beginningsFrom beginnings sets-over given leastBy waterIn bodiesBy intermediate firstCalls callsOf calledBy reach loopFrom loop ranksOf ofRank
+    unruled tooMany rulesFrom refusesText rulesOf settle analysed analysis setsAt blockedBy cannotSkipBelow cannotSkip markRound sets-marksOf
+    beginningsFrom beginnings overParts given leastBy waterIn bodiesBy intermediate firstCalls callsOf allCalled reach loopFrom loop ranksOf ofRank
     orderFrom order nonterminalsIn terminalsIn alternatives plainFrom plainBodies sizes rulesBy plainRules bodyAt rowOf fillOf cells stands leafAt
     cellAt joinOf seqOf altOf stepOf rep plusOf optOf aheadOf neverOf ev seqN altN optN stepN repN walkOf nodeIf nodesOf levels listOf listingOf
     inWords putNode written wordsOf roomOf nodeAt nodesAt soundAt nodeText byteText litChar classChar litChars writing-runs runText runsText leafText

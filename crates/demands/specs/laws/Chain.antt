@@ -117,8 +117,8 @@ as-row number {F} {G} {o} f g t = record { says = λ r e. there (t .says r e); f
     back (inr x) = absurd (x .1)
 
 -- a number over its bound
-pub over : (number place bound n : ℕ) → Tells (Over number place bound n ∷ []) (refuseIf (ltb bound n) number place)
-over number place bound n = row-tells (Over number place bound n) (refuseIf (ltb bound n) number place) (λ r e. sound (ltb bound n) refl r e) full
+pub over-told : (number place bound n : ℕ) → Tells (Over number place bound n ∷ []) (refuseIf (ltb bound n) number place)
+over-told number place bound n = row-tells (Over number place bound n) (refuseIf (ltb bound n) number place) (λ r e. sound (ltb bound n) refl r e) full
   where
     sound : (b : Bool) → ltb bound n ≡ b → (r : Refusal) → refuseIf b number place ≡ some r → (number ≡ r .number) × ((r .place ≡ place) × (bound < n))
     sound true h r e =

@@ -2,7 +2,7 @@
 use Prim.Native.Nat.{ℕ, zero, suc, _≤_}
 use mathlib.Core.Path.{_≡_, refl, ap, ap₂, _∙_, subst}
 use mathlib.Core.Path.{sym as flip}
-use mathlib.Core.Bool.{Bool, true, false, not, cond, _&&_, true≢false}
+use mathlib.Core.Bool.{Bool, true, false, not, cond, _&&_, true≢false, and-false}
 use mathlib.Core.List.{List, [], _∷_}
 use mathlib.Core.Option.{Option, none, some}
 use native.Mathlib.Omega.{arith}
@@ -113,11 +113,7 @@ module _ (bodies : List (Exp ℕ)) (g : Meant) (held : Holds bodies g) (s cs : L
     way-only (own-takes t) = (by-tests o ss true _ _ (own-is-so t) refl refl)
     way-only (water-takes t u) = (by-tests o ss false true _ (own-is-so t) (wet-is-so u) refl)
     way-only (skips t u v h) = (by-tests o ss false false true (own-is-so t) (wet-is-so u) (ap₂ _&&_ (lt-ltb q (length s) h) (some-is-so v)))
-    way-only (stops t u v) = (by-tests o ss false false false (own-is-so t) (wet-is-so u) (and-false (ltb q (length s)) (some-is-so v)))
-      where
-        and-false : {c : Bool} (b : Bool) → c ≡ false → (b && c) ≡ false
-        and-false true e = e
-        and-false false e = refl
+    way-only (stops t u v) = (by-tests o ss false false false (own-is-so t) (wet-is-so u) (ap (λ (b : Bool). ltb q (length s) && b) (some-is-so v) ∙ and-false (ltb q (length s))))
     way-only (ends t u h) = (by-tests o ss false false false (own-is-so t) (wet-is-so u) (ap (λ (b : Bool). b && noneMatches s cs n ss q) (le-ltb q (length s) h)))
 
     -- and the rules have one

@@ -37,7 +37,7 @@ use Rattle.prepare.specs.laws.Loads.{some-none, clean, grammar-of}
 use Rattle.gurkenmond.specs.Calls.{cellsNeeded, refusesInput, isLakeAt, isSymbol}
 use Rattle.demands.specs.Rows.{FirstToken, Doubled, Ruleless, TooMany, symbols, terminals, expressions, Grammarly, Row2, Row3, Row4, Row5, Row6, Row7, Row8}
 use Rattle.demands.specs.Checks.{FirstRow, NoRow, textChecks, checks, inputChecks, lakeChecks, setsChecks, writeChecks, symbolNames, nameText, nameChecks}
-use Rattle.demands.specs.laws.Chain.{Tells, accepts, join, row-tells, as-row, over, found-at, missing, same-refusal}
+use Rattle.demands.specs.laws.Chain.{Tells, accepts, join, row-tells, as-row, over-told, found-at, missing, same-refusal}
 use Rattle.demands.specs.laws.Tokens.{finds-so, finds-it, finds-doubled, finds-ruleless}
 
 -- ── 1 to 5: of any text ──
@@ -84,7 +84,7 @@ module _ (m : Mode) (t : List ℕ) where
 
   text-chain : Tells (textChecks m t) (scanned m t)
   text-chain =
-      join (tooLong m t) (offence n xs (judge m 0 start xs) ▸ (refuseAt 4 (second m [] xs) ▸ refuseAt 5 (unruled (leftsIn xs) xs))) (over 1 (textBound m) (textBound m) n)
+      join (tooLong m t) (offence n xs (judge m 0 start xs) ▸ (refuseAt 4 (second m [] xs) ▸ refuseAt 5 (unruled (leftsIn xs) xs))) (over-told 1 (textBound m) (textBound m) n)
       (λ a. join (offence n xs (judge m 0 start xs)) (refuseAt 4 (second m [] xs) ▸ refuseAt 5 (unruled (leftsIn xs) xs))
       tells23
       (λ b. join (refuseAt 4 (second m [] xs)) (refuseAt 5 (unruled (leftsIn xs) xs)) tells4 (λ c. tells5)))
@@ -153,7 +153,7 @@ module _ (m : Mode) (t : List ℕ) (ok : scanned m t ≡ none) where
   here7 : Tells (Row7 m t ∷ []) (tooLarge bodies)
   here7 =
       as-row 7 (λ p h. (h .0, a-grammar (λ g. plainBound < sizes (preparedBy g .bodies)) (h .1))) (λ p h. (h .0, the-grammar (λ g. plainBound < sizes (preparedBy g .bodies)) (h .1)))
-      (over 7 (suc plainBound) plainBound (sizes bodies))
+      (over-told 7 (suc plainBound) plainBound (sizes bodies))
 
   here8 : Tells (Row8 m t ∷ []) (looping bodies)
   here8 =
@@ -185,7 +185,7 @@ module _ (m : Mode) (t : List ℕ) where
   input-chain s cs =
       let need : ℕ = cellsNeeded (prepared m t) s in
       join (refuses m t) (refusesInput (prepared m t) s cs) one-to-eight
-      (λ e. join (refuseIf (ltb inputBound (length s)) 9 inputBound) (refuseIf (ltb (length cs) need) 10 need) (over 9 inputBound inputBound (length s)) (λ f. over 10 need (length cs) need))
+      (λ e. join (refuseIf (ltb inputBound (length s)) 9 inputBound) (refuseIf (ltb (length cs) need) 10 need) (over-told 9 inputBound inputBound (length s)) (λ f. over-told 10 need (length cs) need))
 
   lake-there : (s : List ℕ) (l q : ℕ) → (isLakeAt (prepared m t) l && leb q (length s)) ≡ true → (isLakeAt (prepared m t) l ≡ true) × (q ≤ length s)
   lake-there s l q e = let w = and-parts (isLakeAt (prepared m t) l) (leb q (length s)) e in (w .0, leb-true q (length s) (w .1))
@@ -211,7 +211,7 @@ module _ (m : Mode) (t : List ℕ) where
 
   -- writing, then 13
   pub write-chain : (w out : List ℕ) → Tells (writeChecks m t w out) (refuses m t ▸ refuseIf (ltb (length out) (length w)) 13 (length w))
-  write-chain w out = join (refuses m t) (refuseIf (ltb (length out) (length w)) 13 (length w)) one-to-eight (λ e. over 13 (length w) (length out) (length w))
+  write-chain w out = join (refuses m t) (refuseIf (ltb (length out) (length w)) 13 (length w)) one-to-eight (λ e. over-told 13 (length w) (length out) (length w))
 
   -- a symbol's name: 14, then 13
   pub name-chain : (r : ℕ) (out : List ℕ)
@@ -224,4 +224,4 @@ module _ (m : Mode) (t : List ℕ) where
       subst (Tells (nameChecks m t r out)) (sym (assoc (refuses m t) a b))
       (join (refuses m t) (a ▸ b) one-to-eight
       (λ e. join a b (missing (isSymbol (prepared m t) r) (r < length (symbolNames m t)) (ltb-true r (length (symbolNames m t))) (lt-ltb r (length (symbolNames m t))))
-      (λ f. over 13 need (length out) need)))
+      (λ f. over-told 13 need (length out) need)))

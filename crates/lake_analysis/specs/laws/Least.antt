@@ -25,7 +25,7 @@ use Rattle.grammar.specs.Parts.{Part, terminal, occurs, sequence, choice, optio
 use Rattle.grammar_table.specs.Table.{upTo}
 use Rattle.lake_step_one.specs.Intermediate.{intermediate}
 use Rattle.lake_sets.specs.Beginning.{Beginning, nothing, marked, marksOf, beginnings}
-use Rattle.lake_sets.specs.Flows.{edge, Gift, gift, when, over, given, roundBy, leastBy, succeedGifts, succeedEdges, altGifts, altEdges}
+use Rattle.lake_sets.specs.Flows.{edge, Gift, gift, when, overParts, given, roundBy, leastBy, succeedGifts, succeedEdges, altGifts, altEdges}
 use Rattle.lake_sets.specs.Analysis.{Analysis, analysed, analysis}
 use Rattle.grammar.specs.Numbers.{terminalIn}
 use Rattle.lake_sets.specs.steps.Steps.{Ok, Flowed, edgesBy, kept}
@@ -64,9 +64,9 @@ module _ (r x n : ℕ) (gifts : List Gift) (es : List Edge) (ins : Inside n es) 
       subst (λ (w : Settled (List (List ℕ))). Flowed n gifts es (w .count) (w .state)) (sym (least-is r x n gifts es (found .0) (iter (roundBy n gifts es) (replicate n empty) (found .0)) f ins good)) f
 
 -- ---- among n
-inside-over : (m : ℕ) (f : ℕ → Part → List Edge) (part : ℕ → Part) (n : ℕ) → ((i : ℕ) → i < n → Inside m (f i (part i))) → Inside m (over f 0 (upTo part n))
+inside-over : (m : ℕ) (f : ℕ → Part → List Edge) (part : ℕ → Part) (n : ℕ) → ((i : ℕ) → i < n → Inside m (f i (part i))) → Inside m (overParts f 0 (upTo part n))
 inside-over m f part zero h = rw (over-none f part) tt
-inside-over m f part (suc n) h = rw (← add-one n, over-next f part n) (inside-append m (over f 0 (upTo part n)) (f n (part n)) (inside-over m f part n (λ i l. h i (omega arith))) (h n (omega arith)))
+inside-over m f part (suc n) h = rw (← add-one n, over-next f part n) (inside-append m (overParts f 0 (upTo part n)) (f n (part n)) (inside-over m f part n (λ i l. h i (omega arith))) (h n (omega arith)))
 
 succeed-in : (bs : ℕ → Beginning) (root : ℕ → ℕ) (r x n i : ℕ) (p : Part) → i < n → Ok r x i p → In r x n (succeedGifts bs root i p)
 succeed-in bs root r x n i (terminal t) l k = tt
@@ -100,7 +100,7 @@ pub record Lawful (a : Analysis) (r x n : ℕ) (part : ℕ → Part) : Type 0 wh
   pub marks : (s : ℕ) → s < r → marked (a .marks) s ≡ getD (a .begins) (getD (a .roots) s 0) nothing .eps
   pub succeeds : Least r x n part (SucceedRule (λ j. getD (a .begins) j nothing) (λ s. getD (a .roots) s 0)) (a .succeeds)
   pub alts : Least r x n part (AltRule (λ j. getD (a .begins) j nothing) (λ s. getD (a .roots) s 0) (λ j. getD (a .succeeds) j empty)) (a .alts)
-  pub rounds : First (roundBy n (over (altGifts (λ j. getD (a .begins) j nothing) (λ s. getD (a .roots) s 0) (λ j. getD (a .succeeds) j empty)) 0 (upTo part n)) (over (altEdges (λ j. getD (a .begins) j nothing) (λ s. getD (a .roots) s 0)) 0 (upTo part n))) (replicate n empty) (a .rounds)
+  pub rounds : First (roundBy n (overParts (altGifts (λ j. getD (a .begins) j nothing) (λ s. getD (a .roots) s 0) (λ j. getD (a .succeeds) j empty)) 0 (upTo part n)) (overParts (altEdges (λ j. getD (a .begins) j nothing) (λ s. getD (a .roots) s 0)) 0 (upTo part n))) (replicate n empty) (a .rounds)
   pub bounded : a .rounds ≤ n * (r + x)
 
 module _ (r x n : ℕ) (part : ℕ → Part) (ok : (i : ℕ) → i < n → Ok r x i (part i)) (ms : List Bool) (roots : List ℕ) (rin : (s : ℕ) → s < r → getD roots s 0 < n)
@@ -123,38 +123,38 @@ module _ (r x n : ℕ) (part : ℕ → Part) (ok : (i : ℕ) → i < n → Ok r 
   edge-inside back i l =
       subst (Inside n) (edges-same n r x bs bs root root (λ j. refl) (λ s p. refl) rin i l back (part i) (ok i l)) (kept-inside n (edgesBy back bs root i (part i)) (edges-from bs root i n l back (part i)))
 
-  SE-in : Inside n (over (succeedEdges bs root) 0 P)
+  SE-in : Inside n (overParts (succeedEdges bs root) 0 P)
   SE-in = inside-over n (succeedEdges bs root) part n (edge-inside true)
 
-  AE-in : Inside n (over (altEdges bs root) 0 P)
+  AE-in : Inside n (overParts (altEdges bs root) 0 P)
   AE-in = inside-over n (altEdges bs root) part n (edge-inside false)
 
   abbrev SG : List Gift
-  SG = over (succeedGifts bs root) 0 P
+  SG = overParts (succeedGifts bs root) 0 P
 
   SG-good : GoodGifts r x SG
   SG-good = over-good r x (succeedGifts bs root) (succeed-good r x bs root bs-good) 0 P
 
   abbrev S : Settled (List (List ℕ))
-  S = leastBy (n * (r + x)) n SG (over (succeedEdges bs root) 0 P)
+  S = leastBy (n * (r + x)) n SG (overParts (succeedEdges bs root) 0 P)
 
-  S-flowed : Flowed n SG (over (succeedEdges bs root) 0 P) (S .count) (S .state)
-  S-flowed = settles r x n SG (over (succeedEdges bs root) 0 P) SE-in SG-good
+  S-flowed : Flowed n SG (overParts (succeedEdges bs root) 0 P) (S .count) (S .state)
+  S-flowed = settles r x n SG (overParts (succeedEdges bs root) 0 P) SE-in SG-good
 
   abbrev succ : ℕ → List ℕ
   succ i = getD (S .state) i empty
 
   abbrev AG : List Gift
-  AG = over (altGifts bs root succ) 0 P
+  AG = overParts (altGifts bs root succ) 0 P
 
   AG-good : GoodGifts r x AG
-  AG-good = over-good r x (altGifts bs root succ) (alt-good r x bs root succ bs-good (state-at r x n SG (over (succeedEdges bs root) 0 P) (S .count) (S .state) S-flowed SE-in SG-good)) 0 P
+  AG-good = over-good r x (altGifts bs root succ) (alt-good r x bs root succ bs-good (state-at r x n SG (overParts (succeedEdges bs root) 0 P) (S .count) (S .state) S-flowed SE-in SG-good)) 0 P
 
   abbrev A : Settled (List (List ℕ))
-  A = leastBy (n * (r + x)) n AG (over (altEdges bs root) 0 P)
+  A = leastBy (n * (r + x)) n AG (overParts (altEdges bs root) 0 P)
 
-  A-flowed : Flowed n AG (over (altEdges bs root) 0 P) (A .count) (A .state)
-  A-flowed = settles r x n AG (over (altEdges bs root) 0 P) AE-in AG-good
+  A-flowed : Flowed n AG (overParts (altEdges bs root) 0 P) (A .count) (A .state)
+  A-flowed = settles r x n AG (overParts (altEdges bs root) 0 P) AE-in AG-good
 
   abbrev it : Analysis
   it = record { marks = ms; roots = roots; begins = beginnings (marked ms) P; succeeds = S .state; alts = A .state; rounds = A .count }
@@ -168,7 +168,7 @@ module _ (r x n : ℕ) (part : ℕ → Part) (ok : (i : ℕ) → i < n → Ok r 
     alts = least-solves r x n part (AltRule bs root succ) (altGifts bs root succ) (altEdges bs root) (λ y i l. alt-to r x bs root succ y i (part i)) (λ y i l. alt-from r x bs root succ y i (part i))
         AE-in AG-good (in-over r x n (altGifts bs root succ) part n (λ i l. alt-in bs root succ r x n i (part i) l (ok i l))) (A .count) (A .state) A-flowed;
     rounds = A-flowed .first;
-    bounded = few r x n AG (over (altEdges bs root) 0 P) (A .count) (A .state) A-flowed AE-in AG-good;
+    bounded = few r x n AG (overParts (altEdges bs root) 0 P) (A .count) (A .state) A-flowed AE-in AG-good;
   }
 
   pub analysed-lawful : Lawful (analysed ms roots P (length P * (r + x))) r x n part

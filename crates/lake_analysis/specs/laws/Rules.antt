@@ -18,7 +18,7 @@ use Rattle.base_rounds.specs.laws.Flow.{Inside, Flows, Solution, solves, least,
 use Rattle.grammar.specs.Parts.{Part, terminal, occurs, sequence, choice, option, repeat, repeat1, affirms, denies}
 use Rattle.grammar_table.specs.Table.{upTo}
 use Rattle.lake_sets.specs.Beginning.{Beginning}
-use Rattle.lake_sets.specs.Flows.{edge, Gift, gift, when, over, given, roundBy, succeedGifts, succeedEdges, altGifts, altEdges}
+use Rattle.lake_sets.specs.Flows.{edge, Gift, gift, when, overParts, given, roundBy, succeedGifts, succeedEdges, altGifts, altEdges}
 use Rattle.lake_sets.specs.steps.Steps.{Flowed}
 use Rattle.grammar_table.specs.laws.Places.{getD-any}
 use Rattle.lake_sets.specs.laws.Edges.{over-next, over-none, given-long}
@@ -38,14 +38,14 @@ module _ (r x : ℕ) where
   flows-split y [] ys h = (tt, h)
   flows-split y (e ∷ xs) ys h = let q = flows-split y xs ys (h .1) in ((h .0, q .0), q .1)
 
-  flows-over : (y : List (List ℕ)) (f : ℕ → Part → List Edge) (part : ℕ → Part) (n : ℕ) → ((i : ℕ) → i < n → Flows L [] y (f i (part i))) → Flows L [] y (over f 0 (upTo part n))
+  flows-over : (y : List (List ℕ)) (f : ℕ → Part → List Edge) (part : ℕ → Part) (n : ℕ) → ((i : ℕ) → i < n → Flows L [] y (f i (part i))) → Flows L [] y (overParts f 0 (upTo part n))
   flows-over y f part zero h = rw (over-none f part) tt
-  flows-over y f part (suc n) h = rw (← add-one n, over-next f part n) (flows-both y (over f 0 (upTo part n)) (f n (part n)) (flows-over y f part n (λ i l. h i (omega arith))) (h n (omega arith)))
+  flows-over y f part (suc n) h = rw (← add-one n, over-next f part n) (flows-both y (overParts f 0 (upTo part n)) (f n (part n)) (flows-over y f part n (λ i l. h i (omega arith))) (h n (omega arith)))
 
-  flows-at : (y : List (List ℕ)) (f : ℕ → Part → List Edge) (part : ℕ → Part) (n : ℕ) → Flows L [] y (over f 0 (upTo part n)) → (i : ℕ) → i < n → Flows L [] y (f i (part i))
+  flows-at : (y : List (List ℕ)) (f : ℕ → Part → List Edge) (part : ℕ → Part) (n : ℕ) → Flows L [] y (overParts f 0 (upTo part n)) → (i : ℕ) → i < n → Flows L [] y (f i (part i))
   flows-at y f part zero h i l = let z : ⊥ = omega arith in absurd z
   flows-at y f part (suc n) h i l =
-      let q = flows-split y (over f 0 (upTo part n)) (f n (part n)) (subst (Flows L [] y) (over-next f part n) (subst (λ (k : ℕ). Flows L [] y (over f 0 (upTo part k))) (sym (add-one n)) h)) in
+      let q = flows-split y (overParts f 0 (upTo part n)) (f n (part n)) (subst (Flows L [] y) (over-next f part n) (subst (λ (k : ℕ). Flows L [] y (overParts f 0 (upTo part k))) (sym (add-one n)) h)) in
       ⊎-elim (λ p. flows-at y f part n (q .0) i p) (λ p. let e : n ≡ i = omega arith in subst (λ (j : ℕ). Flows L [] y (f j (part j))) e (q .1)) (lt-or-ge i n)
 
   -- ---- gifts
@@ -65,23 +65,23 @@ module _ (r x : ℕ) where
   got-split y [] ys h = (tt, h)
   got-split y (e ∷ xs) ys h = let q = got-split y xs ys (h .1) in ((h .0, q .0), q .1)
 
-  got-over : (y : List (List ℕ)) (f : ℕ → Part → List Gift) (part : ℕ → Part) (n : ℕ) → ((i : ℕ) → i < n → Got y (f i (part i))) → Got y (over f 0 (upTo part n))
+  got-over : (y : List (List ℕ)) (f : ℕ → Part → List Gift) (part : ℕ → Part) (n : ℕ) → ((i : ℕ) → i < n → Got y (f i (part i))) → Got y (overParts f 0 (upTo part n))
   got-over y f part zero h = rw (over-none f part) tt
-  got-over y f part (suc n) h = rw (← add-one n, over-next f part n) (got-both y (over f 0 (upTo part n)) (f n (part n)) (got-over y f part n (λ i l. h i (omega arith))) (h n (omega arith)))
+  got-over y f part (suc n) h = rw (← add-one n, over-next f part n) (got-both y (overParts f 0 (upTo part n)) (f n (part n)) (got-over y f part n (λ i l. h i (omega arith))) (h n (omega arith)))
 
-  got-at : (y : List (List ℕ)) (f : ℕ → Part → List Gift) (part : ℕ → Part) (n : ℕ) → Got y (over f 0 (upTo part n)) → (i : ℕ) → i < n → Got y (f i (part i))
+  got-at : (y : List (List ℕ)) (f : ℕ → Part → List Gift) (part : ℕ → Part) (n : ℕ) → Got y (overParts f 0 (upTo part n)) → (i : ℕ) → i < n → Got y (f i (part i))
   got-at y f part zero h i l = let z : ⊥ = omega arith in absurd z
   got-at y f part (suc n) h i l =
-      let q = got-split y (over f 0 (upTo part n)) (f n (part n)) (subst (Got y) (over-next f part n) (subst (λ (k : ℕ). Got y (over f 0 (upTo part k))) (sym (add-one n)) h)) in
+      let q = got-split y (overParts f 0 (upTo part n)) (f n (part n)) (subst (Got y) (over-next f part n) (subst (λ (k : ℕ). Got y (overParts f 0 (upTo part k))) (sym (add-one n)) h)) in
       ⊎-elim (λ p. got-at y f part n (q .0) i p) (λ p. let e : n ≡ i = omega arith in subst (λ (j : ℕ). Got y (f j (part j))) e (q .1)) (lt-or-ge i n)
 
   in-both : (n : ℕ) (xs ys : List Gift) → In n xs → In n ys → In n (xs ++ ys)
   in-both n [] ys p q = q
   in-both n (g ∷ xs) ys p q = (p .0, in-both n xs ys (p .1) q)
 
-  pub in-over : (m : ℕ) (f : ℕ → Part → List Gift) (part : ℕ → Part) (n : ℕ) → ((i : ℕ) → i < n → In m (f i (part i))) → In m (over f 0 (upTo part n))
+  pub in-over : (m : ℕ) (f : ℕ → Part → List Gift) (part : ℕ → Part) (n : ℕ) → ((i : ℕ) → i < n → In m (f i (part i))) → In m (overParts f 0 (upTo part n))
   in-over m f part zero h = rw (over-none f part) tt
-  in-over m f part (suc n) h = rw (← add-one n, over-next f part n) (in-both m (over f 0 (upTo part n)) (f n (part n)) (in-over m f part n (λ i l. h i (omega arith))) (h n (omega arith)))
+  in-over m f part (suc n) h = rw (← add-one n, over-next f part n) (in-both m (overParts f 0 (upTo part n)) (f n (part n)) (in-over m f part n (λ i l. h i (omega arith))) (h n (omega arith)))
 
   module _ (n : ℕ) where
     abbrev Sub : List (List ℕ) → List (List ℕ) → Type 0
@@ -140,12 +140,12 @@ module _ (r x : ℕ) where
     module _ (part : ℕ → Part) (rule : (ℕ → List ℕ) → ℕ → Part → Type 0) (fg : ℕ → Part → List Gift) (fe : ℕ → Part → List Edge)
         (to : (y : List (List ℕ)) (i : ℕ) → i < n → rule (λ j. getD y j []) i (part i) → Got y (fg i (part i)) × Flows L [] y (fe i (part i)))
         (from : (y : List (List ℕ)) (i : ℕ) → i < n → Got y (fg i (part i)) → Flows L [] y (fe i (part i)) → rule (λ j. getD y j []) i (part i))
-        (ins : Inside n (over fe 0 (upTo part n))) (good : GoodGifts r x (over fg 0 (upTo part n))) (gin : In n (over fg 0 (upTo part n))) where
+        (ins : Inside n (overParts fe 0 (upTo part n))) (good : GoodGifts r x (overParts fg 0 (upTo part n))) (gin : In n (overParts fg 0 (upTo part n))) where
       abbrev gs : List Gift
-      gs = over fg 0 (upTo part n)
+      gs = overParts fg 0 (upTo part n)
 
       abbrev es : List Edge
-      es = over fe 0 (upTo part n)
+      es = overParts fe 0 (upTo part n)
 
       abbrev base : List (List ℕ)
       base = given gs (replicate n empty)

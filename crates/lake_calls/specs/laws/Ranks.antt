@@ -20,7 +20,7 @@ use Rattle.base_words.specs.laws.Order.{Sub, ones-le, ones-mono, ones-strict, s
 use Rattle.base_rounds.specs.Rounds.{iter}
 use Rattle.base_rounds.specs.laws.Fix.{Lattice, iter-below, iter-good}
 use Rattle.base_rounds.specs.laws.Stable.{stable}
-use Rattle.lake_calls.specs.Calls.{holds, calledBy, reach, loopFrom}
+use Rattle.lake_calls.specs.Calls.{holds, allCalled, reach, loopFrom}
 
 sub-rfl : (x : ℕ) → Sub x x
 sub-rfl x k = le-refl (bit x k)
@@ -60,17 +60,17 @@ module _ (calls : List ℕ) (small : (r : ℕ) → getD calls r 0 < 2 ^ length c
   cond-small true x m h = h
   cond-small false x m h = pow-pos m
 
-  called-small : (w k : ℕ) → calledBy calls w k < 2 ^ n
-  unfolding calledBy
+  called-small : (w k : ℕ) → allCalled calls w k < 2 ^ n
+  unfolding allCalled
   called-small w zero = pow-pos n
-  called-small w (suc k) = or-lt n (calledBy calls w k) (cond (holds w k) (getD calls k 0) 0) (called-small w k) (cond-small (holds w k) (getD calls k 0) n (small k))
+  called-small w (suc k) = or-lt n (allCalled calls w k) (cond (holds w k) (getD calls k 0) 0) (called-small w k) (cond-small (holds w k) (getD calls k 0) n (small k))
 
   -- what is called is called by one of them
-  called-sub : (w y k : ℕ) → ((r : ℕ) → r < k → holds w r ≡ true → Sub (getD calls r 0) y) → Sub (calledBy calls w k) y
-  unfolding calledBy
+  called-sub : (w y k : ℕ) → ((r : ℕ) → r < k → holds w r ≡ true → Sub (getD calls r 0) y) → Sub (allCalled calls w k) y
+  unfolding allCalled
   called-sub w y zero f = λ j. rw (bit-none j) (omega arith)
   called-sub w y (suc k) f =
-      or-sub (calledBy calls w k) (cond (holds w k) (getD calls k 0) 0) y (called-sub w y k (λ r l h. f r (omega arith) h))
+      or-sub (allCalled calls w k) (cond (holds w k) (getD calls k 0) 0) y (called-sub w y k (λ r l h. f r (omega arith) h))
       (cond-sub (holds w k) (getD calls k 0) y (λ h. f k (omega arith) h))
 
   cond-has : (b : Bool) (x : ℕ) → b ≡ true → Sub x (cond b x 0)
@@ -78,35 +78,35 @@ module _ (calls : List ℕ) (small : (r : ℕ) → getD calls r 0 < 2 ^ length c
   cond-has false x h = absurd (false≢true h)
 
   -- and each calls what it calls
-  pub called-has : (w k r : ℕ) → r < k → holds w r ≡ true → Sub (getD calls r 0) (calledBy calls w k)
-  unfolding calledBy
+  pub called-has : (w k r : ℕ) → r < k → holds w r ≡ true → Sub (getD calls r 0) (allCalled calls w k)
+  unfolding allCalled
   called-has w zero r l h = absurd (omega arith)
   called-has w (suc k) r l h = go (ℕ-discrete r k) (λ m. called-has w k r m h)
     where
-      go : Dec (r ≡ k) → (r < k → Sub (getD calls r 0) (calledBy calls w k)) → Sub (getD calls r 0) (bitOr (calledBy calls w k) (cond (holds w k) (getD calls k 0) 0))
+      go : Dec (r ≡ k) → (r < k → Sub (getD calls r 0) (allCalled calls w k)) → Sub (getD calls r 0) (bitOr (allCalled calls w k) (cond (holds w k) (getD calls k 0) 0))
       go (yes e) f =
-          sub-trans (getD calls r 0) (cond (holds w k) (getD calls k 0) 0) (bitOr (calledBy calls w k) (cond (holds w k) (getD calls k 0) 0))
+          sub-trans (getD calls r 0) (cond (holds w k) (getD calls k 0) 0) (bitOr (allCalled calls w k) (cond (holds w k) (getD calls k 0) 0))
           (subst (λ (j : ℕ). Sub (getD calls r 0) (cond (holds w j) (getD calls j 0) 0)) e (cond-has (holds w r) (getD calls r 0) h))
-          (sub-or-r (calledBy calls w k) (cond (holds w k) (getD calls k 0) 0))
+          (sub-or-r (allCalled calls w k) (cond (holds w k) (getD calls k 0) 0))
       go (no q) f =
-          sub-trans (getD calls r 0) (calledBy calls w k) (bitOr (calledBy calls w k) (cond (holds w k) (getD calls k 0) 0))
-          (f (omega arith)) (sub-or-l (calledBy calls w k) (cond (holds w k) (getD calls k 0) 0))
+          sub-trans (getD calls r 0) (allCalled calls w k) (bitOr (allCalled calls w k) (cond (holds w k) (getD calls k 0) 0))
+          (f (omega arith)) (sub-or-l (allCalled calls w k) (cond (holds w k) (getD calls k 0) 0))
 
   abbrev pub grow : ℕ → ℕ
-  grow w = bitOr w (calledBy calls w n)
+  grow w = bitOr w (allCalled calls w n)
 
   pub holds-up : (x y r : ℕ) → Sub x y → holds x r ≡ true → holds y r ≡ true
   holds-up x y r s h = let e : bit x r ≡ 1 = member x r h in eq-eqb (bit y r) 1 (omega (arith, s r, e, bit-lt y r))
 
   grow-mono : (x y : ℕ) → Sub x y → Sub (grow x) (grow y)
-  grow-mono x y s = or-mono x (calledBy calls x n) y (calledBy calls y n) s (called-sub x (calledBy calls y n) n (λ r l h. called-has y n r l (holds-up x y r s h)))
+  grow-mono x y s = or-mono x (allCalled calls x n) y (allCalled calls y n) s (called-sub x (allCalled calls y n) n (λ r l h. called-has y n r l (holds-up x y r s h)))
 
   module _ (r : ℕ) where
     abbrev pub b : ℕ
     b = getD calls r 0
 
     good-grow : (x : ℕ) → Above n b x → Above n b (grow x)
-    good-grow x g = record { fits = or-lt n x (calledBy calls x n) (g .fits) (called-small x n); has = sub-trans b x (grow x) (g .has) (sub-or-l x (calledBy calls x n)) }
+    good-grow x g = record { fits = or-lt n x (allCalled calls x n) (g .fits) (called-small x n); has = sub-trans b x (grow x) (g .has) (sub-or-l x (allCalled calls x n)) }
 
     good-b : Above n b b
     good-b = record { fits = small r; has = sub-rfl b }
@@ -132,8 +132,8 @@ module _ (calls : List ℕ) (small : (r : ℕ) → getD calls r 0 < 2 ^ length c
   reach-on : (r x : ℕ) → x < n → holds (getD calls r 0) x ≡ true → Sub (reach calls x) (reach calls r)
   reach-on r x l h =
       reach-least x (reach calls r) (reach-small r)
-      (sub-trans (getD calls x 0) (calledBy calls (reach calls r) n) (reach calls r) (called-has (reach calls r) n x l (holds-up (getD calls r 0) (reach calls r) x (reach-has r) h))
-      (subst (λ (w : ℕ). Sub (calledBy calls (reach calls r) n) w) (closed r) (sub-or-r (reach calls r) (calledBy calls (reach calls r) n))))
+      (sub-trans (getD calls x 0) (allCalled calls (reach calls r) n) (reach calls r) (called-has (reach calls r) n x l (holds-up (getD calls r 0) (reach calls r) x (reach-has r) h))
+      (subst (λ (w : ℕ). Sub (allCalled calls (reach calls r) n) w) (closed r) (sub-or-r (reach calls r) (allCalled calls (reach calls r) n))))
       (subst (λ (w : ℕ). Sub (grow (reach calls r)) w) (closed r) (sub-rfl (grow (reach calls r))))
 
   -- the rank falls along a first call of a symbol that does not reach itself

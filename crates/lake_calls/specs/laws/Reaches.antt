@@ -19,7 +19,7 @@ use Rattle.base_words.specs.Set.{bit}
 use Rattle.base_words.specs.laws.Members.{bit-or, bit-lt, bit-pow-same, bit-pow-other}
 use Rattle.base_words.specs.laws.Order.{Sub, sub-or-r, bit-none}
 use Rattle.base_rounds.specs.Rounds.{iter}
-use Rattle.lake_calls.specs.Calls.{holds, calledBy, reach, loopFrom}
+use Rattle.lake_calls.specs.Calls.{holds, allCalled, reach, loopFrom}
 use Rattle.lake_calls.specs.Loops.{LeadsTo, at-once, and-on}
 use Rattle.lake_calls.specs.laws.Ranks.{member, called-has, closed, reach-has, holds-up, falls}
 
@@ -43,13 +43,13 @@ pub none-in : (x : ℕ) → holds 0 x ≡ true → ⊥
 none-in x h = let e : bit 0 x ≡ 1 = member 0 x h in let f : bit 0 x ≡ 0 = bit-none x in omega (arith, e, f)
 
 -- what is called by some of w is called by one of them
-caller : (calls : List ℕ) (w k x : ℕ) → holds (calledBy calls w k) x ≡ true → (y : ℕ) × (y < k) × (holds w y ≡ true) × (holds (getD calls y 0) x ≡ true)
-unfolding calledBy
+caller : (calls : List ℕ) (w k x : ℕ) → holds (allCalled calls w k) x ≡ true → (y : ℕ) × (y < k) × (holds w y ≡ true) × (holds (getD calls y 0) x ≡ true)
+unfolding allCalled
 caller calls w zero x h = absurd (none-in x h)
-caller calls w (suc k) x h = go (either (calledBy calls w k) (cond (holds w k) (getD calls k 0) 0) x h) (holds w k) refl (λ p. caller calls w k x p)
+caller calls w (suc k) x h = go (either (allCalled calls w k) (cond (holds w k) (getD calls k 0) 0) x h) (holds w k) refl (λ p. caller calls w k x p)
   where
-    go : (holds (calledBy calls w k) x ≡ true) ⊎ (holds (cond (holds w k) (getD calls k 0) 0) x ≡ true) → (b : Bool) → holds w k ≡ b
-        → (holds (calledBy calls w k) x ≡ true → (y : ℕ) × (y < k) × (holds w y ≡ true) × (holds (getD calls y 0) x ≡ true))
+    go : (holds (allCalled calls w k) x ≡ true) ⊎ (holds (cond (holds w k) (getD calls k 0) 0) x ≡ true) → (b : Bool) → holds w k ≡ b
+        → (holds (allCalled calls w k) x ≡ true → (y : ℕ) × (y < k) × (holds w y ≡ true) × (holds (getD calls y 0) x ≡ true))
         → (y : ℕ) × (y < suc k) × (holds w y ≡ true) × (holds (getD calls y 0) x ≡ true)
     go (inl p) b e f = let q = f p in (q .0, omega (arith, q .1), q .2, q .3)
     go (inr p) true e f = (k, omega arith, e, subst (λ (c : Bool). holds (cond c (getD calls k 0) 0) x ≡ true) e p)
@@ -62,14 +62,14 @@ module _ (calls : List ℕ) (r : ℕ) where
       ⊎-elim (λ (l : r < length calls). l) (λ (l : length calls ≤ r). absurd (none-in x (subst (λ (w : ℕ). holds w x ≡ true) (List·getD-eq-default calls 0 {n = r} l) h)))
       (lt-or-ge r (length calls))
 
-  rounds-reach : (k x : ℕ) → holds (iter (λ w. bitOr w (calledBy calls w (length calls))) (getD calls r 0) k) x ≡ true → LeadsTo (Called calls) r x
+  rounds-reach : (k x : ℕ) → holds (iter (λ w. bitOr w (allCalled calls w (length calls))) (getD calls r 0) k) x ≡ true → LeadsTo (Called calls) r x
   rounds-reach zero x h = at-once (has-word x h, h)
-  rounds-reach (suc k) x h = go (either w (calledBy calls w (length calls)) x h) (λ y p. rounds-reach k y p)
+  rounds-reach (suc k) x h = go (either w (allCalled calls w (length calls)) x h) (λ y p. rounds-reach k y p)
     where
       w : ℕ
-      w = iter (λ w. bitOr w (calledBy calls w (length calls))) (getD calls r 0) k
+      w = iter (λ w. bitOr w (allCalled calls w (length calls))) (getD calls r 0) k
 
-      go : (holds w x ≡ true) ⊎ (holds (calledBy calls w (length calls)) x ≡ true) → ((y : ℕ) → holds w y ≡ true → LeadsTo (Called calls) r y) → LeadsTo (Called calls) r x
+      go : (holds w x ≡ true) ⊎ (holds (allCalled calls w (length calls)) x ≡ true) → ((y : ℕ) → holds w y ≡ true → LeadsTo (Called calls) r y) → LeadsTo (Called calls) r x
       go (inl p) f = f x p
       go (inr p) f = let q = caller calls w (length calls) x p in and-on (f (q .0) (q .2)) (q .1, q .3)
 
@@ -83,10 +83,10 @@ module _ (calls : List ℕ) (r : ℕ) where
     pub reached : {x : ℕ} → LeadsTo (Called calls) r x → holds (reach calls r) x ≡ true
     reached {x} (at-once h) = holds-up calls small (getD calls r 0) (reach calls r) x (reach-has calls small r) (h .1)
     reached {x} (and-on {y = y} t h) =
-        let up : holds (calledBy calls (reach calls r) (length calls)) x ≡ true =
-        holds-up calls small (getD calls y 0) (calledBy calls (reach calls r) (length calls)) x (called-has calls small (reach calls r) (length calls) y (h .0) (reached t)) (h .1) in
+        let up : holds (allCalled calls (reach calls r) (length calls)) x ≡ true =
+        holds-up calls small (getD calls y 0) (allCalled calls (reach calls r) (length calls)) x (called-has calls small (reach calls r) (length calls) y (h .0) (reached t)) (h .1) in
         subst (λ (w : ℕ). holds w x ≡ true) (closed calls small r)
-        (holds-up calls small (calledBy calls (reach calls r) (length calls)) (bitOr (reach calls r) (calledBy calls (reach calls r) (length calls))) x (sub-or-r (reach calls r) (calledBy calls (reach calls r) (length calls))) up)
+        (holds-up calls small (allCalled calls (reach calls r) (length calls)) (bitOr (reach calls r) (allCalled calls (reach calls r) (length calls))) x (sub-or-r (reach calls r) (allCalled calls (reach calls r) (length calls))) up)
 
 -- ── symbols without a word call nothing: `reach` of the others is the same without them ──
 -- the bits of a word below n
@@ -167,29 +167,29 @@ module _ (calls : List ℕ) where
   agree-word : (y : ℕ) → Agree (getD calls y 0) (getD lows y 0)
   agree-word y x l = rw (lows-at y) (sym (low-bit (getD calls y 0) n x l))
 
-  agree-called : (u v k : ℕ) → k ≤ n → Agree u v → Agree (calledBy calls u k) (calledBy lows v k)
-  unfolding calledBy
+  agree-called : (u v k : ℕ) → k ≤ n → Agree u v → Agree (allCalled calls u k) (allCalled lows v k)
+  unfolding allCalled
   agree-called u v zero h p = λ x l. refl
   agree-called u v (suc k) h p =
-      agree-or (calledBy calls u k) (cond (holds u k) (getD calls k 0) 0) (calledBy lows v k) (cond (holds v k) (getD lows k 0) 0)
+      agree-or (allCalled calls u k) (cond (holds u k) (getD calls k 0) 0) (allCalled lows v k) (cond (holds v k) (getD lows k 0) 0)
       (agree-called u v k (omega arith) p) (go (holds u k) (holds v k) (ap (λ (z : ℕ). eqb z 1) (p k h)))
     where
       go : (b c : Bool) → b ≡ c → Agree (cond b (getD calls k 0) 0) (cond c (getD lows k 0) 0)
       go b true e = rw e (agree-word k)
       go b false e = rw e (λ x l. refl)
 
-  agree-rounds : (r k : ℕ) → Agree (iter (λ w. bitOr w (calledBy calls w n)) (getD calls r 0) k) (iter (λ w. bitOr w (calledBy lows w n)) (getD lows r 0) k)
+  agree-rounds : (r k : ℕ) → Agree (iter (λ w. bitOr w (allCalled calls w n)) (getD calls r 0) k) (iter (λ w. bitOr w (allCalled lows w n)) (getD lows r 0) k)
   agree-rounds r zero = agree-word r
   agree-rounds r (suc k) =
-      let u : ℕ = iter (λ w. bitOr w (calledBy calls w n)) (getD calls r 0) k in
-      let v : ℕ = iter (λ w. bitOr w (calledBy lows w n)) (getD lows r 0) k in
-      agree-or u (calledBy calls u n) v (calledBy lows v n) (agree-rounds r k) (agree-called u v n (omega arith) (agree-rounds r k))
+      let u : ℕ = iter (λ w. bitOr w (allCalled calls w n)) (getD calls r 0) k in
+      let v : ℕ = iter (λ w. bitOr w (allCalled lows w n)) (getD lows r 0) k in
+      agree-or u (allCalled calls u n) v (allCalled lows v n) (agree-rounds r k) (agree-called u v n (omega arith) (agree-rounds r k))
 
   agree-reach : (r : ℕ) → Agree (reach calls r) (reach lows r)
   unfolding reach
   agree-reach r x l =
       agree-rounds r n x l
-      ∙ ap (λ (j : ℕ). bit (iter (λ w. bitOr w (calledBy lows w j)) (getD lows r 0) j) x) (sym lows-long)
+      ∙ ap (λ (j : ℕ). bit (iter (λ w. bitOr w (allCalled lows w j)) (getD lows r 0) j) x) (sym lows-long)
 
   called-low : (y x : ℕ) → x < n → Called calls y x → Called lows y x
   called-low y x l h = (omega (arith, h .0, lows-long), ap (λ (z : ℕ). eqb z 1) (sym (agree-word y x l)) ∙ h .1)

@@ -14,10 +14,10 @@ use Rattle.grammar.specs.Same.{sameBytes, sameMarks, sameSymbol, sameLeaf, inde
 use Rattle.base_rounds.specs.Rounds.{settle}
 use Rattle.lake_step_one.specs.Intermediate.{waterIn, bodiesBy, intermediate}
 use Rattle.lake_sets.specs.Beginning.{markRound, marksOf, beginningsFrom, beginnings}
-use Rattle.lake_sets.specs.Flows.{over, given, leastBy}
+use Rattle.lake_sets.specs.Flows.{overParts, given, leastBy}
 use Rattle.lake_sets.specs.Analysis.{analysed, analysis}
 use Rattle.lake_step_two.specs.Plain.{nonterminalsIn, terminalsIn, alternatives, plainFrom, plainBodies}
-use Rattle.lake_calls.specs.Calls.{firstCalls, callsOf, calledBy, reach, loopFrom, loop}
+use Rattle.lake_calls.specs.Calls.{firstCalls, callsOf, allCalled, reach, loopFrom, loop}
 
 abbrev guarded : Grammar
 guarded =
@@ -33,15 +33,15 @@ pub guard : plainBodies guarded (analysis guarded)
     ∷ seq (star (sym 2)) (ter (literal (122 ∷ [])))
     ∷ alt (never (ter any)) (seq (never (alt (alt (sym 1) (ter (literal (121 ∷ [])))) (ter (literal (122 ∷ []))))) (ter any))
     ∷ []
-unfolding waterOf stepOne choiceOf skipOf stepTwo emptyLeaf hasEmpty size partsOf partsAll rootsOf sameBytes sameMarks sameSymbol sameLeaf indexOf settle waterIn bodiesBy intermediate markRound marksOf beginningsFrom beginnings over given leastBy analysed analysis nonterminalsIn terminalsIn alternatives plainFrom plainBodies
+unfolding waterOf stepOne choiceOf skipOf stepTwo emptyLeaf hasEmpty size partsOf partsAll rootsOf sameBytes sameMarks sameSymbol sameLeaf indexOf settle waterIn bodiesBy intermediate markRound marksOf beginningsFrom beginnings overParts given leastBy analysed analysis nonterminalsIn terminalsIn alternatives plainFrom plainBodies
 guard = refl
 
 pub loops-with-guards : loop (plainBodies guarded (analysis guarded)) ≡ some 1
-unfolding waterOf stepOne choiceOf skipOf stepTwo emptyLeaf hasEmpty size partsOf partsAll rootsOf sameBytes sameMarks sameSymbol sameLeaf indexOf settle waterIn bodiesBy intermediate markRound marksOf beginningsFrom beginnings over given leastBy analysed analysis nonterminalsIn terminalsIn alternatives plainFrom plainBodies firstCalls callsOf calledBy reach loopFrom loop
+unfolding waterOf stepOne choiceOf skipOf stepTwo emptyLeaf hasEmpty size partsOf partsAll rootsOf sameBytes sameMarks sameSymbol sameLeaf indexOf settle waterIn bodiesBy intermediate markRound marksOf beginningsFrom beginnings overParts given leastBy analysed analysis nonterminalsIn terminalsIn alternatives plainFrom plainBodies firstCalls callsOf allCalled reach loopFrom loop
 loops-with-guards = refl
 
 pub none-before : loop (intermediate guarded) ≡ none
-unfolding waterOf stepOne emptyLeaf hasEmpty sameBytes sameSymbol indexOf waterIn bodiesBy intermediate markRound marksOf firstCalls callsOf calledBy reach loopFrom loop
+unfolding waterOf stepOne emptyLeaf hasEmpty sameBytes sameSymbol indexOf waterIn bodiesBy intermediate markRound marksOf firstCalls callsOf allCalled reach loopFrom loop
 none-before = refl
 
 -- "Lakes in ALT(b) are dropped": in `a <- <x> / <y>` the ALT of `<x>` is `<y>`, and no alternative is left
@@ -54,5 +54,5 @@ lakesOnly =
     }
 
 pub dropped : plainBodies lakesOnly (analysis lakesOnly) ≡ alt (sym 1) (sym 2) ∷ alt (never (ter any)) (ter any) ∷ alt (never (ter any)) (ter any) ∷ []
-unfolding waterOf stepOne choiceOf skipOf stepTwo emptyLeaf hasEmpty size partsOf partsAll rootsOf sameBytes sameMarks sameSymbol sameLeaf indexOf settle waterIn bodiesBy intermediate markRound marksOf beginningsFrom beginnings over given leastBy analysed analysis nonterminalsIn terminalsIn alternatives plainFrom plainBodies
+unfolding waterOf stepOne choiceOf skipOf stepTwo emptyLeaf hasEmpty size partsOf partsAll rootsOf sameBytes sameMarks sameSymbol sameLeaf indexOf settle waterIn bodiesBy intermediate markRound marksOf beginningsFrom beginnings overParts given leastBy analysed analysis nonterminalsIn terminalsIn alternatives plainFrom plainBodies
 dropped = refl

@@ -23,24 +23,24 @@ use Rattle.base_rounds.specs.laws.Sys.{edges, Shaped, Solved, roundOf, empties}
 use Rattle.grammar.specs.Parts.{Part, terminal, occurs, sequence, choice, option, repeat, repeat1, affirms, denies}
 use Rattle.grammar_table.specs.Table.{upTo, partIn, partBy}
 use Rattle.lake_sets.specs.Beginning.{Beginning}
-use Rattle.lake_sets.specs.Flows.{edge, Gift, gift, when, over, given, roundBy, succeedGifts, altGifts}
+use Rattle.lake_sets.specs.Flows.{edge, Gift, gift, when, overParts, given, roundBy, succeedGifts, altGifts}
 use Rattle.lake_sets.specs.steps.Steps.{pairAt, rootIn, keptBy, kept, edgesBy, handed, Grown, Gave, Fine, Flowed, RoundsAsk}
 use Rattle.grammar_table.specs.laws.Places.{getD-any, upTo-long}
 
 -- ---- over all expressions
-over-more : {A : Type 0} (f : ℕ → Part → List A) (i : ℕ) (ps : List Part) (p : Part) → over f i (ps ++ (p ∷ [])) ≡ over f i ps ++ f (i + length ps) p
-unfolding over
+over-more : {A : Type 0} (f : ℕ → Part → List A) (i : ℕ) (ps : List Part) (p : Part) → overParts f i (ps ++ (p ∷ [])) ≡ overParts f i ps ++ f (i + length ps) p
+unfolding overParts
 over-more f i [] p = append-nil (f i p) ∙ ap (λ (j : ℕ). f j p) (let q : i ≡ i + 0 = omega arith in q)
 over-more f i (q ∷ ps) p =
-    ap (λ l. f i q ++ l) (over-more f (suc i) ps p ∙ ap (λ (j : ℕ). over f (suc i) ps ++ f j p) (let e : suc i + length ps ≡ i + suc (length ps) = omega arith in e))
-    ∙ sym (append-assoc (f i q) (over f (suc i) ps) (f (i + suc (length ps)) p))
+    ap (λ l. f i q ++ l) (over-more f (suc i) ps p ∙ ap (λ (j : ℕ). overParts f (suc i) ps ++ f j p) (let e : suc i + length ps ≡ i + suc (length ps) = omega arith in e))
+    ∙ sym (append-assoc (f i q) (overParts f (suc i) ps) (f (i + suc (length ps)) p))
 
-pub over-next : {A : Type 0} (f : ℕ → Part → List A) (part : ℕ → Part) (n : ℕ) → over f 0 (upTo part (n + 1)) ≡ over f 0 (upTo part n) ++ f n (part n)
+pub over-next : {A : Type 0} (f : ℕ → Part → List A) (part : ℕ → Part) (n : ℕ) → overParts f 0 (upTo part (n + 1)) ≡ overParts f 0 (upTo part n) ++ f n (part n)
 unfolding upTo
-over-next f part n = rw add-one (over-more f 0 (upTo part n) (part n) ∙ ap (λ (j : ℕ). over f 0 (upTo part n) ++ f j (part n)) (let e : length (upTo part n) ≡ n = upTo-long part n in let q : 0 + length (upTo part n) ≡ n = omega arith in q))
+over-next f part n = rw add-one (over-more f 0 (upTo part n) (part n) ∙ ap (λ (j : ℕ). overParts f 0 (upTo part n) ++ f j (part n)) (let e : length (upTo part n) ≡ n = upTo-long part n in let q : 0 + length (upTo part n) ≡ n = omega arith in q))
 
-pub over-none : {A : Type 0} (f : ℕ → Part → List A) (part : ℕ → Part) → over f 0 (upTo part 0) ≡ []
-unfolding upTo over
+pub over-none : {A : Type 0} (f : ℕ → Part → List A) (part : ℕ → Part) → overParts f 0 (upTo part 0) ≡ []
+unfolding upTo overParts
 over-none f part = refl
 
 -- ---- the edges
@@ -110,10 +110,10 @@ pub inside-append : (n : ℕ) (xs ys : List Edge) → Inside n xs → Inside n y
 inside-append n [] ys h k = k
 inside-append n (x ∷ xs) ys h k = (h .0, h .1, inside-append n xs ys (h .2) k)
 
-pub inside-over : (n : ℕ) (f : ℕ → Part → List Edge) (ps : List Part) (i : ℕ) → i + length ps ≤ n → ((j : ℕ) (p : Part) → j < n → Inside n (f j p)) → Inside n (over f i ps)
-unfolding over
+pub inside-over : (n : ℕ) (f : ℕ → Part → List Edge) (ps : List Part) (i : ℕ) → i + length ps ≤ n → ((j : ℕ) (p : Part) → j < n → Inside n (f j p)) → Inside n (overParts f i ps)
+unfolding overParts
 inside-over n f [] i h g = tt
-inside-over n f (p ∷ ps) i h g = inside-append n (f i p) (over f (suc i) ps) (g i p (omega arith)) (inside-over n f ps (suc i) (omega arith) g)
+inside-over n f (p ∷ ps) i h g = inside-append n (f i p) (overParts f (suc i) ps) (g i p (omega arith)) (inside-over n f ps (suc i) (omega arith) g)
 
 inside-left : (n : ℕ) (xs ys : List Edge) → Inside n (xs ++ ys) → Inside n xs × Inside n ys
 inside-left n [] ys h = (tt, h)

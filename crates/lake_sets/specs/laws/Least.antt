@@ -23,7 +23,7 @@ use Rattle.base_rounds.specs.laws.Settle.{settle-first}
 use Rattle.grammar.specs.Parts.{Part, terminal, occurs, sequence, choice, option, repeat, repeat1, affirms, denies}
 use Rattle.grammar_table.specs.Table.{upTo}
 use Rattle.lake_sets.specs.Beginning.{Beginning, begin, nothing, beginBy}
-use Rattle.lake_sets.specs.Flows.{edge, Gift, gift, when, over, given, roundBy, leastBy, succeedGifts, succeedEdges, altGifts, altEdges}
+use Rattle.lake_sets.specs.Flows.{edge, Gift, gift, when, overParts, given, roundBy, leastBy, succeedGifts, succeedEdges, altGifts, altEdges}
 use Rattle.lake_sets.specs.steps.Steps.{Ok, Flowed, kept, edgesBy}
 use Rattle.grammar_table.specs.laws.Places.{getD-any, upTo-long}
 use Rattle.lake_sets.specs.laws.Begins.{upBegins, begins-next, begins-long}
@@ -82,10 +82,10 @@ module _ (r x : ℕ) where
   gifts-append [] ys p q = q
   gifts-append (y ∷ xs) ys p q = (p .0, gifts-append xs ys (p .1) q)
 
-  pub over-good : (f : ℕ → Part → List Gift) → ((i : ℕ) (p : Part) → GoodGifts (f i p)) → (i : ℕ) (ps : List Part) → GoodGifts (over f i ps)
-  unfolding over
+  pub over-good : (f : ℕ → Part → List Gift) → ((i : ℕ) (p : Part) → GoodGifts (f i p)) → (i : ℕ) (ps : List Part) → GoodGifts (overParts f i ps)
+  unfolding overParts
   over-good f h i [] = tt
-  over-good f h i (p ∷ ps) = gifts-append (f i p) (over f (suc i) ps) (h i p) (over-good f h (suc i) ps)
+  over-good f h i (p ∷ ps) = gifts-append (f i p) (overParts f (suc i) ps) (h i p) (over-good f h (suc i) ps)
 
   pub succeed-good : (bs : ℕ → Beginning) (root : ℕ → ℕ) → ((j : ℕ) → Good (bs j .set)) → (i : ℕ) (p : Part) → GoodGifts (succeedGifts bs root i p)
   succeed-good bs root h i (terminal y) = tt

@@ -23,7 +23,7 @@ use Rattle.grammar_table.specs.Table.{upTo, partIn, rootsIn, symbolWord, symbol
 use Rattle.grammar_table.specs.Holds.{Holds, rootsFrom}
 use Rattle.lake_step_one.specs.Intermediate.{intermediate}
 use Rattle.lake_sets.specs.Beginning.{Beginning, nothing, begin, marked, markRound, marksOf, beginnings}
-use Rattle.lake_sets.specs.Flows.{edge, Gift, gift, when, over, leastBy, succeedGifts, succeedEdges, altGifts, altEdges}
+use Rattle.lake_sets.specs.Flows.{edge, Gift, gift, when, overParts, leastBy, succeedGifts, succeedEdges, altGifts, altEdges}
 use Rattle.lake_sets.specs.Analysis.{Analysis, analysed, analysis}
 use Rattle.grammar.specs.Numbers.{terminalIn}
 use Rattle.lake_sets.specs.steps.Steps.{pairAt, rootIn, Ok, Tame, beginsIn, markNext, marksIn, kept, edgesBy, handed, succeedGiven, altGiven, Flowed}
@@ -38,7 +38,7 @@ use Rattle.lake_sets.specs.laws.Wholes.{OkAll, ok-at, all-ok, eps-body}
 use Rattle.lake_sets.specs.laws.Least.{begins-good, over-good, succeed-good, alt-good, least-is, state-at}
 
 -- ---- lists that agree expression by expression
-over-same : {A : Type 0} (f g : ℕ → Part → List A) (part : ℕ → Part) (n : ℕ) → ((i : ℕ) → i < n → f i (part i) ≡ g i (part i)) → over f 0 (upTo part n) ≡ over g 0 (upTo part n)
+over-same : {A : Type 0} (f g : ℕ → Part → List A) (part : ℕ → Part) (n : ℕ) → ((i : ℕ) → i < n → f i (part i) ≡ g i (part i)) → overParts f 0 (upTo part n) ≡ overParts g 0 (upTo part n)
 over-same f g part zero h = over-none f part ∙ sym (over-none g part)
 over-same f g part (suc n) h =
     rw (← add-one n) (over-next f part n ∙ ap₂ (λ a b. a ++ b) (over-same f g part n (λ i l. h i (omega arith))) (h n (omega arith)) ∙ sym (over-next g part n))
@@ -198,18 +198,18 @@ module _ (t : List ℕ) (g : Grammar) (h : Holds t (middle g)) (proper : Proper 
     bs-is : pairAt sets eps ≡ bs
     bs-is = fun-ext hb
 
-    edges-is : (back : Bool) → handed t eps back n n ≡ over (edgesBy back bs root) 0 (upTo (partIn t) n)
+    edges-is : (back : Bool) → handed t eps back n n ≡ overParts (edgesBy back bs root) 0 (upTo (partIn t) n)
     edges-is back =
         over-same (λ i p. kept n (edgesBy back (pairAt [] eps) (rootIn t) i p)) (edgesBy back bs root) (partIn t) n
         (λ i l. edges-same n R X (pairAt [] eps) bs (rootIn t) root (λ a. ap (λ (z : Beginning). z .eps) (hb a)) roots-is (λ s p. rw (sym (roots-is s p)) (tame .roots s p)) i l back (partIn t i) (part-ok i l))
 
-    inside : (back : Bool) → Inside n (over (edgesBy back bs root) 0 (upTo (partIn t) n))
+    inside : (back : Bool) → Inside n (overParts (edgesBy back bs root) 0 (upTo (partIn t) n))
     inside back = subst (Inside n) (edges-is back) (handed-inside t eps back n)
 
-    succeed-is : succeedGiven t sets n ≡ over (succeedGifts bs root) 0 (upTo (partIn t) n)
+    succeed-is : succeedGiven t sets n ≡ overParts (succeedGifts bs root) 0 (upTo (partIn t) n)
     succeed-is = over-same (succeedGifts (pairAt sets []) (rootIn t)) (succeedGifts bs root) (partIn t) n (λ i l. succeed-same (pairAt sets []) bs (rootIn t) root (λ a. ap (λ (z : Beginning). z .set) (hb a)) i (partIn t i))
 
-    alt-is : altGiven t sets eps succ n ≡ over (altGifts bs root (λ i. getD succ i empty)) 0 (upTo (partIn t) n)
+    alt-is : altGiven t sets eps succ n ≡ overParts (altGifts bs root (λ i. getD succ i empty)) 0 (upTo (partIn t) n)
     alt-is =
         over-same (altGifts (pairAt sets eps) (rootIn t) (λ i. getD succ i empty)) (altGifts bs root (λ i. getD succ i empty)) (partIn t) n
         (λ i l. ap (λ (b : ℕ → Beginning). altGifts b (rootIn t) (λ a. getD succ a empty) i (partIn t i)) bs-is ∙ alt-same bs (rootIn t) root (λ a. getD succ a empty) i (partIn t i))
@@ -218,29 +218,29 @@ module _ (t : List ℕ) (g : Grammar) (h : Holds t (middle g)) (proper : Proper 
     sets-good = begins-good R X (marked ms) (partIn t) n part-ok
 
     abbrev SG : List Gift
-    SG = over (succeedGifts bs root) 0 (upTo (partIn t) n)
+    SG = overParts (succeedGifts bs root) 0 (upTo (partIn t) n)
 
     abbrev AG : List Gift
-    AG = over (altGifts bs root (λ i. getD succ i empty)) 0 (upTo (partIn t) n)
+    AG = overParts (altGifts bs root (λ i. getD succ i empty)) 0 (upTo (partIn t) n)
 
-    pub succeed-flowed : Flowed n SG (over (edgesBy true bs root) 0 (upTo (partIn t) n)) j succ
+    pub succeed-flowed : Flowed n SG (overParts (edgesBy true bs root) 0 (upTo (partIn t) n)) j succ
     succeed-flowed = flowed-as hs succeed-is (edges-is true)
 
-    pub alt-flowed : Flowed n AG (over (edgesBy false bs root) 0 (upTo (partIn t) n)) k alts
+    pub alt-flowed : Flowed n AG (overParts (edgesBy false bs root) 0 (upTo (partIn t) n)) k alts
     alt-flowed = flowed-as ha alt-is (edges-is false)
 
     sg-good : Rattle.lake_sets.specs.laws.Least.GoodGifts R X SG
     sg-good = over-good R X (succeedGifts bs root) (succeed-good R X bs root sets-good) 0 (upTo (partIn t) n)
 
-    succeed-least : leastBy (n * (R + X)) n SG (over (edgesBy true bs root) 0 (upTo (partIn t) n)) ≡ settled j succ
-    succeed-least = least-is R X n SG (over (edgesBy true bs root) 0 (upTo (partIn t) n)) j succ succeed-flowed (inside true) sg-good
+    succeed-least : leastBy (n * (R + X)) n SG (overParts (edgesBy true bs root) 0 (upTo (partIn t) n)) ≡ settled j succ
+    succeed-least = least-is R X n SG (overParts (edgesBy true bs root) 0 (upTo (partIn t) n)) j succ succeed-flowed (inside true) sg-good
 
     succ-at : (i : ℕ) → Rattle.lake_sets.specs.laws.Least.Good R X (getD succ i empty)
-    succ-at = state-at R X n SG (over (edgesBy true bs root) 0 (upTo (partIn t) n)) j succ succeed-flowed (inside true) sg-good
+    succ-at = state-at R X n SG (overParts (edgesBy true bs root) 0 (upTo (partIn t) n)) j succ succeed-flowed (inside true) sg-good
 
-    alt-least : leastBy (n * (R + X)) n AG (over (edgesBy false bs root) 0 (upTo (partIn t) n)) ≡ settled k alts
+    alt-least : leastBy (n * (R + X)) n AG (overParts (edgesBy false bs root) 0 (upTo (partIn t) n)) ≡ settled k alts
     alt-least =
-        least-is R X n AG (over (edgesBy false bs root) 0 (upTo (partIn t) n)) k alts alt-flowed (inside false)
+        least-is R X n AG (overParts (edgesBy false bs root) 0 (upTo (partIn t) n)) k alts alt-flowed (inside false)
         (over-good R X (altGifts bs root (λ i. getD succ i empty)) (alt-good R X bs root (λ i. getD succ i empty) sets-good succ-at) 0 (upTo (partIn t) n))
 
     abbrev P : List Part
@@ -249,13 +249,13 @@ module _ (t : List ℕ) (g : Grammar) (h : Holds t (middle g)) (proper : Proper 
     abbrev most : ℕ
     most = n * (R + X)
 
-    S : leastBy most (length P) SG (over (succeedEdges bs root) 0 P) ≡ settled j succ
-    S = ap (λ (l : ℕ). leastBy most l SG (over (succeedEdges bs root) 0 P)) (upTo-long (partIn t) n) ∙ succeed-least
+    S : leastBy most (length P) SG (overParts (succeedEdges bs root) 0 P) ≡ settled j succ
+    S = ap (λ (l : ℕ). leastBy most l SG (overParts (succeedEdges bs root) 0 P)) (upTo-long (partIn t) n) ∙ succeed-least
 
-    A : leastBy most (length P) (over (altGifts bs root (λ i. getD (leastBy most (length P) SG (over (succeedEdges bs root) 0 P) .state) i empty)) 0 P) (over (altEdges bs root) 0 P) ≡ settled k alts
+    A : leastBy most (length P) (overParts (altGifts bs root (λ i. getD (leastBy most (length P) SG (overParts (succeedEdges bs root) 0 P) .state) i empty)) 0 P) (overParts (altEdges bs root) 0 P) ≡ settled k alts
     A =
-        ap (λ (w : Settled (List (List ℕ))). leastBy most (length P) (over (altGifts bs root (λ i. getD (w .state) i empty)) 0 P) (over (altEdges bs root) 0 P)) S
-        ∙ ap (λ (l : ℕ). leastBy most l AG (over (altEdges bs root) 0 P)) (upTo-long (partIn t) n) ∙ alt-least
+        ap (λ (w : Settled (List (List ℕ))). leastBy most (length P) (overParts (altGifts bs root (λ i. getD (w .state) i empty)) 0 P) (overParts (altEdges bs root) 0 P)) S
+        ∙ ap (λ (l : ℕ). leastBy most l AG (overParts (altEdges bs root) 0 P)) (upTo-long (partIn t) n) ∙ alt-least
 
     here : Analysed (analysed ms (rootsOf 0 bodies) P most) ms sets eps succ alts k
     unfolding analysed

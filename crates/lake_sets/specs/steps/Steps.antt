@@ -15,7 +15,7 @@ use Rattle.base_rounds.specs.laws.Pair.{Set2}
 use Rattle.base_rounds.specs.laws.Flow.{Inside}
 use Rattle.base_rounds.specs.laws.Sys.{edges, empties}
 use Rattle.lake_sets.specs.Beginning.{Beginning, begin, nothing, marked, beginBy, beginnings}
-use Rattle.lake_sets.specs.Flows.{Gift, over, given, roundBy, succeedGifts, succeedEdges, altGifts, altEdges}
+use Rattle.lake_sets.specs.Flows.{Gift, overParts, given, roundBy, succeedGifts, succeedEdges, altGifts, altEdges}
 
 -- BEGINNING of expression i as two lent runs have it
 abbrev pub pairAt : List (List ℕ) → List Bool → ℕ → Beginning
@@ -104,14 +104,14 @@ pub record Grown (src dst : List ℕ) (m : ℕ) (es : List Edge) (src′ dst′ 
 
 -- those of the first e expressions of a table of n
 abbrev pub handed : List ℕ → List Bool → Bool → ℕ → ℕ → List Edge
-handed t eps back n e = over (λ i p. kept n (edgesBy back (pairAt [] eps) (rootIn t) i p)) 0 (upTo (partIn t) e)
+handed t eps back n e = overParts (λ i p. kept n (edgesBy back (pairAt [] eps) (rootIn t) i p)) 0 (upTo (partIn t) e)
 
 -- the gifts of the first e expressions
 abbrev pub succeedGiven : List ℕ → List (List ℕ) → ℕ → List Gift
-succeedGiven t sets e = over (succeedGifts (pairAt sets []) (rootIn t)) 0 (upTo (partIn t) e)
+succeedGiven t sets e = overParts (succeedGifts (pairAt sets []) (rootIn t)) 0 (upTo (partIn t) e)
 
 abbrev pub altGiven : List ℕ → List (List ℕ) → List Bool → List (List ℕ) → ℕ → List Gift
-altGiven t sets eps succ e = over (altGifts (pairAt sets eps) (rootIn t) (λ i. getD succ i empty)) 0 (upTo (partIn t) e)
+altGiven t sets eps succ e = overParts (altGifts (pairAt sets eps) (rootIn t) (λ i. getD succ i empty)) 0 (upTo (partIn t) e)
 
 -- cells whose words are words
 abbrev pub Fine : List (List ℕ) → Type 0

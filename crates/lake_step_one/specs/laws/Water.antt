@@ -1,7 +1,7 @@
 -- The symbol called `water`, and the run of its right side. Assumes nothing.
 use Prim.Native.Nat.{ℕ, zero, suc, _+_, _-_, _*_, _≤_, _<_}
 use mathlib.Core.Path.{_≡_, refl, sym, ap, ap₂, _∙_, subst}
-use mathlib.Core.Bool.{Bool, true, false, not, cond, _&&_}
+use mathlib.Core.Bool.{Bool, true, false, not, cond, _&&_, and-false, and-true}
 use mathlib.Core.List.{List, [], _∷_}
 use mathlib.Core.Option.{Option, none, some}
 use mathlib.Core.Logic.{_⊎_, ⊎-elim}
@@ -24,14 +24,6 @@ use Rattle.lake_step_one.specs.steps.Runs.{BodyAt}
 use Rattle.lake_step_one.specs.steps.Made.{nextBy}
 use Rattle.lake_step_one.specs.laws.Held.{names-are, rights-long}
 use Rattle.lake_step_one.specs.laws.Next.{name-at, body-at, next-from}
-
-and-false : (b : Bool) → (b && false) ≡ false
-and-false true = refl
-and-false false = refl
-
-and-true : (b : Bool) → (b && true) ≡ b
-and-true true = refl
-and-true false = refl
 
 -- the five bytes, word by word
 abbrev pub five : ℕ → ℕ → ℕ → ℕ → ℕ → Bool

@@ -15,7 +15,7 @@ use Rattle.read_tokens.specs.Bounds.{textBound}
 use Rattle.read_tokens.specs.Tokens.{lexemes, toksOf}
 use Rattle.grammar.specs.Refusal.{Refusal, refusal, refuseIf, refuseAt, _▸_}
 use Rattle.read_syntax.specs.Machine.{Judged, fine, syntax, wide, judge, start, placeOf}
-use Rattle.read_syntax.specs.Reading.{tooLong, offence, second, unruled, leftsIn, tooMany, rulesIn, refusesText, rulesOf}
+use Rattle.read_syntax.specs.Reading.{tooLong, offence, second, unruled, leftsIn, tooMany, rulesFrom, refusesText, rulesOf}
 use Rattle.read_syntax.specs.declared.syntax.Found.{Found}
 use Rattle.read_syntax.specs.steps.Found.{found}
 use Rattle.read_names.specs.steps.Names.{placed}
@@ -29,9 +29,9 @@ assoc (some r) b c = refl
 pub text-by-scan : (m : Mode) (s : List ℕ) → refusesText m s ≡ (scanned m s ▸ tooMany m (rulesOf m s))
 unfolding refusesText rulesOf
 text-by-scan m s =
-    sym (assoc (tooLong m s) (o ▸ (q ▸ p)) (tooMany m (rulesIn (toksOf (lexemes m s))))
-    ∙ ap (λ (x : Option Refusal). tooLong m s ▸ x) (assoc o (q ▸ p) (tooMany m (rulesIn (toksOf (lexemes m s))))
-    ∙ ap (λ (x : Option Refusal). o ▸ x) (assoc q p (tooMany m (rulesIn (toksOf (lexemes m s)))))))
+    sym (assoc (tooLong m s) (o ▸ (q ▸ p)) (tooMany m (rulesFrom (toksOf (lexemes m s))))
+    ∙ ap (λ (x : Option Refusal). tooLong m s ▸ x) (assoc o (q ▸ p) (tooMany m (rulesFrom (toksOf (lexemes m s))))
+    ∙ ap (λ (x : Option Refusal). o ▸ x) (assoc q p (tooMany m (rulesFrom (toksOf (lexemes m s)))))))
   where
     o : Option Refusal
     o = offence (length s) (lexemes m s) (judge m 0 start (lexemes m s))

@@ -11,7 +11,7 @@ use Rattle.read_tokens.specs.declared.Mode.{Mode}
 use Rattle.read_tokens.specs.declared.Mode.the-variants.{Lake, Plain}
 use Rattle.read_tokens.specs.Token.{Leaf, Tok, symbol, leaf, pre, suf, arrow, slash, opens, closes, bad, Token}
 use Rattle.read_tokens.specs.Chars.{Body, shut, broken, single, listed, body}
-use Rattle.read_tokens.specs.Tokens.{skip, nameSpan, lakeBy, less, literalBy, someTrue, marksOf, marked, classBy, bracket, byKind, tokenFrom, tokenAt, byEnd, lexemesFrom, lexemes, toksOf, toks}
+use Rattle.read_tokens.specs.Tokens.{skip, nameSpan, lakeBy, angle, literalBy, someTrue, marksOf, marked, classBy, bracket, byKind, tokenFrom, tokenAt, byEnd, lexemesFrom, lexemes, toksOf, toks}
 use Rattle.read_tokens.specs.laws.Tests.{by-test, by-cond}
 use Rattle.grammar.specs.Empty.{emptyLeaf}
 use Rattle.grammar_table.specs.laws.Rows.{All}
@@ -68,8 +68,8 @@ lake-full : (i : ℕ) (w l : List ℕ) → FullAt (lakeBy i w l)
 lake-full i w [] = tt
 lake-full i w (b ∷ l) = by-cond FullAt (eqb b 62) _ _ tt tt
 
-less-full : (m : Mode) (i : ℕ) (l : List ℕ) → FullAt (less m i l)
-unfolding less
+less-full : (m : Mode) (i : ℕ) (l : List ℕ) → FullAt (angle m i l)
+unfolding angle
 less-full Plain i [] = tt
 less-full Lake i [] = tt
 less-full Plain i (b ∷ l) = by-cond FullAt (eqb b 45) _ _ tt tt

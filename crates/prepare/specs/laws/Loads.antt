@@ -23,7 +23,7 @@ use Rattle.grammar_table.specs.Table.{tableWords}
 use Rattle.grammar.specs.Refusal.{Refusal, refusal, refuseIf, refuseAt, _▸_}
 use Rattle.read_syntax.specs.Machine.{Judged, fine, syntax, wide, judge, start}
 use Rattle.read_syntax.specs.Reader.{ok, rulesP}
-use Rattle.read_syntax.specs.Reading.{offence, second, unruled, leftsIn, tooMany, rulesBy, rulesIn, rulesOf, refusesText}
+use Rattle.read_syntax.specs.Reading.{offence, second, unruled, leftsIn, tooMany, rulesRead, rulesFrom, rulesOf, refusesText}
 use Rattle.read_syntax.specs.laws.Bounds.{Judges, judged}
 use Rattle.read_syntax.specs.laws.Reads.{reads-back, cost-enough}
 use Rattle.read_syntax.specs.declared.syntax.Found.{Found}
@@ -102,14 +102,14 @@ module _ (m : Mode) (s : List ℕ) where
     not-long = omega (arith, ltb-false (textBound m) (length s) (c .short), in-bound m)
 
     pub grammar-of : (g : Rules) × Sound m s g × (trees g ≡ rulesOf m s)
-    unfolding toks rulesOf rulesIn
+    unfolding toks rulesOf rulesFrom
     grammar-of =
         let w : Judges m xs fine = subst (Judges m xs) (c .bounded) (judged m xs) in
         let g : Rules = w .0 .0 in
         let e : tokens g ≡ toksOf xs = w .0 .1 in (
           g,
           record { reads = e; bounded = c .bounded; once = c .once; ruled = c .ruled },
-          sym (ap rulesBy (subst (λ (l : List Tok). rulesP (5 * length l) l ≡ ok g []) e (reads-back g (5 * length (tokens g)) (cost-enough g)))),
+          sym (ap rulesRead (subst (λ (l : List Tok). rulesP (5 * length l) l ≡ ok g []) e (reads-back g (5 * length (tokens g)) (cost-enough g)))),
         )
 
 -- ── counts and bounds ──

@@ -15,7 +15,7 @@ use Rattle.read_tokens.specs.declared.Mode.{Mode}
 use Rattle.read_tokens.specs.declared.Mode.the-variants.{Lake, Plain}
 use Rattle.read_tokens.specs.Token.{Tok, Token, Lexeme, name, lake, literal, class, symbol, leaf, pre, suf, arrow, slash, opens, closes, bad}
 use Rattle.read_tokens.specs.Chars.{Range, range, Body, shut, broken, body, char, four, single, listed}
-use Rattle.read_tokens.specs.Tokens.{tok, badAt, skip, nameSpan, lakeBy, less, lowOf, literalBy, someTrue, marksOf, marked, classBy, bracket, preOf, sufOf, byKind, tokenFrom, tokenAt, lexeme, lexemes}
+use Rattle.read_tokens.specs.Tokens.{tok, badAt, skip, nameSpan, lakeBy, angle, lowOf, literalBy, someTrue, marksOf, marked, classBy, bracket, preOf, sufOf, byKind, tokenFrom, tokenAt, lexeme, lexemes}
 use Rattle.read_spelling.specs.Spelling.{Letter, NameByte, OneOf, quotes, Run, Skips, Spells, Item, UpTo, Marks, Caret, Sign, is-opens, is-closes, is-slash, is-amp, is-bang, is-query, is-asterisk, is-cross, is-any, Reads, a-sign, an-arrow, a-name, a-lake, a-literal, a-class, a-complement, SpelledAt, text-end, good, no-token, Spelled, ended, follows}
 use Rattle.read_tokens.specs.laws.Bytes.{Bytes, bytes-drop}
 use Rattle.read_tokens.specs.laws.Tests.{by-test}
@@ -110,8 +110,8 @@ lake-found i b w l (c ∷ r) h u = pick (eqb c 62) refl
     pick true e = reads {n = i + length (b ∷ w) + 2} r (a-lake h (subst (λ (j : ℕ). Run NameByte w l (j ∷ r)) (eqb-true c 62 e) u)) (omega (arith, run-length u))
     pick false e = poor
 
-less-found : (m : Mode) (i : ℕ) (l : List ℕ) → Bytes l → Found m i (60 ∷ l) (less m i l)
-unfolding less
+less-found : (m : Mode) (i : ℕ) (l : List ℕ) → Bytes l → Found m i (60 ∷ l) (angle m i l)
+unfolding angle
 less-found Plain i [] h = poor
 less-found Lake i [] h = poor
 less-found Plain i (b ∷ l) h = pick (eqb b 45) refl
@@ -164,7 +164,7 @@ kind-found k m b i l h e =
     by-test P (eqb k 10) _ _ (λ x. sign-found m i l b (kind-dot b (h .0) (is 10 x)) is-any) (
     by-test P (eqb k 11) _ _ (λ x. literal-found m b i l (kind-quote b (h .0) (is 11 x)) (h .1)) (
     by-test P (eqb k 12) _ _ (λ x. subst (λ (j : ℕ). Found m i (j ∷ l) (bracket m i l)) (sym (kind-bracket b (h .0) (is 12 x))) (bracket-found m i l (h .1))) (
-    by-test P (eqb k 13) _ _ (λ x. subst (λ (j : ℕ). Found m i (j ∷ l) (less m i l)) (sym (kind-less b (h .0) (is 13 x))) (less-found m i l (h .1))) poor)))))))))
+    by-test P (eqb k 13) _ _ (λ x. subst (λ (j : ℕ). Found m i (j ∷ l) (angle m i l)) (sym (kind-less b (h .0) (is 13 x))) (less-found m i l (h .1))) poor)))))))))
 
 found : (m : Mode) (b i : ℕ) (l : List ℕ) → Bytes (b ∷ l) → Found m i (b ∷ l) (tokenFrom m i (b ∷ l))
 unfolding tokenFrom
@@ -195,7 +195,7 @@ by-quote : (m : Mode) (i q : ℕ) (l : List ℕ) → OneOf quotes q → tokenFro
 unfolding tokenFrom byKind
 by-quote m i q l h = ap (λ (k : ℕ). byKind k m q i l) (quote-kind q h)
 
-by-less : (m : Mode) (i : ℕ) (l : List ℕ) → tokenFrom m i (60 ∷ l) ≡ less m i l
+by-less : (m : Mode) (i : ℕ) (l : List ℕ) → tokenFrom m i (60 ∷ l) ≡ angle m i l
 unfolding tokenFrom byKind kindAt oneOf ranges
 by-less m i l = refl
 
@@ -206,8 +206,8 @@ by-bracket m i l = refl
 span-is : {w l r : List ℕ} (b : ℕ) → Letter b → Run NameByte w l r → Bytes l → nameSpan (b ∷ l) ≡ b ∷ w
 span-is {l = l} b h u k = span-letter b l (letter-kind b h) ∙ ap (λ (w : List ℕ). b ∷ w) (run-span u k)
 
-arrow-gives : (m : Mode) (i : ℕ) (r : List ℕ) → less m i (45 ∷ r) ≡ tok arrow i (i + 2)
-unfolding less
+arrow-gives : (m : Mode) (i : ℕ) (r : List ℕ) → angle m i (45 ∷ r) ≡ tok arrow i (i + 2)
+unfolding angle
 arrow-gives Lake i r = refl
 arrow-gives Plain i r = refl
 
@@ -223,8 +223,8 @@ no-dash b h e = let z : _≡_ {A = ℕ} 2 0 = sym (letter-kind b h) ∙ ap kindA
 drop-cut : {w l r : List ℕ} → Run NameByte w l r → drop (length w) l ≡ r
 drop-cut {w} {l} {r} u = let c = run-cut u in let e : length w ≡ c .0 = omega (arith, c .2, run-length u) in ap (λ (n : ℕ). drop n l) e ∙ c .1
 
-lake-gives : {w l r : List ℕ} (i b : ℕ) → Letter b → Run NameByte w l (62 ∷ r) → Bytes l → less Lake i (b ∷ l) ≡ tok (symbol (lake (b ∷ w))) i (i + length (b ∷ w) + 2)
-unfolding less
+lake-gives : {w l r : List ℕ} (i b : ℕ) → Letter b → Run NameByte w l (62 ∷ r) → Bytes l → angle Lake i (b ∷ l) ≡ tok (symbol (lake (b ∷ w))) i (i + length (b ∷ w) + 2)
+unfolding angle
 lake-gives {w} {l} {r} i b h u k =
     choose (eqb b 45) (eqb (kindAt b) 2) _ _ _ (ne-eqb b 45 (no-dash b h)) (eq-eqb (kindAt b) 2 (letter-kind b h))
     ∙ ap (λ (v : List ℕ). lakeBy i v (drop (length v) (b ∷ l))) (span-is b h u k)

@@ -14,7 +14,7 @@ use Rattle.read_tokens.specs.steps.Code.{kindOf, sizeOf}
 use Rattle.grammar.specs.Refusal.{Refusal, refusal}
 use Rattle.read_syntax.specs.Machine.{State, start, head, need, bound, prim, part, maybe, close, newRule, after, step, accepting, over, openIn, Judged, fine, syntax, wide, judgeBy, judge, placeOf}
 use Rattle.read_syntax.specs.Reading.{offence}
-use Rattle.read_syntax.specs.steps.Numbers.{tokOf, classOf, classBy, stateOf, code, nextOf, deep, less, moved, decode, overBy, judgedBy, judgedAt}
+use Rattle.read_syntax.specs.steps.Numbers.{tokOf, classOf, kindClass, stateOf, code, nextOf, deep, oneFewer, moved, decode, overBy, judgedBy, judgedAt}
 
 pub law : (c d : ℕ) (t : Tok) → step (stateOf c d) t ≡ decode (nextOf c (deep d) (classOf t)) (moved d (classOf t))
 unfolding step after close newRule stateOf tokOf classOf code nextOf moved decode
@@ -199,8 +199,8 @@ deep-one zero h = absurd (h refl)
 deep-one (suc d) h = refl
 
 -- the class of a token is that of its kind
-pub class-is : (t : Tok) → classBy (kindOf (some t)) ≡ classOf t
-unfolding classBy classOf
+pub class-is : (t : Tok) → kindClass (kindOf (some t)) ≡ classOf t
+unfolding kindClass classOf
 class-is (symbol (name w)) = refl
 class-is (symbol (lake w)) = refl
 class-is (leaf any) = refl

@@ -6,7 +6,7 @@ use mathlib.Core.List.{List, [], _∷_, _++_, append-assoc, append-nil}
 use mathlib.Core.Option.{Option, none, some}
 use Rattle.read_tokens.specs.Token.{Symbol, Prefix, Tok, symbol, leaf, pre, suf, arrow, slash, opens, closes, bad}
 use Rattle.grammar.specs.Syntax.{Choice, one, or, Sequence, first, next, Prefixed, bare, with, Suffixed, only, then, Primary, psym, term, group, Rules, rule, more, choiceToks, seqToks, prefToks, sufToks, primToks, tokens, Grammatical}
-use Rattle.read_syntax.specs.Machine.{State, start, head, need, bound, prim, part, maybe, close, newRule, after, step, accepting, runs, accepts}
+use Rattle.read_syntax.specs.Machine.{State, start, head, need, bound, prim, part, maybe, close, newRule, after, step, accepting, stateAfter, accepts}
 use Rattle.read_syntax.specs.laws.Forth.{runs-dead}
 
 -- what stands before: alternatives and a slash, parts, a prefix, rules; none: nothing
@@ -210,14 +210,14 @@ held (maybes c a s g) closes = maybe-after c a s g closes
 held (maybes c a s g) bad = tt
 
 -- over all tokens
-read-on : (p : Partial) (l : List Tok) → Held (yield p ++ l) (runs (some (state p)) l)
-unfolding runs
+read-on : (p : Partial) (l : List Tok) → Held (yield p ++ l) (stateAfter (some (state p)) l)
+unfolding stateAfter
 read-on p [] = (p, refl, sym (append-nil _))
 read-on p (t ∷ l) = go (λ q. read-on q l) (step (state p) t) (held p t)
   where
-    go : ((q : Partial) → Held (yield q ++ l) (runs (some (state q)) l)) → (o : Option State) → Held (yield p ++ (t ∷ [])) o → Held (yield p ++ (t ∷ l)) (runs o l)
+    go : ((q : Partial) → Held (yield q ++ l) (stateAfter (some (state q)) l)) → (o : Option State) → Held (yield p ++ (t ∷ [])) o → Held (yield p ++ (t ∷ l)) (stateAfter o l)
     go k none h = rw (runs-dead l) tt
-    go k (some s) h = moved (runs (some s) l) (ap (λ (v : List Tok). v ++ l) (h .2) ∙ append-assoc (yield p) (t ∷ []) l) (subst (λ (x : State). Held (yield (h .0) ++ l) (runs (some x) l)) (h .1) (k (h .0)))
+    go k (some s) h = moved (stateAfter (some s) l) (ap (λ (v : List Tok). v ++ l) (h .2) ∙ append-assoc (yield p) (t ∷ []) l) (subst (λ (x : State). Held (yield (h .0) ++ l) (stateAfter (some x) l)) (h .1) (k (h .0)))
 
 -- a whole grammar stands where the automaton may stop
 whole : (p : Partial) → accepting (state p) ≡ true → Grammatical (yield p)
@@ -234,8 +234,8 @@ whole (maybes (inside c b q y) a s g) e = absurd (false≢true e)
 whole (maybes (body r h) a s g) e = (addRule r h (addSeq a (next s (bare (only (psym g))))), simp (rule-added, seq-added, append-assoc))
 
 -- accepted tokens are those of a grammar
-pub grammar : (ts : List Tok) → accepts (runs (some start) ts) ≡ true → Grammatical ts
-grammar ts e = go (runs (some start) ts) (read-on nothing ts) e
+pub grammar : (ts : List Tok) → accepts (stateAfter (some start) ts) ≡ true → Grammatical ts
+grammar ts e = go (stateAfter (some start) ts) (read-on nothing ts) e
   where
     go : (o : Option State) → Held ts o → accepts o ≡ true → Grammatical ts
     go none h e = absurd (false≢true e)

@@ -10,7 +10,7 @@ use Rattle.read_tokens.specs.declared.Mode.{Mode}
 use Rattle.read_tokens.specs.Token.{Tok, symbol, leaf, pre, suf, arrow, slash, opens, closes, bad, Lexeme}
 use Rattle.read_tokens.specs.Tokens.{toksOf}
 use Rattle.grammar.specs.Syntax.{Offends}
-use Rattle.read_syntax.specs.Machine.{State, start, head, need, bound, prim, part, maybe, close, newRule, after, step, accepting, runs, accepts, over, openIn, Judged, fine, syntax, wide, judgeBy, judge}
+use Rattle.read_syntax.specs.Machine.{State, start, head, need, bound, prim, part, maybe, close, newRule, after, step, accepting, stateAfter, accepts, over, openIn, Judged, fine, syntax, wide, judgeBy, judge}
 pub use Rattle.read_syntax.specs.Offence.{fewer, opened, Judges}
 unfoldable pub use Rattle.read_syntax.specs.Offence.{overAt}
 use Rattle.read_syntax.specs.laws.Back.{grammar}
@@ -93,12 +93,12 @@ counts (maybe d) bad = tt
 
 -- the same from any state, counted from k
 abbrev From : Mode → ℕ → State → List Lexeme → Judged → Type 0
-From m i s xs fine = (accepts (runs (some s) (toksOf xs)) ≡ true) × ((j : ℕ) → overAt m (openIn s) xs j ≡ false)
+From m i s xs fine = (accepts (stateAfter (some s) (toksOf xs)) ≡ true) × ((j : ℕ) → overAt m (openIn s) xs j ≡ false)
 From m i s xs (syntax k) = (n : ℕ) × (k ≡ i + n) × Dies s (toksOf xs) n × ((j : ℕ) → j < n → overAt m (openIn s) xs j ≡ false)
-From m i s xs (wide k) = (n : ℕ) × (k ≡ i + n) × (overAt m (openIn s) xs n ≡ true) × ((j : ℕ) → j < n → overAt m (openIn s) xs j ≡ false) × ((x : State) × (runs (some s) (take (suc n) (toksOf xs)) ≡ some x))
+From m i s xs (wide k) = (n : ℕ) × (k ≡ i + n) × (overAt m (openIn s) xs n ≡ true) × ((j : ℕ) → j < n → overAt m (openIn s) xs j ≡ false) × ((x : State) × (stateAfter (some s) (take (suc n) (toksOf xs)) ≡ some x))
 
 from-end : (m : Mode) (i : ℕ) (s : State) (a : Bool) → accepting s ≡ a → From m i s [] (cond a fine (syntax i))
-unfolding runs overAt toksOf
+unfolding stateAfter overAt toksOf
 from-end m i s true e = (e, λ j. refl)
 from-end m i s false e = (0, omega arith, dies-end s e, λ j h. refl)
 
@@ -125,7 +125,7 @@ from-on m i s s′ x l e d w (wide k) v =
     (suc (v .0), omega (arith, v .1), rw (← d) (v .2), none-before m s s′ x l d w (v .0) (v .3), (v .4 .0, runs-step s s′ (x .is) e (take (suc (v .0)) (toksOf l)) ∙ v .4 .1))
 
 from : (m : Mode) (i : ℕ) (s : State) (xs : List Lexeme) → From m i s xs (judge m i s xs)
-unfolding judge runs overAt toksOf
+unfolding judge stateAfter overAt toksOf
 from m i s [] = from-end m i s (accepting s) refl
 from m i s (x ∷ l) = go (step s (x .is)) refl (counts s (x .is)) (over m (openIn s) (x .is)) refl (λ y. from m (suc i) y l)
   where
@@ -144,7 +144,7 @@ over-within m d [] k e = absurd (false≢true e)
 over-within m d (x ∷ l) zero e = omega arith
 over-within m d (x ∷ l) (suc k) e = omega (arith, over-within m (opened d (x .is)) l k e)
 
-later : (xs : List Lexeme) (k : ℕ) (s : State) → runs (some start) (take (suc k) (toksOf xs)) ≡ some s → k < length (toksOf xs) → (j : ℕ) → Offends (toksOf xs) j → k < j
+later : (xs : List Lexeme) (k : ℕ) (s : State) → stateAfter (some start) (take (suc k) (toksOf xs)) ≡ some s → k < length (toksOf xs) → (j : ℕ) → Offends (toksOf xs) j → k < j
 later xs k s e w j a =
     let f : j ≤ k → ⊥ = λ h. a .token (omega arith) (viable-take (toksOf xs) (suc j) (suc k) (omega arith) (live-viable (take (suc k) (toksOf xs)) e)) in
     omega arith
@@ -157,7 +157,7 @@ judged m xs = go (judge m 0 start xs) (from m 0 start xs)
     go fine v = (grammar (toksOf xs) (v .0), v .1)
     go (syntax k) v = let e : v .0 ≡ k = omega (arith, v .1) in (subst (Offends (toksOf xs)) e (dies-offends (toksOf xs) (v .0) (v .2)), λ j h. v .3 j (omega (arith, v .1)))
     go (wide k) v = let e : v .0 ≡ k = omega (arith, v .1) in
-        (subst (λ (n : ℕ). overAt m 0 xs n ≡ true) e (v .2), λ j h. v .3 j (omega (arith, v .1)), λ j a. later xs k (v .4 .0) (subst (λ (n : ℕ). runs (some start) (take (suc n) (toksOf xs)) ≡ some (v .4 .0)) e (v .4 .1)) (over-within m 0 xs k (subst (λ (n : ℕ). overAt m 0 xs n ≡ true) e (v .2))) j a)
+        (subst (λ (n : ℕ). overAt m 0 xs n ≡ true) e (v .2), λ j h. v .3 j (omega (arith, v .1)), λ j a. later xs k (v .4 .0) (subst (λ (n : ℕ). stateAfter (some start) (take (suc n) (toksOf xs)) ≡ some (v .4 .0)) e (v .4 .1)) (over-within m 0 xs k (subst (λ (n : ℕ). overAt m 0 xs n ≡ true) e (v .2))) j a)
 
 -- and no other answer is
 pub one-answer : (m : Mode) (xs : List Lexeme) (o p : Judged) → Judges m xs o → Judges m xs p → o ≡ p

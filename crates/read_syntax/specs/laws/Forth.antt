@@ -6,15 +6,15 @@ use mathlib.Core.List.{List, [], _∷_, _++_}
 use mathlib.Core.Option.{Option, none, some}
 use Rattle.read_tokens.specs.Token.{Symbol, Leaf, Prefix, Suffix, Tok, symbol, leaf, pre, suf, arrow, slash, opens, closes}
 use Rattle.grammar.specs.Syntax.{Choice, one, or, Sequence, first, next, Prefixed, bare, with, Suffixed, only, then, Primary, psym, term, group, Rules, rule, more, choiceToks, seqToks, prefToks, sufToks, primToks, tokens, Grammatical}
-use Rattle.read_syntax.specs.Machine.{State, start, need, bound, prim, part, maybe, close, newRule, after, step, accepting, stepped, runs, accepts}
+use Rattle.read_syntax.specs.Machine.{State, start, need, bound, prim, part, maybe, close, newRule, after, step, accepting, stepped, stateAfter, accepts}
 
-pub runs-append : (o : Option State) (l m : List Tok) → runs o (l ++ m) ≡ runs (runs o l) m
-unfolding runs
+pub runs-append : (o : Option State) (l m : List Tok) → stateAfter o (l ++ m) ≡ stateAfter (stateAfter o l) m
+unfolding stateAfter
 runs-append o [] m = refl
 runs-append o (t ∷ l) m = runs-append (stepped o t) l m
 
-pub runs-dead : (l : List Tok) → runs none l ≡ none
-unfolding runs
+pub runs-dead : (l : List Tok) → stateAfter none l ≡ none
+unfolding stateAfter
 runs-dead [] = refl
 runs-dead (t ∷ l) = runs-dead l
 
@@ -42,13 +42,13 @@ ended-done as-maybe = by-maybe
 
 -- from s the tokens w lead to a state of the kind
 abbrev Leads : (State → Type 0) → State → List Tok → Type 0
-Leads K s w = (s′ : State) × K s′ × (runs (some s) w ≡ some s′)
+Leads K s w = (s′ : State) × K s′ × (stateAfter (some s) w ≡ some s′)
 
-on : {K : State → Type 0} {s₁ : State} (s : State) (w v : List Tok) → runs (some s) w ≡ some s₁ → Leads K s₁ v → Leads K s (w ++ v)
-on s w v e (x) = (x .0, x .1, runs-append (some s) w v ∙ ap (λ (o : Option State). runs o v) e ∙ x .2)
+on : {K : State → Type 0} {s₁ : State} (s : State) (w v : List Tok) → stateAfter (some s) w ≡ some s₁ → Leads K s₁ v → Leads K s (w ++ v)
+on s w v e (x) = (x .0, x .1, runs-append (some s) w v ∙ ap (λ (o : Option State). stateAfter o v) e ∙ x .2)
 
 symbol-leads : {d : ℕ} {s : State} (h : Symbol) → Takes d s → Leads (Ended d) s (symbol h ∷ [])
-unfolding runs step after
+unfolding stateAfter step after
 symbol-leads h by-bound = (_, as-prim, refl)
 symbol-leads h (by-ready by-need) = (_, as-prim, refl)
 symbol-leads h (by-ready (by-done by-prim)) = (_, as-maybe, refl)
@@ -56,41 +56,41 @@ symbol-leads h (by-ready (by-done by-part)) = (_, as-maybe, refl)
 symbol-leads h (by-ready (by-done by-maybe)) = (_, as-maybe, refl)
 
 leaf-leads : {d : ℕ} {s : State} (x : Leaf) → Takes d s → Leads (Ended d) s (leaf x ∷ [])
-unfolding runs step after
+unfolding stateAfter step after
 leaf-leads x by-bound = (_, as-prim, refl)
 leaf-leads x (by-ready by-need) = (_, as-prim, refl)
 leaf-leads x (by-ready (by-done by-prim)) = (_, as-prim, refl)
 leaf-leads x (by-ready (by-done by-part)) = (_, as-prim, refl)
 leaf-leads x (by-ready (by-done by-maybe)) = (_, as-prim, refl)
 
-open-leads : {d : ℕ} {s : State} → Takes d s → runs (some s) (opens ∷ []) ≡ some (need (suc d))
-unfolding runs step after
+open-leads : {d : ℕ} {s : State} → Takes d s → stateAfter (some s) (opens ∷ []) ≡ some (need (suc d))
+unfolding stateAfter step after
 open-leads by-bound = refl
 open-leads (by-ready by-need) = refl
 open-leads (by-ready (by-done by-prim)) = refl
 open-leads (by-ready (by-done by-part)) = refl
 open-leads (by-ready (by-done by-maybe)) = refl
 
-pre-leads : {d : ℕ} {s : State} (x : Prefix) → Ready d s → runs (some s) (pre x ∷ []) ≡ some (bound d)
-unfolding runs step after
+pre-leads : {d : ℕ} {s : State} (x : Prefix) → Ready d s → stateAfter (some s) (pre x ∷ []) ≡ some (bound d)
+unfolding stateAfter step after
 pre-leads x by-need = refl
 pre-leads x (by-done by-prim) = refl
 pre-leads x (by-done by-part) = refl
 pre-leads x (by-done by-maybe) = refl
 
 suf-leads : {d : ℕ} {s : State} (x : Suffix) → Ended d s → Leads (Done d) s (suf x ∷ [])
-unfolding runs step after
+unfolding stateAfter step after
 suf-leads x as-prim = (_, by-part, refl)
 suf-leads x as-maybe = (_, by-part, refl)
 
 close-leads : {d : ℕ} {s : State} → Done (suc d) s → Leads (Ended d) s (closes ∷ [])
-unfolding runs step after close
+unfolding stateAfter step after close
 close-leads by-prim = (_, as-prim, refl)
 close-leads by-part = (_, as-prim, refl)
 close-leads by-maybe = (_, as-prim, refl)
 
-slash-leads : {d : ℕ} {s : State} → Done d s → runs (some s) (slash ∷ []) ≡ some (need d)
-unfolding runs step after
+slash-leads : {d : ℕ} {s : State} → Done d s → stateAfter (some s) (slash ∷ []) ≡ some (need d)
+unfolding stateAfter step after
 slash-leads by-prim = refl
 slash-leads by-part = refl
 slash-leads by-maybe = refl
@@ -125,13 +125,13 @@ mutual
 
 -- a rule after what may end
 rule-leads : (h : Symbol) (c : Choice) (s : State) → Done 0 s → Leads (Done 0) s (symbol h ∷ arrow ∷ choiceToks c)
-unfolding runs step after newRule
+unfolding stateAfter step after newRule
 rule-leads h c s by-prim = choice-leads c 0
 rule-leads h c s by-part = choice-leads c 0
 rule-leads h c s by-maybe = choice-leads c 0
 
 rules-lead : (g : Rules) → Leads (Done 0) start (tokens g)
-unfolding runs step tokens
+unfolding stateAfter step tokens
 rules-lead (rule h c) = choice-leads c 0
 rules-lead (more g h c) = let x = rules-lead g in on start (tokens g) (symbol h ∷ arrow ∷ choiceToks c) (x .2) (rule-leads h c (x .0) (x .1))
 
@@ -142,5 +142,5 @@ done-accepts by-part = refl
 done-accepts by-maybe = refl
 
 -- the tokens of every grammar are accepted
-pub accepted : (ts : List Tok) → Grammatical ts → accepts (runs (some start) ts) ≡ true
-accepted ts w = let x = rules-lead (w .0) in ap (λ (l : List Tok). accepts (runs (some start) l)) (sym (w .1)) ∙ ap accepts (x .2) ∙ done-accepts (x .1)
+pub accepted : (ts : List Tok) → Grammatical ts → accepts (stateAfter (some start) ts) ≡ true
+accepted ts w = let x = rules-lead (w .0) in ap (λ (l : List Tok). accepts (stateAfter (some start) l)) (sym (w .1)) ∙ ap accepts (x .2) ∙ done-accepts (x .1)

@@ -11,18 +11,18 @@ use lib.ListN.{length, take, drop, take-append-drop}
 use lib.Seq.{take-take}
 use Rattle.read_tokens.specs.Token.{Tok}
 use Rattle.grammar.specs.Syntax.{Grammatical, Viable, Offends}
-use Rattle.read_syntax.specs.Machine.{State, start, head, need, bound, prim, part, maybe, close, after, step, accepting, runs, accepts, alive, offendsFrom, offends, closing, finish}
+use Rattle.read_syntax.specs.Machine.{State, start, head, need, bound, prim, part, maybe, close, after, step, accepting, stateAfter, accepts, alive, offendsFrom, offends, closing, finish}
 use Rattle.read_syntax.specs.laws.Forth.{runs-append, runs-dead, accepted}
 use Rattle.read_syntax.specs.laws.Back.{grammar}
 
 -- every state can be finished
-closes-all : (d : ℕ) → accepts (runs (some (prim d)) (closing d)) ≡ true
-unfolding runs step after close accepting
+closes-all : (d : ℕ) → accepts (stateAfter (some (prim d)) (closing d)) ≡ true
+unfolding stateAfter step after close accepting
 closes-all zero = refl
 closes-all (suc d) = closes-all d
 
-pub finishes : (s : State) → accepts (runs (some s) (finish s)) ≡ true
-unfolding runs step after close accepting finish
+pub finishes : (s : State) → accepts (stateAfter (some s) (finish s)) ≡ true
+unfolding stateAfter step after close accepting finish
 finishes start = refl
 finishes head = refl
 finishes (need d) = closes-all d
@@ -34,37 +34,37 @@ finishes (maybe zero) = refl
 finishes (maybe (suc d)) = closes-all d
 
 -- alive and viable are the same
-pub live-viable : (ts : List Tok) {s : State} → runs (some start) ts ≡ some s → Viable ts
-live-viable ts {s} e = (finish s, grammar (ts ++ finish s) (ap accepts (runs-append (some start) ts (finish s) ∙ ap (λ (o : Option State). runs o (finish s)) e) ∙ finishes s))
+pub live-viable : (ts : List Tok) {s : State} → stateAfter (some start) ts ≡ some s → Viable ts
+live-viable ts {s} e = (finish s, grammar (ts ++ finish s) (ap accepts (runs-append (some start) ts (finish s) ∙ ap (λ (o : Option State). stateAfter o (finish s)) e) ∙ finishes s))
 
-pub viable-live : (ts : List Tok) → Viable ts → (s : State) × (runs (some start) ts ≡ some s)
-viable-live ts v = go (runs (some start) ts) refl
+pub viable-live : (ts : List Tok) → Viable ts → (s : State) × (stateAfter (some start) ts ≡ some s)
+viable-live ts v = go (stateAfter (some start) ts) refl
   where
-    go : (o : Option State) → runs (some start) ts ≡ o → (s : State) × (runs (some start) ts ≡ some s)
+    go : (o : Option State) → stateAfter (some start) ts ≡ o → (s : State) × (stateAfter (some start) ts ≡ some s)
     go (some s) e = (s, e)
-    go none e = absurd (false≢true (sym (ap accepts (runs-append (some start) ts (v .0) ∙ ap (λ (o : Option State). runs o (v .0)) e ∙ runs-dead (v .0))) ∙ accepted (ts ++ v .0) (v .1)))
+    go none e = absurd (false≢true (sym (ap accepts (runs-append (some start) ts (v .0) ∙ ap (λ (o : Option State). stateAfter o (v .0)) e ∙ runs-dead (v .0))) ∙ accepted (ts ++ v .0) (v .1)))
 
-pub dead-not-viable : (ts : List Tok) → runs (some start) ts ≡ none → ¬ Viable ts
+pub dead-not-viable : (ts : List Tok) → stateAfter (some start) ts ≡ none → ¬ Viable ts
 dead-not-viable ts e v = let x = viable-live ts v in let z : _≡_ {A = ℕ} 0 1 = cc (x .1) in omega arith
 
 -- where the automaton dies
 pub record Dies (s : State) (l : List Tok) (k : ℕ) : Type 0 where
   pub within : k ≤ length l
-  pub lives : (x : State) × (runs (some s) (take k l) ≡ some x)
-  pub token : k < length l → runs (some s) (take (suc k) l) ≡ none
-  pub end : k ≡ length l → accepts (runs (some s) l) ≡ false
+  pub lives : (x : State) × (stateAfter (some s) (take k l) ≡ some x)
+  pub token : k < length l → stateAfter (some s) (take (suc k) l) ≡ none
+  pub end : k ≡ length l → accepts (stateAfter (some s) l) ≡ false
 
-pub runs-step : (s s′ : State) (t : Tok) → step s t ≡ some s′ → (w : List Tok) → runs (some s) (t ∷ w) ≡ runs (some s′) w
-unfolding runs
-runs-step s s′ t e w = ap (λ (o : Option State). runs o w) e
+pub runs-step : (s s′ : State) (t : Tok) → step s t ≡ some s′ → (w : List Tok) → stateAfter (some s) (t ∷ w) ≡ stateAfter (some s′) w
+unfolding stateAfter
+runs-step s s′ t e w = ap (λ (o : Option State). stateAfter o w) e
 
 -- at the end; at the first token; behind it
 pub dies-end : (s : State) → accepting s ≡ false → Dies s [] 0
-unfolding runs
+unfolding stateAfter
 dies-end s e = record { within = omega arith; lives = (s, refl); token = λ h. absurd (omega arith); end = λ h. e }
 
 pub dies-here : (s : State) (t : Tok) (l : List Tok) → step s t ≡ none → Dies s (t ∷ l) 0
-unfolding runs
+unfolding stateAfter
 dies-here s t l e = record { within = omega arith; lives = (s, refl); token = λ h. e; end = λ h. absurd (omega arith) }
 
 pub dies-on : (s s′ : State) (t : Tok) (l : List Tok) (n : ℕ) → step s t ≡ some s′ → Dies s′ l n → Dies s (t ∷ l) (suc n)
@@ -77,11 +77,11 @@ dies-on s s′ t l n e d =
     }
 
 abbrev Verdict : ℕ → State → List Tok → Option ℕ → Type 0
-Verdict b s l none = accepts (runs (some s) l) ≡ true
+Verdict b s l none = accepts (stateAfter (some s) l) ≡ true
 Verdict b s l (some k) = (j : ℕ) × (k ≡ b + j) × Dies s l j
 
 verdict-end : (b : ℕ) (s : State) (x : Bool) → accepting s ≡ x → Verdict b s [] (cond x none (some b))
-unfolding runs
+unfolding stateAfter
 verdict-end b s true e = e
 verdict-end b s false e = (0, omega arith, dies-end s e)
 
@@ -110,7 +110,7 @@ pub grammar-viable : (ts : List Tok) → Grammatical ts → Viable ts
 grammar-viable ts g = ([], (g .0, g .1 ∙ sym (append-nil ts)))
 
 -- the automaton is alive after k tokens just where they can still begin a grammar
-pub alive-iff : (ts : List Tok) (k : ℕ) → Viable (take k ts) ↔ ((s : State) × (runs (some start) (take k ts) ≡ some s))
+pub alive-iff : (ts : List Tok) (k : ℕ) → Viable (take k ts) ↔ ((s : State) × (stateAfter (some start) (take k ts) ≡ some s))
 alive-iff ts k = (viable-live (take k ts), λ x. live-viable (take k ts) (x .1))
 
 -- the document's place is one place at most, and is none in a grammar

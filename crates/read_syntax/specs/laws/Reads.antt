@@ -9,7 +9,7 @@ use lib.ListN.{length, length-append}
 use Rattle.read_tokens.specs.Token.{Symbol, Suffix, Tok, symbol, leaf, pre, suf, arrow, slash, opens, closes, bad}
 use Rattle.grammar.specs.Syntax.{Choice, one, or, Sequence, first, next, Prefixed, bare, with, Suffixed, only, then, Primary, psym, term, group, Rules, rule, more, choiceToks, seqToks, prefToks, sufToks, primToks, tokens}
 use Rattle.read_syntax.specs.Reader.{Res, ok, bind, isArrow, begins, closeBy, primBy, sufBy, sufP, prefBy, choiceBy, choiceP, choiceR, seqP, seqR, prefP, primP, arrowBy, ruleBy, rulesR, rulesP}
-use Rattle.read_syntax.specs.Machine.{start, runs, accepts}
+use Rattle.read_syntax.specs.Machine.{start, stateAfter, accepts}
 use Rattle.read_syntax.specs.laws.Back.{grammar}
 
 -- what may stand behind a part: no suffix and no arrow
@@ -273,7 +273,7 @@ cost-enough (rule h c) = omega (arith, costC-le c)
 cost-enough (more g h c) = rw (length-append (tokens g) (symbol h ∷ arrow ∷ choiceToks c)) (omega (arith, cost-enough g, costC-le c))
 
 -- on accepted tokens the reader answers the concrete syntax, the only one that has these tokens
-pub reads : (ts : List Tok) → accepts (runs (some start) ts) ≡ true → (g : Rules) × (tokens g ≡ ts) × (rulesP (5 * length ts) ts ≡ ok g []) × ((g′ : Rules) → tokens g′ ≡ ts → g′ ≡ g)
+pub reads : (ts : List Tok) → accepts (stateAfter (some start) ts) ≡ true → (g : Rules) × (tokens g ≡ ts) × (rulesP (5 * length ts) ts ≡ ok g []) × ((g′ : Rules) → tokens g′ ≡ ts → g′ ≡ g)
 reads ts e =
     let w = grammar ts e in
     let g = w .0 in

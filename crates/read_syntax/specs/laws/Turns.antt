@@ -12,7 +12,7 @@ use Rattle.read_tokens.specs.steps.Code.{kindOf, sizeOf, coded}
 use Rattle.read_tokens.specs.laws.Forward.{lexemesAt}
 use Rattle.grammar.specs.Refusal.{refusal}
 use Rattle.read_syntax.specs.Machine.{accepting}
-use Rattle.read_syntax.specs.steps.Numbers.{classOf, classBy, stateOf, nextOf, deep, moved, overBy, judgedAt}
+use Rattle.read_syntax.specs.steps.Numbers.{classOf, kindClass, stateOf, nextOf, deep, moved, overBy, judgedAt}
 use Rattle.read_syntax.specs.laws.Automaton.{class-is, class-small, dies, too-wide, goes-on, ends-well, ends-badly, shallow}
 use Rattle.read_tokens.specs.laws.Here.{at-end, here}
 
@@ -24,9 +24,9 @@ module _ (m : Mode) (s : List ℕ) (at : ℕ) (t : Token) (e : t ≡ coded (toke
     pub end-badly : t .kind ≡ 0 → accepting (stateOf c d) ≡ false → some (refusal 2 (length s)) ≡ judgedAt m (length s) (stateOf c d) (lexemesAt m s at)
     end-badly z a = ends-badly m (length s) c d a ∙ ap (judgedAt m (length s) (stateOf c d)) (sym (at-end m s at t e z))
 
-    module _ (flat : c < 2 → d ≡ 0) (f : t .kind ≡ 0 → ⊥) (k x : ℕ) (ke : k ≡ classBy (t .kind)) (xe : x ≡ nextOf c (deep d) k) where
+    module _ (flat : c < 2 → d ≡ 0) (f : t .kind ≡ 0 → ⊥) (k x : ℕ) (ke : k ≡ kindClass (t .kind)) (xe : x ≡ nextOf c (deep d) k) where
       class-of : k ≡ classOf (here m s at t e f .tok)
-      class-of = ke ∙ ap classBy (sym (here m s at t e f .kind)) ∙ class-is (here m s at t e f .tok)
+      class-of = ke ∙ ap kindClass (sym (here m s at t e f .kind)) ∙ class-is (here m s at t e f .tok)
 
       pub class-below : k < 9
       class-below = rw class-of (class-small (here m s at t e f .tok))

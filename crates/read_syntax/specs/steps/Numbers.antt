@@ -36,8 +36,8 @@ classOf closes = 7
 classOf bad = 8
 
 -- the class of a token's kind
-unfoldable pub classBy : ℕ → ℕ
-classBy k = cond (leb k 2) 0
+unfoldable pub kindClass : ℕ → ℕ
+kindClass k = cond (leb k 2) 0
     (cond (leb k 5) 1 (cond (leb k 7) 2 (cond (leb k 10) 3 (cond (eqb k 11) 4 (cond (eqb k 12) 5 (cond (eqb k 13) 6 (cond (eqb k 14) 7 8)))))))
 
 unfoldable pub stateOf : ℕ → ℕ → State
@@ -67,9 +67,9 @@ abbrev pub deep : ℕ → ℕ
 deep zero = 0
 deep (suc d) = 1
 
-abbrev pub less : ℕ → ℕ
-less zero = zero
-less (suc d) = d
+abbrev pub oneFewer : ℕ → ℕ
+oneFewer zero = zero
+oneFewer (suc d) = d
 
 -- the open parentheses after a token
 unfoldable pub moved : ℕ → ℕ → ℕ
@@ -80,7 +80,7 @@ moved d (suc (suc (suc zero))) = d
 moved d (suc (suc (suc (suc zero)))) = 0
 moved d (suc (suc (suc (suc (suc zero))))) = d
 moved d (suc (suc (suc (suc (suc (suc zero)))))) = suc d
-moved d (suc (suc (suc (suc (suc (suc (suc zero))))))) = less d
+moved d (suc (suc (suc (suc (suc (suc (suc zero))))))) = oneFewer d
 moved d (suc (suc (suc (suc (suc (suc (suc (suc m)))))))) = d
 
 unfoldable pub decode : ℕ → ℕ → Option State

@@ -3,7 +3,7 @@ use Prim.Native.Nat.{ℕ, suc, _+_, _-_, _≤_}
 use lib.ListN.{length, drop, getD}
 use Rattle.read_tokens.specs.steps.Code.{coded, made, named}
 use Rattle.read_tokens.specs.declared.Mode.{Mode}
-use Rattle.read_tokens.specs.Tokens.{less}
+use Rattle.read_tokens.specs.Tokens.{angle}
 use Rattle.read_tokens.proofs.LiteralSteps.{bad-is}
 use Rattle.read_tokens.proofs.TokenSteps.{less-arrow, less-plain, less-lake}
 use borrow.Author.Needs.{needs}
@@ -43,10 +43,10 @@ plain-requires-2 : tie.Need-plain-requires-2
 plain-requires-2 c κs = search needs
 
 returns-2 : tie.Need-returns-2
-returns-2 c = c .lake-token .ensures ∙ less-lake (c .before .before .before .before .before .before .args .text .now) (c .before .before .before .before .before .before .args .at) (λ x. c .before .before .before .if1 .left (c .before .before .before .before .byte-at .ensures .0 ∙ x)) ∙ ap (λ (m : Mode). coded (less m (c .before .before .before .before .before .before .args .at) (drop (suc (c .before .before .before .before .before .before .args .at)) (c .before .before .before .before .before .before .args .text .now)))) (sym (c .before .enum-told .given .1))
+returns-2 c = c .lake-token .ensures ∙ less-lake (c .before .before .before .before .before .before .args .text .now) (c .before .before .before .before .before .before .args .at) (λ x. c .before .before .before .if1 .left (c .before .before .before .before .byte-at .ensures .0 ∙ x)) ∙ ap (λ (m : Mode). coded (angle m (c .before .before .before .before .before .before .args .at) (drop (suc (c .before .before .before .before .before .before .args .at)) (c .before .before .before .before .before .before .args .text .now)))) (sym (c .before .enum-told .given .1))
 
 returns-3 : tie.Need-returns-3
-returns-3 c = c .plain2 .ensures ∙ bad-is (c .before .before .before .before .before .before .args .at) ∙ less-plain (c .before .before .before .before .before .before .args .text .now) (c .before .before .before .before .before .before .args .at) (λ x. c .before .before .before .if1 .left (c .before .before .before .before .byte-at .ensures .0 ∙ x)) ∙ ap (λ (m : Mode). coded (less m (c .before .before .before .before .before .before .args .at) (drop (suc (c .before .before .before .before .before .before .args .at)) (c .before .before .before .before .before .before .args .text .now)))) (sym (c .before .enum-told2 .given .1))
+returns-3 c = c .plain2 .ensures ∙ bad-is (c .before .before .before .before .before .before .args .at) ∙ less-plain (c .before .before .before .before .before .before .args .text .now) (c .before .before .before .before .before .before .args .at) (λ x. c .before .before .before .if1 .left (c .before .before .before .before .byte-at .ensures .0 ∙ x)) ∙ ap (λ (m : Mode). coded (angle m (c .before .before .before .before .before .before .args .at) (drop (suc (c .before .before .before .before .before .before .args .at)) (c .before .before .before .before .before .before .args .text .now)))) (sym (c .before .enum-told2 .given .1))
 
 pub less-token-spec : {M : Type 1} → statement M
 less-token-spec =

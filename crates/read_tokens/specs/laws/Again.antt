@@ -15,7 +15,7 @@ use Rattle.read_tokens.specs.declared.Mode.the-variants.{Lake, Plain}
 use Rattle.read_tokens.specs.declared.classes.Class.{Class}
 use Rattle.read_tokens.specs.Token.{Symbol, name, lake, Leaf, any, literal, class, Tok, symbol, leaf, pre, suf, arrow, slash, opens, closes, bad, Token}
 use Rattle.read_tokens.specs.Chars.{Char, char, Range, range, Item, single, listed, Body, shut, broken, also, byWidth, bodyBy, body}
-use Rattle.read_tokens.specs.Tokens.{tok, badAt, skip, nameByte, nameSpan, lakeBy, less, lowOf, literalBy, someTrue, marksOf, marked, classBy, bracket, preOf, sufOf, byKind, tokenFrom, tokenAt}
+use Rattle.read_tokens.specs.Tokens.{tok, badAt, skip, nameByte, nameSpan, lakeBy, angle, lowOf, literalBy, someTrue, marksOf, marked, classBy, bracket, preOf, sufOf, byKind, tokenFrom, tokenAt}
 use Rattle.read_tokens.specs.laws.Tests.{by-test, by-cond}
 use Rattle.read_tokens.specs.laws.Passing.{from, passed}
 use Rattle.read_tokens.specs.steps.Code.{literalFrom, classIs, classAt}
@@ -135,8 +135,8 @@ module _ (m : Mode) (s : List ℕ) where
   lake-held i w [] h = tt
   lake-held i w (b ∷ l) h = by-cond Holds (eqb b 62) _ _ (h, refl) tt
 
-  less-held : (k : Mode) (i : ℕ) (l : List ℕ) → drop (suc i) s ≡ l → Holds (less k i l)
-  unfolding less
+  less-held : (k : Mode) (i : ℕ) (l : List ℕ) → drop (suc i) s ≡ l → Holds (angle k i l)
+  unfolding angle
   less-held Plain i [] h = tt
   less-held Lake i [] h = tt
   less-held Plain i (b ∷ l) h = by-cond Holds (eqb b 45) _ _ tt tt

@@ -15,7 +15,7 @@ use Rattle.read_tokens.specs.declared.Mode.{Mode}
 use Rattle.read_tokens.specs.declared.Mode.the-variants.{Lake, Plain}
 use Rattle.read_tokens.specs.Token.{name, lake, any, Tok, symbol, leaf, pre, suf, arrow, slash, opens, closes, bad, Token, Lexeme}
 use Rattle.read_tokens.specs.Chars.{Range, Item, single, listed, Body, shut, broken, also, byWidth, bodyBy, body}
-use Rattle.read_tokens.specs.Tokens.{tok, blankBy, skip, nameByte, nameSpan, lakeBy, less, literalBy, within, someTrue, marksOf, marked, classBy, bracket, preOf, sufOf, byKind, tokenFrom, tokenAt, lexeme, byEnd, lexemesFrom}
+use Rattle.read_tokens.specs.Tokens.{tok, blankBy, skip, nameByte, nameSpan, lakeBy, angle, literalBy, within, someTrue, marksOf, marked, classBy, bracket, preOf, sufOf, byKind, tokenFrom, tokenAt, lexeme, byEnd, lexemesFrom}
 use Rattle.read_tokens.specs.laws.Tests.{by-test, by-cond}
 
 -- ── where a literal's or a class's body ends ──
@@ -113,8 +113,8 @@ module _ (at n : ℕ) where
       by-cond (Fwd at n) (eqb b 62) _ _ (sound (tok (symbol (lake w)) i (i + length w + 2)) a (omega arith) (omega (arith, ap length e, length-drop (length w) l)))
       (byte bad i a (omega arith))
 
-  less-fwd : (m : Mode) (i : ℕ) (l : List ℕ) → at ≤ i → suc i + length l ≤ n → Fwd at n (less m i l)
-  unfolding less
+  less-fwd : (m : Mode) (i : ℕ) (l : List ℕ) → at ≤ i → suc i + length l ≤ n → Fwd at n (angle m i l)
+  unfolding angle
   less-fwd Plain i [] a h = byte bad i a (omega arith)
   less-fwd Lake i [] a h = byte bad i a (omega arith)
   less-fwd Plain i (b ∷ l) a h = by-cond (Fwd at n) (eqb b 45) _ _ (sound (tok arrow i (i + 2)) a (omega arith) (omega arith)) (byte bad i a (omega arith))
@@ -169,17 +169,17 @@ end-none : (o : Option Tok) (i e : ℕ) (k : ℕ → List Lexeme) → ((t : Tok)
 end-none none i e k g = refl
 end-none (some t) i e k g = absurd (g t refl)
 
-over : (f : ℕ) (m : Mode) (s : List ℕ) (at : ℕ) → length s ≤ at → lexemesFrom f m s at ≡ []
+none-left : (f : ℕ) (m : Mode) (s : List ℕ) (at : ℕ) → length s ≤ at → lexemesFrom f m s at ≡ []
 unfolding lexemesFrom
-over zero m s at h = refl
-over (suc f) m s at h =
+none-left zero m s at h = refl
+none-left (suc f) m s at h =
     end-none (tokenAt m s at .is) (tokenAt m s at .start) (tokenAt m s at .next) (λ j. lexemesFrom f m s j) (λ t e. let a = forward m s at t e in omega arith)
 
 -- any fuel of the bytes that are left or more gives the same tokens
 pub enough : (f g : ℕ) (m : Mode) (s : List ℕ) (at : ℕ) → length s ≤ at + f → length s ≤ at + g → lexemesFrom f m s at ≡ lexemesFrom g m s at
 unfolding lexemesFrom
-enough zero g m s at h k = sym (over g m s at (omega arith))
-enough (suc f) zero m s at h k = over (suc f) m s at (omega arith)
+enough zero g m s at h k = sym (none-left g m s at (omega arith))
+enough (suc f) zero m s at h k = none-left (suc f) m s at (omega arith)
 enough (suc f) (suc g) m s at h k =
     end-same (tokenAt m s at .is) (tokenAt m s at .start) (tokenAt m s at .next) (λ j. lexemesFrom f m s j) (λ j. lexemesFrom g m s j)
     (λ t e. let a = forward m s at t e in enough f g m s (tokenAt m s at .next) (omega arith) (omega arith))

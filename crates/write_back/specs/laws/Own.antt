@@ -18,7 +18,7 @@ use Rattle.grammar.specs.Trees.{treeC, ruled, trees}
 use Rattle.grammar.specs.Numbers.{leftSides, usesOf, symbolsOf, terminalsOf, expressionsOf}
 use Rattle.grammar.specs.Refusal.{refusal, refuseIf, refuseAt, _▸_}
 use Rattle.read_syntax.specs.Machine.{start, judge}
-use Rattle.read_syntax.specs.Reading.{offence, second, unruled, leftsIn, tooMany, rulesIn, rulesOf, refusesText}
+use Rattle.read_syntax.specs.Reading.{offence, second, unruled, leftsIn, tooMany, rulesFrom, rulesOf, refusesText}
 use Rattle.grammar_table.specs.laws.Rows.{All}
 use Rattle.read_grammar.specs.steps.Promises.{Sound}
 use Rattle.read_grammar.specs.steps.Lay.{gathered}
@@ -107,4 +107,4 @@ pub too-long-again : (m : Mode) (w : List ℕ) → textBound m < length w → re
 unfolding refusesText
 too-long-again m w l =
     let xs = lexemes m w in
-    ap (λ (b : Bool). refuseIf b 1 (textBound m) ▸ (offence (length w) xs (judge m 0 start xs) ▸ (refuseAt 4 (second m [] xs) ▸ (refuseAt 5 (unruled (leftsIn xs) xs) ▸ tooMany m (rulesIn (toksOf xs)))))) (lt-ltb (textBound m) (length w) l)
+    ap (λ (b : Bool). refuseIf b 1 (textBound m) ▸ (offence (length w) xs (judge m 0 start xs) ▸ (refuseAt 4 (second m [] xs) ▸ (refuseAt 5 (unruled (leftsIn xs) xs) ▸ tooMany m (rulesFrom (toksOf xs)))))) (lt-ltb (textBound m) (length w) l)

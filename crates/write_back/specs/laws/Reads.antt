@@ -19,7 +19,7 @@ use Rattle.grammar.specs.Numbers.{leftSides, usesOf, symbolsOf, terminalsOf, ex
 use Rattle.grammar.specs.Refusal.{refuseIf, refuseAt, _▸_}
 use Rattle.read_syntax.specs.Machine.{start, Judged, fine as free, judge}
 use Rattle.read_syntax.specs.Reader.{ok, rulesP}
-use Rattle.read_syntax.specs.Reading.{offence, second, unruled, leftsIn, tooMany, rulesBy, rulesIn, rulesOf, refusesText}
+use Rattle.read_syntax.specs.Reading.{offence, second, unruled, leftsIn, tooMany, rulesRead, rulesFrom, rulesOf, refusesText}
 use Rattle.read_syntax.specs.laws.Bounds.{overAt, judged, one-answer}
 use Rattle.read_syntax.specs.laws.Reads.{reads-back, cost-enough}
 use Rattle.grammar_table.specs.laws.Rows.{All}
@@ -37,8 +37,8 @@ use Rattle.write_back.specs.laws.Chain.{second-none, unruled-none, all-g
 
 -- the rules of a text are those of its concrete syntax
 pub read-as : (m : Mode) (s : List ℕ) (g : Rules) → tokens g ≡ toks m s → rulesOf m s ≡ trees g
-unfolding toks rulesOf rulesIn
-read-as m s g e = ap rulesBy (subst (λ (l : List Tok). rulesP (5 * length l) l ≡ ok g []) e (reads-back g (5 * length (tokens g)) (cost-enough g)))
+unfolding toks rulesOf rulesFrom
+read-as m s g e = ap rulesRead (subst (λ (l : List Tok). rulesP (5 * length l) l ≡ ok g []) e (reads-back g (5 * length (tokens g)) (cost-enough g)))
 
 -- within all bounds
 not-many : (m : Mode) (rs : List Rule) → length (symbolsOf rs) ≤ symbolBound → length (terminalsOf rs) ≤ terminalBound → expressionsOf rs ≤ expressionBound m → tooMany m rs ≡ none

@@ -14,7 +14,7 @@ use Rattle.read_tokens.specs.declared.Mode.the-variants.{Lake, Plain}
 use Rattle.read_tokens.specs.Token.{amp, bang, query, asterisk, cross, Tok, symbol, leaf, pre, suf, arrow, slash, opens, closes, bad, Token, Lexeme}
 use Rattle.read_tokens.specs.Bounds.{firstOctal}
 use Rattle.read_tokens.specs.Chars.{Char, got, octal, octals, letters, four, char, Range, Item, single, Body, shut, broken, also, byWidth, bodyBy, body}
-use Rattle.read_tokens.specs.Tokens.{skip, nameByte, nameSpan, lakeBy, less, lowOf, literalBy, among, someTrue, turned, marksOf, marked, classBy, bracket, byKind, tokenFrom, tokenAt, byEnd, lexemesFrom, lexemes, toksOf, toks}
+use Rattle.read_tokens.specs.Tokens.{skip, nameByte, nameSpan, lakeBy, angle, lowOf, literalBy, among, someTrue, turned, marksOf, marked, classBy, bracket, byKind, tokenFrom, tokenAt, byEnd, lexemesFrom, lexemes, toksOf, toks}
 use Rattle.read_tokens.specs.laws.Bytes.{Bytes, bytes-drop}
 use Rattle.read_tokens.specs.laws.Tests.{by-test, by-cond}
 use Rattle.read_tokens.specs.laws.Forward.{span-letter}
@@ -151,8 +151,8 @@ lake-fine : (i : ℕ) (w l : List ℕ) → FineName w → F Lake (lakeBy i w l)
 lake-fine i w [] h = tt
 lake-fine i w (b ∷ l) h = by-cond (F Lake) (eqb b 62) _ _ h tt
 
-less-fine : (m : Mode) (i : ℕ) (l : List ℕ) → F m (less m i l)
-unfolding less
+less-fine : (m : Mode) (i : ℕ) (l : List ℕ) → F m (angle m i l)
+unfolding angle
 less-fine Plain i [] = tt
 less-fine Lake i [] = tt
 less-fine Plain i (b ∷ l) = by-cond (F Plain) (eqb b 45) _ _ tt tt

@@ -14,7 +14,7 @@ use Rattle.read_tokens.specs.declared.Mode.{Mode}
 use Rattle.read_tokens.specs.declared.Mode.the-variants.{Lake, Plain}
 use Rattle.read_tokens.specs.Token.{Symbol, name, lake, Leaf, any, literal, class, symbol, leaf, arrow}
 use Rattle.read_tokens.specs.Chars.{Range, single, listed, Body, shut, body}
-use Rattle.read_tokens.specs.Tokens.{tok, skip, nameByte, nameSpan, lakeBy, less, literalBy, among, table, someTrue, marksOf, marked, classBy, bracket, byKind, tokenFrom, tokenAt}
+use Rattle.read_tokens.specs.Tokens.{tok, skip, nameByte, nameSpan, lakeBy, angle, literalBy, among, table, someTrue, marksOf, marked, classBy, bracket, byKind, tokenFrom, tokenAt}
 use Rattle.read_tokens.specs.laws.Bytes.{Bytes}
 use Rattle.read_tokens.specs.laws.Forward.{letter-name}
 use Rattle.write_rules.specs.Writing.{litChars, runs, runsText, leafText, symbolText}
@@ -117,12 +117,12 @@ unfolding nameSpan
 span-name [] l a h = span-stops l h
 span-name (b ∷ w) l a h = rw (nameSpan, a .0) (ap (λ (x : List ℕ). b ∷ x) (span-name w l (a .1) h))
 
-lake-from : (i b : ℕ) (w rest : List ℕ) → kindAt b ≡ 2 → AllName w → less Lake i (b ∷ (w ++ (62 ∷ rest))) ≡ tok (symbol (lake (b ∷ w))) i (i + length (b ∷ w) + 2)
-unfolding less kindAt oneOf ranges
+lake-from : (i b : ℕ) (w rest : List ℕ) → kindAt b ≡ 2 → AllName w → angle Lake i (b ∷ (w ++ (62 ∷ rest))) ≡ tok (symbol (lake (b ∷ w))) i (i + length (b ∷ w) + 2)
+unfolding angle kindAt oneOf ranges
 lake-from i b w rest k a =
     let n : eqb b 45 ≡ false = ne-eqb b 45 (λ e. let z : 2 ≡ 0 = sym k ∙ ap kindAt e in omega arith) in
     let v : nameSpan (b ∷ (w ++ (62 ∷ rest))) ≡ b ∷ w = span-name (b ∷ w) (62 ∷ rest) (letter-name b k, a) refl in
-    rw (less, n, k) (ap (λ (x : List ℕ). lakeBy i x (drop (length x) (b ∷ (w ++ (62 ∷ rest))))) v ∙ ap (λ (x : List ℕ). lakeBy i (b ∷ w) x) (drop-append-seam w (62 ∷ rest)))
+    rw (angle, n, k) (ap (λ (x : List ℕ). lakeBy i x (drop (length x) (b ∷ (w ++ (62 ∷ rest))))) v ∙ ap (λ (x : List ℕ). lakeBy i (b ∷ w) x) (drop-append-seam w (62 ∷ rest)))
 
 -- a written name with nothing behind it that a name goes on with; a written lake with anything behind it
 pub name-token : (m : Mode) (s : List ℕ) (at : ℕ) (w rest : List ℕ) → FineName w → Stops rest → drop at s ≡ w ++ rest → tokenAt m s at ≡ tok (symbol (name w)) at (at + length w)
@@ -137,12 +137,12 @@ unfolding symbolText byKind kindAt oneOf ranges
 lake-token s at [] rest f d = absurd f
 lake-token s at (b ∷ w) rest f d =
     here Lake s at 60 (b ∷ ((w ++ (62 ∷ [])) ++ rest)) 13 d refl refl refl
-    ∙ ap (λ (x : List ℕ). less Lake at (b ∷ x)) (append-assoc w (62 ∷ []) rest)
+    ∙ ap (λ (x : List ℕ). angle Lake at (b ∷ x)) (append-assoc w (62 ∷ []) rest)
     ∙ lake-from at b w rest (f .0) (f .1)
     ∙ ap (λ (n : ℕ). tok (symbol (lake (b ∷ w))) at n) (rw (length-append w (62 ∷ [])) (omega arith))
 
 -- the tokens of one byte, and the arrow
 pub arrow-token : (m : Mode) (s : List ℕ) (at : ℕ) (rest : List ℕ) → drop at s ≡ 60 ∷ 45 ∷ rest → tokenAt m s at ≡ tok arrow at (at + 2)
-unfolding byKind less kindAt oneOf ranges
+unfolding byKind angle kindAt oneOf ranges
 arrow-token Plain s at rest d = here Plain s at 60 (45 ∷ rest) 13 d refl refl refl
 arrow-token Lake s at rest d = here Lake s at 60 (45 ∷ rest) 13 d refl refl refl
