@@ -81,9 +81,7 @@ pub fn leaf_at(t: &[u32], s: &[u8], x: usize, p: usize) -> usize
     requires { ⌜ (x < 4294967296) × (length (now s) ≤ 65535) × (p ≤ length (now s)) ⌝ }
     ensures { λ r. ⌜ r ≡ leafAt (now (s .entry)) (leafIn (now (t .entry)) x) p ⌝ }
 {
-    let i = grammar_table::TERMINALS_AT
-        + grammar_table::TERMINAL_WORDS * x
-        + grammar_table::CONTENT;
+    let i = records::content_at(x);
     let k = records::leaf_kind(t, x);
     if k == grammar_table::ANY {
         return any_at(s, p);

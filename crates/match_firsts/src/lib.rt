@@ -33,16 +33,13 @@ fn leaf_first(t: &[u32], x: usize, b: usize) -> usize
     requires { ⌜ (x < 4294967296) × (b < 256) ⌝ }
     ensures { λ r. ⌜ (r < 3 → LeafSure b (leafIn (now (t .entry)) x) r) ⌝ }
 {
-    let i = grammar_table::TERMINALS_AT
-        + grammar_table::TERMINAL_WORDS * x
-        + grammar_table::CONTENT;
     let k = records::leaf_kind(t, x);
     if k == grammar_table::LITERAL {
         let n = records::leaf_length(t, x);
         if n == 0 {
             return EMPTY;
         }
-        let c = word(t, i);
+        let c = records::leaf_word(t, x, 0);
         if b != c {
             return FAILS;
         }
@@ -54,7 +51,7 @@ fn leaf_first(t: &[u32], x: usize, b: usize) -> usize
     if k == grammar_table::ANY {
         return TAKES;
     }
-    let m = word(t, i + b);
+    let m = records::leaf_word(t, x, b);
     if m == 0 {
         return FAILS;
     }
