@@ -76,8 +76,8 @@ class Picture:
 STAGES = {
     "read": ("a text into a table", ["read_tokens", "read_spelling", "read_syntax", "read_names", "read_grammar"]),
     "lake": ("lakes made plain", ["lake_step_one", "lake_sets", "lake_analysis", "lake_step_two", "lake_calls"]),
-    "match": ("a text into spans", ["match_meaning", "match_eval", "match_cells", "match_list", "match_nodes", "match_lake"]),
-    "write": ("a table into a text", ["write_rules", "write_text", "write_back"]),
+    "match": ("a text into spans", ["match_meaning", "match_eval", "match_cells", "match_list", "match_nodes", "match_lake", "match_run", "match_ask"]),
+    "write": ("a table into a text", ["write_rules", "write_text", "write_put", "write_back"]),
 }
 BELOW = ["grammar", "grammar_table", "base_facts", "base_words", "base_rounds"]
 
@@ -101,14 +101,20 @@ def stage(picture, name, x, y, height):
 
 
 def stages():
-    picture = Picture(960, 466, "The stages: a grammar's text is read, its lakes are made plain; then a text is matched, or the grammar is written")
+    # boxes are as high as their crates need
+    rows = {name: 21 * len(crates) for name, (_, crates) in STAGES.items()}
+    left, match_high, write_high = 75 + max(rows["read"], rows["lake"]), 58 + rows["match"], 63 + rows["write"]
+    below = 146 + left
+    write = 102 + match_high + 4
+    under = max(write + write_high, below + 60) + 8
+    picture = Picture(960, under + 42, "The stages: a grammar's text is read, its lakes are made plain; then a text is matched, or the grammar is written")
     picture.text(480, 34, "programs: spans, plain_text, replay", "mono small soft", "middle")
     picture.way((480, 42), (480, 58))
     picture.box(20, 60, 920, 36, "box")
     picture.text(480, 83, "gurkenmond: the public calls", "head", "middle")
-    picture.box(110, 116, 440, 222, "frame")
+    picture.box(110, 116, 440, left + 42, "frame")
     picture.text(330, 134, "prepare: what every call does first, refusals 1 to 8", "small soft", "middle")
-    for name, x, y, height in (("read", 130, 146, 180), ("lake", 360, 146, 180), ("match", 610, 102, 184), ("write", 610, 290, 126)):
+    for name, x, y, height in (("read", 130, 146, left), ("lake", 360, 146, left), ("match", 610, 102, match_high), ("write", 610, write, write_high)):
         stage(picture, name, x, y, height)
     picture.text(62, 220, "grammar", "small", "middle")
     picture.text(62, 236, "as text", "small", "middle")
@@ -117,20 +123,20 @@ def stages():
     picture.text(329, 218, "table", "small soft", "middle")
     picture.way((530, 200), (608, 200))
     picture.text(578, 192, "plain", "small soft", "middle")
-    picture.way((530, 300), (608, 300))
+    picture.way((530, 300), (566, 300), (566, write + 30), (608, write + 30))
     picture.text(578, 292, "plain", "small soft", "middle")
-    picture.way((215, 326), (215, 380), (608, 380))
-    picture.text(400, 374, "table as read", "small soft", "middle")
+    picture.way((215, below), (215, write + 90), (608, write + 90))
+    picture.text(400, write + 84, "table as read", "small soft", "middle")
     picture.text(880, 148, "input", "small", "middle")
     picture.way((838, 144), (782, 144))
     picture.way((780, 200), (826, 200))
     picture.text(880, 197, "nested", "small", "middle")
     picture.text(880, 213, "spans", "small", "middle")
-    picture.way((780, 335), (826, 335))
-    picture.text(880, 332, "plain PEG,", "small", "middle")
-    picture.text(880, 348, "or its own text", "small", "middle")
-    picture.box(20, 424, 920, 30, "box")
-    picture.text(480, 444, "under all: " + ", ".join(BELOW), "mono small", "middle")
+    picture.way((780, write + 45), (826, write + 45))
+    picture.text(880, write + 42, "plain PEG,", "small", "middle")
+    picture.text(880, write + 58, "or its own text", "small", "middle")
+    picture.box(20, under, 920, 30, "box")
+    picture.text(480, under + 20, "under all: " + ", ".join(BELOW), "mono small", "middle")
     return picture.svg()
 
 

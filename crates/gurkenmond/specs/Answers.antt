@@ -5,10 +5,10 @@ use mathlib.Core.Option.{Option, none, some}
 use Rattle.grammar.specs.Refusal.{Refusal, refusal}
 use Rattle.prepare.specs.declared.Verdict.{Verdict}
 use Rattle.prepare.specs.declared.Verdict.the-variants.{Accepted, Refused as VerdictRefused}
-use Rattle.gurkenmond.specs.declared.Outcome.{Outcome}
-use Rattle.gurkenmond.specs.declared.Outcome.the-variants.{Matched, NoMatch, Refused as OutcomeRefused}
-use Rattle.gurkenmond.specs.declared.Way.{Way}
-use Rattle.gurkenmond.specs.declared.Way.the-variants.{Not, ByRule, ByWater, BySkip}
+use Rattle.match_run.specs.declared.Outcome.{Outcome}
+use Rattle.match_run.specs.declared.Outcome.the-variants.{Matched, NoMatch, Refused as OutcomeRefused}
+use Rattle.match_ask.specs.declared.Way.{Way}
+use Rattle.match_ask.specs.declared.Way.the-variants.{Not, ByRule, ByWater, BySkip}
 
 -- nothing refuses, or "a refusal has a number and a place"
 abbrev pub verdictSays : Verdict → Option Refusal

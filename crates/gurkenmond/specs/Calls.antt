@@ -24,9 +24,9 @@ use Rattle.match_list.specs.Nodes.{Listing, all, deep, full, listOf, listingOf,
 use Rattle.write_rules.specs.Writing.{symbolText, text}
 use Rattle.gurkenmond.specs.declared.SetsOf.{SetsOf}
 use Rattle.gurkenmond.specs.declared.Lakes.{Lakes}
-use Rattle.gurkenmond.specs.declared.Match.{Match}
-use Rattle.gurkenmond.specs.declared.LakeWay.{LakeWay}
-use Rattle.gurkenmond.specs.declared.Written.{Written}
+use Rattle.match_run.specs.declared.Match.{Match}
+use Rattle.match_ask.specs.declared.LakeWay.{LakeWay}
+use Rattle.write_put.specs.declared.Written.{Written}
 use Rattle.gurkenmond.specs.Answers.{Says, refused, nomatch, value, verdictSays, outcomeSays, waySays}
 use Rattle.prepare.specs.declared.Counted.{Counted}
 use Rattle.prepare.specs.Prepare.{Prepared, prepared, refuses}

@@ -10,11 +10,11 @@ use Rattle.prepare.specs.declared.Counted.{Counted}
 use Rattle.prepare.specs.declared.Verdict.{Verdict}
 use Rattle.gurkenmond.specs.declared.SetsOf.{SetsOf}
 use Rattle.gurkenmond.specs.declared.Lakes.{Lakes}
-use Rattle.gurkenmond.specs.declared.Match.{Match}
-use Rattle.gurkenmond.specs.declared.Outcome.{Outcome}
-use Rattle.gurkenmond.specs.declared.Way.{Way}
-use Rattle.gurkenmond.specs.declared.LakeWay.{LakeWay}
-use Rattle.gurkenmond.specs.declared.Written.{Written}
+use Rattle.match_run.specs.declared.Match.{Match}
+use Rattle.match_run.specs.declared.Outcome.{Outcome}
+use Rattle.match_ask.specs.declared.Way.{Way}
+use Rattle.match_ask.specs.declared.LakeWay.{LakeWay}
+use Rattle.write_put.specs.declared.Written.{Written}
 use Rattle.gurkenmond.specs.Calls.{SaysRead, SaysSets, SaysLakes, matchOf, SaysMatch, lakeOf, SaysWay, Writing, writeOwnOf, writePlainOf, symbolNameOf, SaysText}
 use Rattle.gurkenmond.specs.laws.Answers.{verdict-one, way-one, outcome-one}
 

@@ -1,13 +1,13 @@
 -- `gurkenmond::lake_at` meets its contract. Assumes nothing.
 use mathlib.Core.Path.{_≡_, sym, _∙_}
-use Rattle.gurkenmond.specs.laws.Asks.{as-way, lake-refused}
+use Rattle.gurkenmond.specs.laws.Asks.{as-way, lake-refused, lake-asked}
 use borrow.Author.Needs.{needs}
 use Rattle.gurkenmond.proofs.lake_at.Statement.{statement}
 use Rattle.gurkenmond.proofs.lake_at.Tie as tie
 use Rattle.gurkenmond.proofs.lake_at.Reads as reads
 use Rattle.gurkenmond.proofs.lake_at.Lts as lts
-use Rattle.gurkenmond.proofs.ask.Reads as ask-reads
-use Rattle.gurkenmond.proofs.not_asked.Reads as not-asked-reads
+use Rattle.match_ask.proofs.ask.Reads as ask-reads
+use Rattle.match_ask.proofs.not_asked.Reads as not-asked-reads
 use Rattle.prepare.proofs.is_refused.Reads as is-refused-reads
 use Rattle.prepare.proofs.prepare.Reads as prepare-reads
 
@@ -30,7 +30,7 @@ same-length : tie.Need-same-length
 same-length c = search needs
 
 returns-2 : tie.Need-returns-2
-returns-2 c = c .before .before .ask .ensures .are (c .before .before .before .before .before .before .before .before .before .before .before .before .before .before .before .before .before .before .before .before .before .before .before .args .mode) (c .before .before .before .before .before .before .before .before .before .before .before .before .before .before .before .before .before .before .before .before .before .before .before .args .text .now) _ _ _ _ (c .before .before .before .before .before .before .before .before .before .before .before .prepare .result .rounds) (c .before .before .before .before .before .before .before .before .before .before .before .prepare .ensures .stands (sym (c .before .before .before .before .before .before .before .before .before .is-refused .ensures) ∙ c .before .before .before .before .before .before .before .before .if1 .left))
+returns-2 c = lake-asked (c .before .before .before .before .before .before .before .before .before .before .before .before .before .before .before .before .before .before .before .before .before .before .before .args .mode) (c .before .before .before .before .before .before .before .before .before .before .before .before .before .before .before .before .before .before .before .before .before .before .before .args .text .now) (c .before .before .before .before .before .before .before .before .before .before .before .before .before .before .before .before .before .before .before .before .before .before .before .args .input .now) (c .before .before .before .before .before .before .before .before .before .before .before .before .before .before .before .before .before .before .before .before .before .before .before .args .cells .now) (c .before .before .before .before .before .before .before .before .before .before .before .before .before .before .before .before .before .before .before .before .before .before .before .args .lake) (c .before .before .before .before .before .before .before .before .before .before .before .before .before .before .before .before .before .before .before .before .before .before .before .args .place) _ _ _ _ _ _ _ _ (c .before .before .before .before .before .before .before .before .before .before .before .prepare .result .rounds) (c .before .before .before .before .before .before .before .before .before .before .before .prepare .ensures .stands (sym (c .before .before .before .before .before .before .before .before .before .is-refused .ensures) ∙ c .before .before .before .before .before .before .before .before .if1 .left)) _ (c .before .before .ask .result) (c .before .before .ask .ensures)
 
 pub lake-at-spec : {M : Type 1} → statement M
 lake-at-spec =

@@ -6,8 +6,8 @@ use Rattle.gurkenmond.proofs.match_input.Statement.{statement}
 use Rattle.gurkenmond.proofs.match_input.Tie as tie
 use Rattle.gurkenmond.proofs.match_input.Reads as reads
 use Rattle.gurkenmond.proofs.match_input.Lts as lts
-use Rattle.gurkenmond.proofs.not_matched.Reads as not-matched-reads
-use Rattle.gurkenmond.proofs.run.Reads as run-reads
+use Rattle.match_run.proofs.not_matched.Reads as not-matched-reads
+use Rattle.match_run.proofs.run.Reads as run-reads
 use Rattle.prepare.proofs.is_refused.Reads as is-refused-reads
 use Rattle.prepare.proofs.plainly.Reads as plainly-reads
 

@@ -9,8 +9,8 @@ use Rattle.gurkenmond.proofs.symbol_name.Statement.{statement}
 use Rattle.gurkenmond.proofs.symbol_name.Tie as tie
 use Rattle.gurkenmond.proofs.symbol_name.Reads as reads
 use Rattle.gurkenmond.proofs.symbol_name.Lts as lts
-use Rattle.gurkenmond.proofs.not_written.Reads as not-written-reads
-use Rattle.gurkenmond.proofs.put_name.Reads as put-name-reads
+use Rattle.write_put.proofs.not_written.Reads as not-written-reads
+use Rattle.write_put.proofs.put_name.Reads as put-name-reads
 use Rattle.prepare.proofs.is_refused.Reads as is-refused-reads
 use Rattle.prepare.proofs.plainly.Reads as plainly-reads
 use Rattle.prepare.proofs.symbols.Reads as symbols-reads

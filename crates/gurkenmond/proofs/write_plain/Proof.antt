@@ -9,8 +9,8 @@ use Rattle.gurkenmond.proofs.write_plain.Statement.{statement}
 use Rattle.gurkenmond.proofs.write_plain.Tie as tie
 use Rattle.gurkenmond.proofs.write_plain.Reads as reads
 use Rattle.gurkenmond.proofs.write_plain.Lts as lts
-use Rattle.gurkenmond.proofs.not_written.Reads as not-written-reads
-use Rattle.gurkenmond.proofs.put_text.Reads as put-text-reads
+use Rattle.write_put.proofs.not_written.Reads as not-written-reads
+use Rattle.write_put.proofs.put_text.Reads as put-text-reads
 use Rattle.prepare.proofs.is_refused.Reads as is-refused-reads
 use Rattle.prepare.proofs.plainly.Reads as plainly-reads
 

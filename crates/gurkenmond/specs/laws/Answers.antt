@@ -1,10 +1,9 @@
 -- What an answer says determines it, and what the verdicts of the definitions say. Assumes nothing.
-use Prim.Native.Nat.{ℕ, zero, suc, _≤_}
+use Prim.Native.Nat.{ℕ}
 use mathlib.Core.Path.{_≡_, refl, sym, ap, _∙_}
 use mathlib.Core.Bool.{Bool, true, false, _&&_}
 use mathlib.Core.List.{List}
 use mathlib.Core.Option.{Option, none, some}
-use native.Mathlib.Omega.{arith}
 use lib.Dec.{ltb}
 use lib.ListN.{length, getD}
 use Rattle.read_tokens.specs.declared.Mode.{Mode}
@@ -21,10 +20,11 @@ use Rattle.prepare.specs.Prepare.{prepared, refuses}
 use Rattle.prepare.specs.Reads.{verdictOf, readBy, readOf}
 use Rattle.gurkenmond.specs.declared.SetsOf.{SetsOf}
 use Rattle.gurkenmond.specs.declared.Lakes.{Lakes}
-use Rattle.gurkenmond.specs.declared.Outcome.{Outcome}
-use Rattle.gurkenmond.specs.declared.Outcome.the-variants.{Matched, NoMatch, Refused as OutcomeRefused}
-use Rattle.gurkenmond.specs.declared.Way.{Way}
-use Rattle.gurkenmond.specs.declared.Way.the-variants.{Not, ByRule, ByWater, BySkip}
+use Rattle.match_run.specs.declared.Outcome.{Outcome}
+use Rattle.match_run.specs.declared.Outcome.the-variants.{Matched, NoMatch, Refused as OutcomeRefused}
+use Rattle.match_ask.specs.declared.Way.{Way}
+use Rattle.match_ask.specs.declared.Way.the-variants.{Not, ByRule, ByWater, BySkip}
+use Rattle.match_ask.specs.steps.Asks.{wayOf}
 use Rattle.gurkenmond.specs.Answers.{Says, refused, nomatch, value, verdictSays, waySays, outcomeSays}
 use Rattle.gurkenmond.specs.Calls.{SaysRead, setsBy, refusesSets, setsOf, SaysSets, lakesBy, cannotSkipOf, SaysLakes}
 
@@ -33,12 +33,6 @@ verdict-back : (v : Verdict) → verdictOf (verdictSays v) ≡ v
 unfolding verdictOf
 verdict-back Accepted = refl
 verdict-back (VerdictRefused n p) = refl
-
-wayOf : ℕ → Way
-wayOf zero = Not
-wayOf (suc zero) = ByRule
-wayOf (suc (suc zero)) = ByWater
-wayOf (suc (suc (suc k))) = BySkip
 
 way-back : (w : Way) → wayOf (waySays w) ≡ w
 unfolding wayOf
@@ -98,14 +92,16 @@ lakes-told m t e = (e, ap (λ (x : Lakes). verdictSays (x .verdict)) e ∙ go (r
     go none = verdict-says none
     go (some x) = verdict-says (some x)
 
--- ── the ways are 0 to 3 ──
-few : (a b c : Bool) → elim a [ true ↦ 1 | false ↦ elim b [ true ↦ 2 | false ↦ elim c [ true ↦ 3 | false ↦ 0 ] ] ] ≤ 3
-few true b c = omega arith
-few false true c = omega arith
-few false false true = omega arith
-few false false false = omega arith
+-- ── the ways are 0 to 3, so that a way says the number that it stands for ──
+way-says : (a b c : Bool) → let k : ℕ = elim a [ true ↦ 1 | false ↦ elim b [ true ↦ 2 | false ↦ elim c [ true ↦ 3 | false ↦ 0 ] ] ] in waySays (wayOf k) ≡ k
+unfolding wayOf
+way-says true b c = refl
+way-says false true c = refl
+way-says false false true = refl
+way-says false false false = refl
 
-pub way-few : (g : Grammar) (s cs : List ℕ) (n : ℕ) (set : List ℕ) (l p : ℕ) → wayIn g s cs n set l p ≤ 3
+pub way-said : (g : Grammar) (s cs : List ℕ) (n : ℕ) (set : List ℕ) (l p : ℕ) → waySays (wayOf (wayIn g s cs n set l p)) ≡ wayIn g s cs n set l p
 unfolding wayIn wayNumber
-way-few g s cs n set l p =
-    few (ownTakes s cs n (getD (g .rights) l none) p) (ownTakes s cs n (some (waterOf (waterIn g))) p) (ltb p (length s) && noneMatches s cs n (alternatives g set) p)
+way-said g s cs n set l p =
+    way-says (ownTakes s cs n (getD (g .rights) l none) p) (ownTakes s cs n (some (waterOf (waterIn g))) p)
+    (ltb p (length s) && noneMatches s cs n (alternatives g set) p)

@@ -31,10 +31,10 @@ use Rattle.prepare.specs.declared.Verdict.the-variants.{Refused as VerdictRefus
 use Rattle.prepare.specs.Prepare.{prepared, preparedBy, refuses}
 use Rattle.prepare.specs.Reads.{isRefused, readOf}
 use Rattle.prepare.specs.laws.Reads.{grammar-read, clear-text}
-use Rattle.gurkenmond.specs.declared.Written.{Written}
+use Rattle.write_put.specs.declared.Written.{Written}
 use Rattle.gurkenmond.specs.Calls.{SaysText, writing, writeBy, isSymbol, symbolNameOf}
-use Rattle.gurkenmond.specs.steps.Puts.{notWritten, Put}
-use Rattle.gurkenmond.specs.laws.Asks.{symbols-of}
+use Rattle.write_put.specs.steps.Puts.{notWritten, Put}
+use Rattle.match_ask.specs.laws.Asks.{symbols-of}
 use Rattle.gurkenmond.specs.laws.Writes.{told, says-by, puts, refused-by}
 
 -- no name is long

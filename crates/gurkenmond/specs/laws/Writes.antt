@@ -23,10 +23,10 @@ use Rattle.prepare.specs.declared.Verdict.{Verdict}
 use Rattle.prepare.specs.Reads.{verdictOf, isRefused, readOf}
 use Rattle.prepare.specs.Prepare.{prepared, preparedBy, refuses}
 use Rattle.prepare.specs.laws.Reads.{grammar-read, clear-text}
-use Rattle.gurkenmond.specs.declared.Written.{Written}
+use Rattle.write_put.specs.declared.Written.{Written}
 use Rattle.gurkenmond.specs.Answers.{verdictSays}
 use Rattle.gurkenmond.specs.Calls.{Writing, writing, SaysText, writeAfter, writeBy, writeOwnOf, writePlainOf}
-use Rattle.gurkenmond.specs.steps.Puts.{notWritten, answerBy, Put}
+use Rattle.write_put.specs.steps.Puts.{notWritten, answerBy, Put}
 use Rattle.gurkenmond.specs.laws.Verdicts.{handed}
 
 -- an answer and the room, in 01's terms

@@ -1,4 +1,0 @@
--- What one function of the code does to words: contracts shaped like the code. Laws tie them to the definitions.
-pub mod Runs
-pub mod Asks
-pub mod Puts
