@@ -1,8 +1,3 @@
 -- Laws of the definitions beside this file.
-pub mod Walks
-pub mod Names
-pub mod Hits
-pub mod Offences
-pub mod Order
 pub mod Marks
 pub mod Sweeps

@@ -1,5 +1,5 @@
 // Refusals 4 and 5 (01, Refusal numbers): the names of the left sides in order, a range of them at a time, each range with one more pass over the text. A
-// name of a range is found by halving; a left side that is not found there would make the functions give up, and the walks of this crate would answer.
+// name of a range is found by halving; a left side that is not found there would make the functions give up, and the walks of `read_walks` would answer.
 ghost use mathlib.Core.Path.{_≡_};
 ghost use mathlib.Core.Bool.{Bool, true, _||_};
 ghost use mathlib.Core.List.{[]};
@@ -7,28 +7,26 @@ ghost use Prim.Native.Nat.{_≤_, _<_};
 ghost use lib.ListN.{length, set};
 ghost use Rattle.read_tokens.specs.Tokens.{tokenAt, lexemes};
 ghost use Rattle.read_syntax.specs.Reading.{leftsIn, second, unruled};
-ghost use Rattle.read_names.specs.steps.Names.{placed};
-ghost use Rattle.read_names.specs.steps.Lefts.{symbolIn, inText, Fits, marked, Knows, Ranged, Entered, TokenOf, MetAll, UsedAll, placeBy};
+ghost use Rattle.read_walks.specs.steps.Names.{placed};
+ghost use Rattle.read_order.specs.steps.Order.{symbolIn, inText, Fits, TokenOf};
+ghost use Rattle.read_names.specs.steps.Lefts.{marked, Knows, Ranged, Entered, MetAll, UsedAll, placeBy};
 ghost use Rattle.read_names.specs.steps.Lefts.{Walked, Swept4, Swept5, Whole, Held, Answer};
-
-pub mod order;
-
-use crate::is_left;
-use crate::lefts::order::NONE;
-use crate::lefts::order::Range;
-use crate::lefts::order::Room;
-use crate::lefts::order::find;
-use crate::lefts::order::gather;
-use crate::lefts::order::in_range;
-use crate::lefts::order::pack;
-use crate::lefts::order::same_name;
-use crate::name_start;
-use crate::reserved_name;
-use crate::second_walked;
-use crate::unruled_walked;
 use base_words::word;
+use read_order::NONE;
+use read_order::Range;
+use read_order::Room;
+use read_order::find;
+use read_order::gather;
+use read_order::in_range;
+use read_order::pack;
+use read_order::same_name;
 use read_tokens::Mode;
 use read_tokens::Token;
+use read_walks::is_left;
+use read_walks::name_start;
+use read_walks::reserved_name;
+use read_walks::second_walked;
+use read_walks::unruled_walked;
 
 // Which names of a range have been passed.
 pub type Marks = [bool; 24576];

@@ -3,7 +3,7 @@ ghost use Prim.Native.Nat.{_<_};
 ghost use mathlib.Core.Path.{_≡_};
 ghost use mathlib.Core.Bool.{false};
 ghost use Rattle.write_rules.specs.Writing.{symbolText};
-ghost use Rattle.write_text.specs.steps.Printed.{called};
+ghost use Rattle.write_leaves.specs.steps.Printed.{called};
 ghost use Rattle.write_text.specs.steps.Texts.{textOf};
 ghost use Rattle.write_put.specs.steps.Puts.{notWritten, Put};
 use grammar_table::Table;
@@ -47,14 +47,14 @@ pub fn put_name(t: &Table, out: &mut [u8], r: usize) -> Written
     requires { ⌜ r < 64 ⌝ }
     ensures { λ w. ⌜ Put (symbolText (called false (now (t .entry)) r)) (now (out .entry)) (now (out .exit)) w ⌝ }
 {
-    let n = write_text::leaves::symbol(t, out, false, false, 0, r);
+    let n = write_leaves::leaves::symbol(t, out, false, false, 0, r);
     if out.len() < n {
         return not_written(Verdict::Refused {
             number: 13,
             place: n,
         });
     }
-    let m = write_text::leaves::symbol(t, out, true, false, 0, r);
+    let m = write_leaves::leaves::symbol(t, out, true, false, 0, r);
     Written {
         bytes: m,
         verdict: Verdict::Accepted,

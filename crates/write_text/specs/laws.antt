@@ -1,9 +1,4 @@
 -- Laws of the definitions beside this file.
-pub mod Pen
-pub mod Bytes
-pub mod Leaves
-pub mod Names
-pub mod Trees
 pub mod Pages
 pub mod Rights
 pub mod Called

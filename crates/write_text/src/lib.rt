@@ -1,6 +1,2 @@
-// The text of a grammar that a table holds (01, Writing). Every function writes from `at` on and answers the place behind; with `write` false it only
-// counts, so that the bytes needed are known before one is written.
-pub mod bytes;
-pub mod leaves;
-pub mod rules;
+// The text of a grammar that a table holds (01, Writing), from its parts.
 pub mod texts;

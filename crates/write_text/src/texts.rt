@@ -7,8 +7,8 @@ ghost use lib.ListN.{length};
 ghost use Rattle.grammar_table.specs.Table.{bodyIn};
 ghost use Rattle.grammar_table.specs.Trees.{treeOf};
 ghost use Rattle.write_rules.specs.Writing.{ruleText, text};
-ghost use Rattle.write_text.specs.steps.Pen.{most, Penned};
-ghost use Rattle.write_text.specs.steps.Printed.{called, toned};
+ghost use Rattle.write_leaves.specs.steps.Pen.{most, Penned};
+ghost use Rattle.write_leaves.specs.steps.Printed.{called, toned};
 ghost use Rattle.write_text.specs.steps.Texts.{rulesIn, textOf, Paged};
 use grammar_table::records;
 
@@ -20,10 +20,10 @@ fn rule(t: &[u32], out: &mut [u8], write: bool, plain: bool, r: usize, x: usize,
         (ruleText (record { left = called plain (now (t .entry)) r; right = toned (called plain (now (t .entry))) (treeOf (now (t .entry)) x) }))
         (now (out .entry)) at (now (out .exit)) u ⌝ }
 {
-    let a = crate::leaves::symbol(t, out, write, plain, at, r);
-    let b = crate::bytes::emit4(out, write, a, 32, 60, 45, 32);
-    let c = crate::rules::exp(t, out, write, plain, x, b);
-    crate::bytes::emit(out, write, c, 10)
+    let a = write_leaves::leaves::symbol(t, out, write, plain, at, r);
+    let b = write_leaves::bytes::emit4(out, write, a, 32, 60, 45, 32);
+    let c = write_exp::exp(t, out, write, plain, x, b);
+    write_leaves::bytes::emit(out, write, c, 10)
 }
 
 // Symbol r's rule, if it has one.

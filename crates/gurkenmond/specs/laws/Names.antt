@@ -21,7 +21,7 @@ use Rattle.grammar_table.specs.Table.{symbolCount}
 use Rattle.read_syntax.specs.Machine.{over}
 use Rattle.read_syntax.specs.Reading.{rulesOf}
 use Rattle.write_rules.specs.Writing.{symbolText}
-use Rattle.write_text.specs.steps.Printed.{called}
+use Rattle.write_leaves.specs.steps.Printed.{called}
 use Rattle.write_text.specs.steps.Texts.{Paged}
 use Rattle.write_text.specs.laws.Answers.{Answered, answered}
 use Rattle.write_text.specs.laws.Called.{called-is}

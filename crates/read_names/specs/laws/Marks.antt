@@ -17,9 +17,10 @@ use Rattle.read_tokens.specs.steps.Code.{kindOf, coded}
 use Rattle.read_tokens.specs.laws.Forward.{lexemesAt}
 use Rattle.grammar.specs.Same.{sameBytes, sameSymbol, isIn}
 use Rattle.read_syntax.specs.Reading.{before, leftBy, leftsIn, lacks}
-use Rattle.read_names.specs.steps.Names.{bytesAt, symbolBy, begun, bad4, reservedBy}
-use Rattle.read_names.specs.laws.Offences.{said, not-symbol, reserved-here, used-here, left-here, no-name, no-use, name-use}
-use Rattle.read_names.specs.steps.Lefts.{symbolIn, inText, Packs, within, findIn, found, Knows, Entered, leftAt, MetAll, Used, UsedAll, Whole}
+use Rattle.read_walks.specs.steps.Names.{bytesAt, symbolBy, begun, bad4, reservedBy}
+use Rattle.read_walks.specs.laws.Offences.{said, not-symbol, reserved-here, used-here, left-here, no-name, no-use, name-use}
+use Rattle.read_order.specs.steps.Order.{symbolIn, inText, Packs, within, findIn}
+use Rattle.read_names.specs.steps.Lefts.{found, Knows, Entered, leftAt, MetAll, Used, UsedAll, Whole}
 
 -- ── the same symbol ──
 bytes-same : (v w : List ℕ) → sameBytes v w ≡ true → v ≡ w

@@ -18,13 +18,14 @@ use Rattle.read_tokens.specs.steps.Code.{coded}
 use Rattle.read_tokens.specs.laws.Forward.{lexemesAt, forward}
 use Rattle.grammar.specs.Same.{sameSymbol, isIn}
 use Rattle.read_syntax.specs.Reading.{before, leftBy, leftsIn, second, unruled, lacks}
-use Rattle.read_names.specs.steps.Names.{hitBy, placed, bad4, Walk, walkTo}
-use Rattle.read_names.specs.laws.Walks.{in-left, next-none, next-some, moves, stuck}
+use Rattle.read_walks.specs.steps.Names.{hitBy, placed, bad4, Walk, walkTo}
+use Rattle.read_walks.specs.laws.Walks.{in-left, next-none, next-some, moves, stuck}
 use Rattle.read_tokens.specs.laws.Here.{is-end, is-token}
-use Rattle.read_names.specs.laws.Hits.{all-none, all-next}
-use Rattle.read_names.specs.laws.Offences.{walked, at-token, walked-into, none-lacks, this-lacks, later-lacks}
-use Rattle.read_names.specs.steps.Lefts.{over, upTo, within, Knows, leftAt, Met, MetAll, UsedAll, placeBy, second4, lacks5, Clear, Struck, Swept, Whole, Answer}
-use Rattle.read_names.specs.laws.Order.{over-none, over-or, up-none}
+use Rattle.read_walks.specs.laws.Hits.{all-none, all-next}
+use Rattle.read_walks.specs.laws.Offences.{walked, at-token, walked-into, none-lacks, this-lacks, later-lacks}
+use Rattle.read_order.specs.steps.Order.{over, upTo, within}
+use Rattle.read_names.specs.steps.Lefts.{Knows, leftAt, Met, MetAll, UsedAll, placeBy, second4, lacks5, Clear, Struck, Swept, Whole, Answer}
+use Rattle.read_order.specs.laws.Order.{over-none, over-or, up-none}
 
 -- ── all left sides ──
 module _ (m : Mode) (s : List ℕ) where

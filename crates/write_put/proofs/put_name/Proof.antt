@@ -9,7 +9,7 @@ use Rattle.write_put.proofs.put_name.Tie as tie
 use Rattle.write_put.proofs.put_name.Reads as reads
 use Rattle.write_put.proofs.put_name.Lts as lts
 use Rattle.write_put.proofs.not_written.Reads as not-written-reads
-use Rattle.write_text.proofs.leaves.symbol.Reads as symbol-reads
+use Rattle.write_leaves.proofs.leaves.symbol.Reads as symbol-reads
 
 symbol-requires : tie.Need-symbol-requires
 symbol-requires c κs = search needs

@@ -12,7 +12,7 @@ use Rattle.grammar.specs.Numbers.{Grammar}
 use Rattle.grammar_table.specs.Table.{symbolsAt, symbolWords, symbolWord, symbolBy, wordsFrom, nameIn}
 use Rattle.grammar_table.specs.Holds.{Holds}
 use Rattle.lake_step_one.specs.Proper.{Sound}
-use Rattle.write_text.specs.steps.Printed.{low, lowLeaf, calledBy, called, toned}
+use Rattle.write_leaves.specs.steps.Printed.{low, lowLeaf, calledBy, called, toned}
 use Rattle.lake_calls.specs.laws.Rights.{name-is}
 
 pub low-bytes : (w : List ℕ) → Bytes w → map low w ≡ w

@@ -27,7 +27,7 @@ use Rattle.write_rules.specs.laws.Kept.{bones, yield, yields, bones-r}
 use Rattle.write_rules.specs.laws.Within.{Narrow, within-iff, narrow-bones, narrow-split}
 use Rattle.lake_calls.specs.laws.Trees.{leaf-at}
 use Rattle.grammar.specs.Numbers.{terminalIn}
-use Rattle.write_text.specs.steps.Printed.{lowLeaf}
+use Rattle.write_leaves.specs.steps.Printed.{lowLeaf}
 use Rattle.write_text.specs.laws.Called.{BytesOf, BytesIn, low-leaf}
 
 module _ {A : Type 0} (P : A → Type 0) where

@@ -21,7 +21,7 @@ use Rattle.read_grammar.specs.steps.Promises.{Sound}
 use Rattle.read_grammar.specs.laws.Entries.{symbol-sound}
 use Rattle.prepare.specs.laws.Rights.{sound-rights}
 use Rattle.write_rules.specs.Writing.{text}
-use Rattle.write_text.specs.steps.Printed.{lowLeaf, called, toned}
+use Rattle.write_leaves.specs.steps.Printed.{lowLeaf, called, toned}
 use Rattle.write_text.specs.steps.Texts.{rulesIn, ruled, textOf}
 use Rattle.write_text.specs.laws.Rights.{rights-are}
 use Rattle.write_text.specs.laws.Called.{called-is}

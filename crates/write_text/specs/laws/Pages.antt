@@ -13,8 +13,8 @@ use Rattle.grammar.specs.Exp.{Exp}
 use Rattle.grammar_table.specs.Table.{symbolWord, symbolCount, bodyBy, bodyIn}
 use Rattle.grammar_table.specs.Trees.{treeOf}
 use Rattle.write_rules.specs.Writing.{symbolText, exprText, ruleText, text}
-use Rattle.write_text.specs.steps.Pen.{most, inked, Penned}
-use Rattle.write_text.specs.steps.Printed.{called, toned}
+use Rattle.write_leaves.specs.steps.Pen.{most, inked, Penned}
+use Rattle.write_leaves.specs.steps.Printed.{called, toned}
 use Rattle.write_text.specs.steps.Texts.{ruleBy, rulesIn, rightsIn, ruled, textOf, roomBy, Paged}
 
 -- ── a rule ──

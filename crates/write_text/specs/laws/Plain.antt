@@ -32,7 +32,7 @@ use Rattle.prepare.specs.laws.Dot.{dot-in}
 use Rattle.prepare.specs.laws.Rights.{proper}
 use Rattle.prepare.specs.laws.Terminals.{none-empty}
 use Rattle.write_rules.specs.Writing.{text}
-use Rattle.write_text.specs.steps.Printed.{lowLeaf, called}
+use Rattle.write_leaves.specs.steps.Printed.{lowLeaf, called}
 use Rattle.write_text.specs.steps.Texts.{rulesIn, ruled, textOf}
 use Rattle.write_text.specs.laws.Rights.{rights-are}
 use Rattle.write_text.specs.laws.Called.{called-is, toned-is}

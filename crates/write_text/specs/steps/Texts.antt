@@ -10,8 +10,8 @@ use Rattle.read_tokens.specs.Token.{Symbol}
 use Rattle.grammar.specs.Exp.{Exp, Rule}
 use Rattle.grammar_table.specs.Table.{symbolCount, bodyIn}
 use Rattle.write_rules.specs.Writing.{text}
-use Rattle.write_text.specs.steps.Pen.{most}
-use Rattle.write_text.specs.steps.Printed.{called, toned}
+use Rattle.write_leaves.specs.steps.Pen.{most}
+use Rattle.write_leaves.specs.steps.Printed.{called, toned}
 
 -- the rule of symbol r before others, if it has a right side: "Rules that the grammar has"
 abbrev pub ruleBy : (ℕ → Symbol) → ℕ → Option (Exp ℕ) → List Rule → List Rule

@@ -2,16 +2,16 @@
 use mathlib.Core.Path.{_≡_, refl, sym, ap, _∙_, subst}
 use native.Mathlib.Omega.{arith}
 use borrow.Author.Tests.{not-true, not-false}
-use Rattle.read_names.specs.steps.Lefts.{symbolIn}
-use Rattle.read_names.specs.laws.Order.{fits-word}
+use Rattle.read_order.specs.steps.Order.{symbolIn}
+use Rattle.read_order.specs.laws.Order.{fits-word}
 use Rattle.read_names.specs.laws.Marks.{entered-lost, entered-bad, entered-fine}
 use borrow.Author.Needs.{needs}
 use Rattle.read_names.proofs.lefts.enter.Statement.{statement}
 use Rattle.read_names.proofs.lefts.enter.Tie as tie
 use Rattle.read_names.proofs.lefts.enter.Reads as reads
 use Rattle.read_names.proofs.lefts.enter.Lts as lts
-use Rattle.read_names.proofs.lefts.order.find.Reads as find-reads
-use Rattle.read_names.proofs.lefts.order.same_name.Reads as same-name-reads
+use Rattle.read_order.proofs.find.Reads as find-reads
+use Rattle.read_order.proofs.same_name.Reads as same-name-reads
 use Rattle.read_names.proofs.lefts.set_mark.Reads as set-mark-reads
 use Rattle.base_words.proofs.word.Reads as word-reads
 

@@ -2,16 +2,16 @@
 use mathlib.Core.Path.{_≡_, refl, sym, ap, _∙_, subst}
 use native.Mathlib.Omega.{arith}
 use borrow.Author.Tests.{not-true, not-false}
-use Rattle.read_names.specs.steps.Lefts.{symbolIn}
-use Rattle.read_names.specs.laws.Order.{fits-word}
+use Rattle.read_order.specs.steps.Order.{symbolIn}
+use Rattle.read_order.specs.laws.Order.{fits-word}
 use Rattle.read_names.specs.laws.Marks.{known-not, known-mark}
 use borrow.Author.Needs.{needs}
 use Rattle.read_names.proofs.lefts.known.Statement.{statement}
 use Rattle.read_names.proofs.lefts.known.Tie as tie
 use Rattle.read_names.proofs.lefts.known.Reads as reads
 use Rattle.read_names.proofs.lefts.known.Lts as lts
-use Rattle.read_names.proofs.lefts.order.find.Reads as find-reads
-use Rattle.read_names.proofs.lefts.order.same_name.Reads as same-name-reads
+use Rattle.read_order.proofs.find.Reads as find-reads
+use Rattle.read_order.proofs.same_name.Reads as same-name-reads
 use Rattle.base_words.proofs.word.Reads as word-reads
 
 find-requires : tie.Need-find-requires

@@ -3,7 +3,7 @@ use Prim.Native.Nat.{ℕ, _+_, _-_, _≤_, _<_}
 use mathlib.Core.Path.{_≡_, refl, sym, ap, _∙_, subst}
 use native.Mathlib.Omega.{arith}
 use borrow.Author.Tests.{not-true, not-false}
-use Rattle.read_names.specs.laws.Offences.{use-inside}
+use Rattle.read_walks.specs.laws.Offences.{use-inside}
 use Rattle.read_names.specs.laws.Marks.{used-other, used-left, used-lost, used-out, used-known, used-bad}
 use mathlib.Core.List.{[]}
 use borrow.Author.Needs.{needs}
@@ -12,9 +12,9 @@ use Rattle.read_names.proofs.lefts.lacking.Tie as tie
 use Rattle.read_names.proofs.lefts.lacking.Reads as reads
 use Rattle.read_names.proofs.lefts.lacking.Lts as lts
 use Rattle.read_names.proofs.lefts.known.Reads as known-reads
-use Rattle.read_names.proofs.lefts.order.in_range.Reads as in-range-reads
-use Rattle.read_names.proofs.lefts.order.pack.Reads as pack-reads
-use Rattle.read_names.proofs.is_left.Reads as is-left-reads
+use Rattle.read_order.proofs.in_range.Reads as in-range-reads
+use Rattle.read_order.proofs.pack.Reads as pack-reads
+use Rattle.read_walks.proofs.is_left.Reads as is-left-reads
 
 returns : tie.Need-returns
 returns c = used-other (c .before .before .args .mode) (c .before .before .args .text .now) (c .before .before .args .at) (c .before .before .args .t) (c .before .before .pre .0) (c .before .before .args .c .low) (c .before .before .args .c .high) (c .if1 .taken)

@@ -4,7 +4,7 @@ use mathlib.Core.Path.{_≡_, refl, sym, ap, _∙_, subst}
 use native.Mathlib.Omega.{arith}
 use borrow.Author.Tests.{not-true, not-false}
 use Rattle.read_tokens.specs.laws.Here.{here}
-use Rattle.read_names.specs.laws.Offences.{inside}
+use Rattle.read_walks.specs.laws.Offences.{inside}
 use Rattle.read_names.specs.laws.Marks.{met-other, met-lost, met-use, met-reserved, met-out, met-enter, or-false, or-left}
 use borrow.Author.Needs.{needs}
 use Rattle.read_names.proofs.lefts.meet.Statement.{statement}
@@ -13,11 +13,11 @@ use Rattle.read_names.proofs.lefts.meet.Reads as reads
 use Rattle.read_names.proofs.lefts.meet.Lts as lts
 use Rattle.read_names.proofs.lefts.either.Reads as either-reads
 use Rattle.read_names.proofs.lefts.enter.Reads as enter-reads
-use Rattle.read_names.proofs.lefts.order.in_range.Reads as in-range-reads
-use Rattle.read_names.proofs.lefts.order.pack.Reads as pack-reads
-use Rattle.read_names.proofs.is_left.Reads as is-left-reads
-use Rattle.read_names.proofs.name_start.Reads as name-start-reads
-use Rattle.read_names.proofs.reserved_name.Reads as reserved-name-reads
+use Rattle.read_order.proofs.in_range.Reads as in-range-reads
+use Rattle.read_order.proofs.pack.Reads as pack-reads
+use Rattle.read_walks.proofs.is_left.Reads as is-left-reads
+use Rattle.read_walks.proofs.name_start.Reads as name-start-reads
+use Rattle.read_walks.proofs.reserved_name.Reads as reserved-name-reads
 
 returns : tie.Need-returns
 returns c = met-other (c .before .before .args .mode) (c .before .before .args .text .now) (c .before .before .args .at) (c .before .before .args .t) (c .before .before .pre .0) (c .before .before .pre .1) (c .before .before .args .a .now) (c .before .before .args .c .low) (c .before .before .args .c .high) (c .before .before .args .c .count) (c .before .before .args .marks .now) (c .if1 .taken)

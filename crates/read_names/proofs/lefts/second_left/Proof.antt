@@ -2,18 +2,19 @@
 use Prim.Native.Nat.{ℕ, _+_, _-_, _/_, _≤_, _<_}
 use mathlib.Core.Path.{_≡_, refl, sym, ap, _∙_, subst}
 use native.Mathlib.Omega.{arith}
-use Rattle.read_names.specs.steps.Lefts.{inText, Fits, second4}
-use Rattle.read_names.specs.laws.Order.{fits-none, fits-new}
+use Rattle.read_order.specs.steps.Order.{inText, Fits}
+use Rattle.read_names.specs.steps.Lefts.{second4}
+use Rattle.read_order.specs.laws.Order.{fits-none, fits-new}
 use Rattle.read_names.specs.laws.Sweeps.{Upto, upto-none, upto-next, upto-all, swept-low, second-says}
 use borrow.Author.Needs.{needs}
 use Rattle.read_names.proofs.lefts.second_left.Statement.{statement}
 use Rattle.read_names.proofs.lefts.second_left.Tie as tie
 use Rattle.read_names.proofs.lefts.second_left.Reads as reads
 use Rattle.read_names.proofs.lefts.second_left.Lts as lts
-use Rattle.read_names.proofs.lefts.order.gather.Reads as gather-reads
+use Rattle.read_order.proofs.gather.Reads as gather-reads
 use Rattle.read_names.proofs.lefts.place_of.Reads as place-of-reads
 use Rattle.read_names.proofs.lefts.second_in.Reads as second-in-reads
-use Rattle.read_names.proofs.second_walked.Reads as second-walked-reads
+use Rattle.read_walks.proofs.second_walked.Reads as second-walked-reads
 
 abbrev Inv-loop : tie.InvT-loop
 Inv-loop mode text a₀ low₀ limit₀ passed₀ a low limit passed = Fits text a × inText text low × Upto mode text (second4 mode text) low limit

@@ -2,18 +2,19 @@
 use Prim.Native.Nat.{ℕ, _+_, _-_, _/_, _≤_, _<_}
 use mathlib.Core.Path.{_≡_, refl, sym, ap, _∙_, subst}
 use native.Mathlib.Omega.{arith}
-use Rattle.read_names.specs.steps.Lefts.{inText, Fits, lacks5}
-use Rattle.read_names.specs.laws.Order.{fits-none, fits-new}
+use Rattle.read_order.specs.steps.Order.{inText, Fits}
+use Rattle.read_names.specs.steps.Lefts.{lacks5}
+use Rattle.read_order.specs.laws.Order.{fits-none, fits-new}
 use Rattle.read_names.specs.laws.Sweeps.{Upto, upto-none, upto-next, upto-all, swept-low, unruled-says}
 use borrow.Author.Needs.{needs}
 use Rattle.read_names.proofs.lefts.unruled_use.Statement.{statement}
 use Rattle.read_names.proofs.lefts.unruled_use.Tie as tie
 use Rattle.read_names.proofs.lefts.unruled_use.Reads as reads
 use Rattle.read_names.proofs.lefts.unruled_use.Lts as lts
-use Rattle.read_names.proofs.lefts.order.gather.Reads as gather-reads
+use Rattle.read_order.proofs.gather.Reads as gather-reads
 use Rattle.read_names.proofs.lefts.place_of.Reads as place-of-reads
 use Rattle.read_names.proofs.lefts.unruled_in.Reads as unruled-in-reads
-use Rattle.read_names.proofs.unruled_walked.Reads as unruled-walked-reads
+use Rattle.read_walks.proofs.unruled_walked.Reads as unruled-walked-reads
 
 abbrev Inv-loop : tie.InvT-loop
 Inv-loop mode text a₀ low₀ limit₀ passed₀ a low limit passed = Fits text a × inText text low × Upto mode text (lacks5 mode text) low limit

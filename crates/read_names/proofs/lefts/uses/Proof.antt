@@ -4,7 +4,8 @@ use mathlib.Core.Path.{_≡_, refl, sym, ap, _∙_, subst}
 use native.Mathlib.Omega.{arith}
 use lib.ListN.{length, getD}
 use Rattle.read_tokens.specs.laws.Here.{here}
-use Rattle.read_names.specs.steps.Lefts.{within, lacks5}
+use Rattle.read_order.specs.steps.Order.{within}
+use Rattle.read_names.specs.steps.Lefts.{lacks5}
 use Rattle.read_names.specs.laws.Sweeps.{Going, going, swept-end, swept-limit, uses-bad, uses-next}
 use borrow.Author.Needs.{needs}
 use Rattle.read_names.proofs.lefts.uses.Statement.{statement}

@@ -1,16 +1,16 @@
 -- `write_text::texts::rule` meets its contract. Assumes nothing.
 use native.Mathlib.Omega.{arith}
-use Rattle.write_text.specs.laws.Pen.{on, penned-is, penned-most}
+use Rattle.write_leaves.specs.laws.Pen.{on, penned-is, penned-most}
 use Rattle.write_text.specs.laws.Pages.{rule-text}
 use borrow.Author.Needs.{needs}
 use Rattle.write_text.proofs.texts.rule.Statement.{statement}
 use Rattle.write_text.proofs.texts.rule.Tie as tie
 use Rattle.write_text.proofs.texts.rule.Reads as reads
 use Rattle.write_text.proofs.texts.rule.Lts as lts
-use Rattle.write_text.proofs.bytes.emit.Reads as emit-reads
-use Rattle.write_text.proofs.bytes.emit4.Reads as emit4-reads
-use Rattle.write_text.proofs.leaves.symbol.Reads as symbol-reads
-use Rattle.write_text.proofs.rules.exp.Reads as exp-reads
+use Rattle.write_leaves.proofs.bytes.emit.Reads as emit-reads
+use Rattle.write_leaves.proofs.bytes.emit4.Reads as emit4-reads
+use Rattle.write_leaves.proofs.leaves.symbol.Reads as symbol-reads
+use Rattle.write_exp.proofs.exp.Reads as exp-reads
 
 symbol-requires : tie.Need-symbol-requires
 symbol-requires c κs = search needs

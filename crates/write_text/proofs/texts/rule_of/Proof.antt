@@ -1,7 +1,7 @@
 -- `write_text::texts::rule_of` meets its contract. Assumes nothing.
 use native.Mathlib.Omega.{arith}
-use Rattle.write_text.specs.steps.Printed.{called}
-use Rattle.write_text.specs.laws.Pen.{penned-none, penned-is}
+use Rattle.write_leaves.specs.steps.Printed.{called}
+use Rattle.write_leaves.specs.laws.Pen.{penned-none, penned-is}
 use Rattle.write_text.specs.laws.Pages.{none-text, some-text}
 use borrow.Author.Needs.{needs}
 use Rattle.write_text.proofs.texts.rule_of.Statement.{statement}

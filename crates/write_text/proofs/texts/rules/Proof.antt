@@ -1,8 +1,8 @@
 -- `write_text::texts::rules` meets its contract. Assumes nothing.
 use Prim.Native.Nat.{_-_, _≤_}
 use native.Mathlib.Omega.{arith}
-use Rattle.write_text.specs.steps.Printed.{called}
-use Rattle.write_text.specs.laws.Pen.{Along, along-start, along-on, along-end, along-is}
+use Rattle.write_leaves.specs.steps.Printed.{called}
+use Rattle.write_leaves.specs.laws.Pen.{Along, along-start, along-on, along-end, along-is}
 use Rattle.write_text.specs.steps.Texts.{textOf}
 use Rattle.write_text.specs.laws.Pages.{restOf, rest-start, rest-more, rest-end}
 use borrow.Author.Needs.{needs}

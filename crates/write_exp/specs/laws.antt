@@ -1,0 +1,2 @@
+-- Laws of the definitions that this crate writes by.
+pub mod Trees
