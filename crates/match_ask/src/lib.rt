@@ -2,6 +2,7 @@
 ghost use mathlib.Core.Path.{_≡_};
 ghost use Rattle.match_ask.specs.steps.Asks.{notAsked, wayOf, Standing, Asked};
 use grammar_table::Table;
+use match_eval::memory::Memory;
 use prepare::Verdict;
 
 // How a lake matches at a position.
@@ -93,7 +94,8 @@ pub fn ask(
             place: 0,
         });
     }
-    match_cells::filling::fill(plain, input, cells);
+    let mut mem: Memory = [0; match_eval::memory::WORDS];
+    match_cells::filling::fill(plain, input, cells, &mut mem);
     let a = lake_analysis::alt_of(mid, alts, lake);
     let w = match_lake::way(t, input, cells, n, a, lake, place);
     let how = way_of(w);

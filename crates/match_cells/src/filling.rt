@@ -6,12 +6,10 @@ ghost use Rattle.grammar_table.specs.Table.{wordsFrom, symbolCount};
 ghost use Rattle.grammar_table.specs.Trees.{bodiesOf};
 ghost use Rattle.match_cells.specs.Cells.{bodyAt, rowOf};
 ghost use Rattle.match_eval.specs.steps.Firsts.{byteAt, presetOf};
-ghost use Rattle.match_eval.specs.steps.Memory.{Knows, Roomy};
+ghost use Rattle.match_eval.specs.steps.Memory.{Fresh, Knows, Roomy};
 ghost use Rattle.match_cells.specs.steps.Runs.{fillBy, FilledBy, Fills};
 use base_words::put;
 use base_words::word;
-use match_eval::memory::Memory;
-use match_eval::memory::WORDS;
 
 // Sets the cells of n symbols from i on to what is said of their bodies where byte b stands. The others keep what they have: it is never asked for.
 fn preset(t: &[u32], cells: &mut [u32], mem: &[u32], n: usize, b: usize, i: usize)
@@ -77,9 +75,10 @@ fn place(t: &[u32], s: &[u8], cells: &mut [u32], mem: &[u32], order: &[u32], n: 
 fn rows(t: &[u32], s: &[u8], cells: &mut [u32], mem: &mut [u32], order: &[u32], n: usize, k: usize)
     requires { ⌜ ((n ≡ symbolCount (now t)) × (n ≤ 64) × ((j : ℕ) → j < n → getD (now order) j 0 < n) × (length (now s) ≤ 65535)
         × (k ≤ length (now s) + 1)) × Knows (now t) (now s) (now cells) n (now mem) k k × Roomy (now mem) (now s) n (length (now cells)) ⌝ }
-    ensures { λ _. ⌜ now (cells .exit)
+    ensures { λ _. ⌜ (now (cells .exit)
         ≡ fillBy (now (t .entry)) (now (mem .entry)) (bodiesOf (now (t .entry))) (now (s .entry)) n k (wordsFrom (now (order .entry)) 0 n)
-        (now (cells .entry)) ⌝ }
+        (now (cells .entry)))
+        × Knows (now (t .entry)) (now (s .entry)) (now (cells .exit)) n (now (mem .exit)) 0 0 ⌝ }
 {
     let mut i = k;
     while 0 < i {
@@ -90,21 +89,24 @@ fn rows(t: &[u32], s: &[u8], cells: &mut [u32], mem: &mut [u32], order: &[u32], 
 }
 
 // The same for every place, with a key for each repeated part, what bytes decide, and nothing remembered at first.
-fn rows_in(t: &[u32], s: &[u8], cells: &mut [u32], order: &[u32], n: usize)
-    requires { ⌜ (n ≡ symbolCount (now t)) × (n ≤ 64) × ((j : ℕ) → j < n → getD (now order) j 0 < n) × (length (now s) ≤ 65535) ⌝ }
+fn rows_in(t: &[u32], s: &[u8], cells: &mut [u32], mem: &mut [u32], order: &[u32], n: usize)
+    requires { ⌜ ((n ≡ symbolCount (now t)) × (n ≤ 64) × ((j : ℕ) → j < n → getD (now order) j 0 < n) × (length (now s) ≤ 65535))
+        × Fresh (now t) (now mem) ⌝ }
     ensures { λ _. ⌜ FilledBy (now (t .entry)) (bodiesOf (now (t .entry))) (now (s .entry)) n (wordsFrom (now (order .entry)) 0 n) (now (cells .entry))
-        (now (cells .exit)) ⌝ }
+        (now (cells .exit))
+        × Knows (now (t .entry)) (now (s .entry)) (now (cells .exit)) n (now (mem .exit)) 0 0 ⌝ }
 {
-    let mut mem: Memory = [0; WORDS];
-    crate::memory::enter_all(t, &mut mem);
-    match_firsts::decide_all(t, s, &mut mem, order, n, cells.len());
-    rows(t, s, cells, &mut mem, order, n, s.len() + 1);
+    crate::memory::enter_all(t, mem);
+    match_firsts::decide_all(t, s, mem, order, n, cells.len());
+    rows(t, s, cells, mem, order, n, s.len() + 1);
 }
 
-// Fills the cells of a table on a text, for every symbol and every position from 0 to the text's length.
-pub fn fill(t: &[u32], s: &[u8], cells: &mut [u32])
-    requires { ⌜ (symbolCount (now t) ≤ 64) × (length (now s) ≤ 65535) ⌝ }
-    ensures { λ u. ⌜ Fills (now (t .entry)) (now (s .entry)) (now (cells .entry)) (now (cells .exit)) ⌝ }
+// Fills the cells of a table on a text, for every symbol and every position from 0 to the text's length. The memory, lent with nothing but 0, says
+// afterwards what evaluation over these cells need not do again.
+pub fn fill(t: &[u32], s: &[u8], cells: &mut [u32], mem: &mut [u32])
+    requires { ⌜ ((symbolCount (now t) ≤ 64) × (length (now s) ≤ 65535)) × Fresh (now t) (now mem) ⌝ }
+    ensures { λ u. ⌜ Fills (now (t .entry)) (now (s .entry)) (now (cells .entry)) (now (cells .exit))
+        × Knows (now (t .entry)) (now (s .entry)) (now (cells .exit)) (symbolCount (now (t .entry))) (now (mem .exit)) 0 0 ⌝ }
 {
     let mut marks = [false; 64];
     let mut next = [false; 64];
@@ -121,5 +123,5 @@ pub fn fill(t: &[u32], s: &[u8], cells: &mut [u32])
         &mut ranks,
         &mut order,
     );
-    rows_in(t, s, cells, &order, n);
+    rows_in(t, s, cells, mem, &order, n);
 }

@@ -3,6 +3,7 @@ pub mod desk;
 
 ghost use Prim.Native.Nat.{ℕ, _+_, _*_, _/_, _≤_, _<_};
 ghost use mathlib.Core.Path.{_≡_};
+ghost use mathlib.Core.Bool.{true};
 ghost use mathlib.Core.Logic.{_⊎_};
 ghost use mathlib.Core.List.{_∷_, _++_};
 ghost use lib.ListN.{length};
@@ -10,6 +11,8 @@ ghost use Rattle.grammar_table.specs.Table.{expressionCount};
 ghost use Rattle.grammar_table.specs.Trees.{bodiesOf, treeOf};
 ghost use Rattle.match_meaning.specs.Meaning.{nd};
 ghost use Rattle.match_eval.specs.Eval.{cellAt};
+ghost use Rattle.match_eval.specs.steps.Firsts.{byteAt, saidOf};
+ghost use Rattle.match_eval.specs.steps.Memory.{Knows};
 ghost use Rattle.match_list.specs.Nodes.{listOf, listingOf, wordsOf, roomOf};
 ghost use Rattle.match_nodes.specs.steps.Passes.{out, note as noted, run, decode};
 ghost use Rattle.match_nodes.specs.steps.Tasks.{enter as entering, takes, after, listed, AllAble};
@@ -74,6 +77,12 @@ struct Stand {
     at: usize,
 }
 
+// A pass under way.
+struct Tour {
+    setting: Setting,
+    stand: Stand,
+}
+
 // A symbol that is to be entered: from which expression, on which level; in the text, in the list.
 struct Entry {
     symbol: usize,
@@ -102,57 +111,85 @@ fn look(t: &[u32], x: usize) -> Seen
 }
 
 // x where it matches at p, 4,096 where it fails.
-fn whole(t: &[u32], s: &[u8], cells: &[u32], n: usize, x: usize, p: usize) -> usize
-    requires { ⌜ (n ≤ 64) × (x < 2048) × (length (now s) ≤ 65535) × (p ≤ length (now s)) ⌝ }
+fn whole(t: &[u32], s: &[u8], cells: &[u32], mem: &[u32], n: usize, x: usize, p: usize) -> usize
+    requires { ⌜ ((n ≤ 64) × (x < 2048) × (length (now s) ≤ 65535) × (p ≤ length (now s))) × Knows (now t) (now s) (now cells) n (now mem) 0 0 ⌝ }
     ensures { λ r. ⌜ Picked (now (t .entry)) (now (s .entry)) (now (cells .entry)) n x p r ⌝ }
 {
-    let v = match_eval::eval(t, s, cells, n, x, p);
+    let v = match_eval::round(t, s, cells, mem, n, x, p);
     if v == 0 {
         return FAILS;
     }
     x
 }
 
-// The first alternative of x that matches at p and is no choice itself: choices nest to the left, and each alternative is evaluated once.
-fn pick(t: &[u32], s: &[u8], cells: &[u32], n: usize, x: usize, p: usize) -> usize
-    requires { ⌜ (n ≤ 64) × (x < 2048) × (length (now s) ≤ 65535) × (p ≤ length (now s)) ⌝ }
+// Whether the byte at p decides that x fails there.
+fn barred(s: &[u8], mem: &[u32], x: usize, p: usize) -> bool
+    ensures { λ r. ⌜ (r ≡ true → saidOf (now (mem .entry)) (byteAt (now (s .entry)) p) x ≡ 1) ⌝ }
+{
+    let b = match_eval::byte_at(s, p);
+    let w = match_eval::memory::said(mem, x, b);
+    w == 1
+}
+
+// The first alternative of x that matches at p and is no choice itself: choices nest to the left, each alternative is evaluated once, and a choice of which the
+// byte at p rules out all is passed over.
+fn pick(t: &[u32], s: &[u8], cells: &[u32], mem: &[u32], n: usize, x: usize, p: usize) -> usize
+    requires { ⌜ ((n ≤ 64) × (x < 2048) × (length (now s) ≤ 65535) × (p ≤ length (now s))) × Knows (now t) (now s) (now cells) n (now mem) 0 0 ⌝ }
     ensures { λ r. ⌜ Picked (now (t .entry)) (now (s .entry)) (now (cells .entry)) n x p r ⌝ }
 {
+    if barred(s, mem, x, p) {
+        return FAILS;
+    }
     if x == 0 {
-        return whole(t, s, cells, n, x, p);
+        return whole(t, s, cells, mem, n, x, p);
     }
     let g = look(t, x);
     let op = g.op;
     if op != grammar_table::CHOICE {
-        return whole(t, s, cells, n, x, p);
+        return whole(t, s, cells, mem, n, x, p);
     }
     let y = g.y;
-    let a = pick(t, s, cells, n, y, p);
+    let a = pick(t, s, cells, mem, n, y, p);
     if a != FAILS {
         return a;
     }
     let z = g.z;
-    pick(t, s, cells, n, z, p)
+    pick(t, s, cells, mem, n, z, p)
 }
 
-// Of a choice over y and z, one of which matches.
-fn choose(t: &[u32], s: &[u8], cells: &[u32], n: usize, y: usize, z: usize, p: usize) -> usize
-    requires { ⌜ (n ≤ 64) × (y < 2048) × (z < 2048) × (length (now s) ≤ 65535) × (p ≤ length (now s)) ⌝ }
-    ensures { λ r. ⌜ Chosen (now (t .entry)) (now (s .entry)) (now (cells .entry)) n y z p r ⌝ }
+// Of a choice, one of whose parts matches.
+fn choose(t: &[u32], s: &[u8], cells: &[u32], mem: &[u32], n: usize, g: Seen, p: usize) -> usize
+    requires { ⌜ ((n ≤ 64) × (g .y < 2048) × (g .z < 2048) × (length (now s) ≤ 65535) × (p ≤ length (now s)))
+        × Knows (now t) (now s) (now cells) n (now mem) 0 0 ⌝ }
+    ensures { λ r. ⌜ Chosen (now (t .entry)) (now (s .entry)) (now (cells .entry)) n (g .y) (g .z) p r ⌝ }
 {
-    let a = pick(t, s, cells, n, y, p);
+    let y = g.y;
+    let a = pick(t, s, cells, mem, n, y, p);
     if a != FAILS {
         return a;
     }
-    pick(t, s, cells, n, z, p)
+    let z = g.z;
+    pick(t, s, cells, mem, n, z, p)
 }
 
 // What lists no node is passed over by what it takes.
-fn across(t: &[u32], s: &[u8], cells: &[u32], n: usize, desk: &[u32], x: usize, p: usize) -> Next
-    requires { ⌜ Walkable (now t) (now s) (now cells) n (now desk) x p × Silent (treeOf (now t) x) ⌝ }
-    ensures { λ r. ⌜ Walked (now (t .entry)) (now (s .entry)) (now (cells .entry)) n (now (desk .entry)) x p (r .kind) (r .x) (r .place) ⌝ }
+fn across(
+    t: &[u32],
+    s: &[u8],
+    cells: &[u32],
+    mem: &[u32],
+    n: usize,
+    desk: &[u32],
+    st: Stand,
+) -> Next
+    requires { ⌜ Walkable (now t) (now s) (now cells) n (now desk) (st .x) (st .place) × Silent (treeOf (now t) (st .x))
+        × Knows (now t) (now s) (now cells) n (now mem) 0 0 ⌝ }
+    ensures { λ r.
+        ⌜ Walked (now (t .entry)) (now (s .entry)) (now (cells .entry)) n (now (desk .entry)) (st .x) (st .place) (r .kind) (r .x) (r .place) ⌝ }
 {
-    let a = match_eval::eval(t, s, cells, n, x, p);
+    let x = st.x;
+    let p = st.place;
+    let a = match_eval::round(t, s, cells, mem, n, x, p);
     Next {
         kind: DONE,
         x: x,
@@ -161,12 +198,16 @@ fn across(t: &[u32], s: &[u8], cells: &[u32], n: usize, desk: &[u32], x: usize, 
 }
 
 // A guard takes nothing: it is passed over without evaluation.
-fn skip(t: &[u32], s: &[u8], cells: &[u32], n: usize, desk: &[u32], x: usize, p: usize) -> Next
-    requires { ⌜ Walkable (now t) (now s) (now cells) n (now desk) x p × Silent (treeOf (now t) x) ⌝ }
-    ensures { λ r. ⌜ Walked (now (t .entry)) (now (s .entry)) (now (cells .entry)) n (now (desk .entry)) x p (r .kind) (r .x) (r .place) ⌝ }
+fn skip(t: &[u32], s: &[u8], cells: &[u32], mem: &[u32], n: usize, desk: &[u32], st: Stand) -> Next
+    requires { ⌜ Walkable (now t) (now s) (now cells) n (now desk) (st .x) (st .place) × Silent (treeOf (now t) (st .x))
+        × Knows (now t) (now s) (now cells) n (now mem) 0 0 ⌝ }
+    ensures { λ r.
+        ⌜ Walked (now (t .entry)) (now (s .entry)) (now (cells .entry)) n (now (desk .entry)) (st .x) (st .place) (r .kind) (r .x) (r .place) ⌝ }
 {
+    let x = st.x;
+    let p = st.place;
     if x == 0 {
-        return across(t, s, cells, n, desk, x, p);
+        return across(t, s, cells, mem, n, desk, st);
     }
     let g = look(t, x);
     let op = g.op;
@@ -177,26 +218,28 @@ fn skip(t: &[u32], s: &[u8], cells: &[u32], n: usize, desk: &[u32], x: usize, p:
             place: p,
         };
     }
-    across(t, s, cells, n, desk, x, p)
+    across(t, s, cells, mem, n, desk, st)
 }
 
-// What walking expression x at p comes to: it matches there, so that nothing is evaluated but what is chosen by it.
-fn walk(t: &[u32], s: &[u8], cells: &[u32], n: usize, desk: &[u32], x: usize, p: usize) -> Next
-    requires { ⌜ Walkable (now t) (now s) (now cells) n (now desk) x p ⌝ }
-    ensures { λ r. ⌜ Walked (now (t .entry)) (now (s .entry)) (now (cells .entry)) n (now (desk .entry)) x p (r .kind) (r .x) (r .place) ⌝ }
+// What walking the expression of a stand comes to: it matches there, so that nothing is evaluated but what is chosen by it.
+fn walk(t: &[u32], s: &[u8], cells: &[u32], mem: &[u32], n: usize, desk: &[u32], st: Stand) -> Next
+    requires { ⌜ Walkable (now t) (now s) (now cells) n (now desk) (st .x) (st .place) × Knows (now t) (now s) (now cells) n (now mem) 0 0 ⌝ }
+    ensures { λ r.
+        ⌜ Walked (now (t .entry)) (now (s .entry)) (now (cells .entry)) n (now (desk .entry)) (st .x) (st .place) (r .kind) (r .x) (r .place) ⌝ }
 {
+    let x = st.x;
+    let p = st.place;
     let holds = base_words::word(desk, x);
     if holds == 0 {
-        return skip(t, s, cells, n, desk, x, p);
+        return skip(t, s, cells, mem, n, desk, st);
     }
     if x == 0 {
-        return skip(t, s, cells, n, desk, x, p);
+        return skip(t, s, cells, mem, n, desk, st);
     }
     let g = look(t, x);
     let op = g.op;
     let left = g.left;
     let y = g.y;
-    let z = g.z;
     match op {
         grammar_table::SYMBOL => Next {
             kind: ENTER,
@@ -209,7 +252,7 @@ fn walk(t: &[u32], s: &[u8], cells: &[u32], n: usize, desk: &[u32], x: usize, p:
             place: p,
         },
         grammar_table::CHOICE => {
-            let a = choose(t, s, cells, n, y, z, p);
+            let a = choose(t, s, cells, mem, n, g, p);
             Next {
                 kind: WALK,
                 x: a,
@@ -217,7 +260,7 @@ fn walk(t: &[u32], s: &[u8], cells: &[u32], n: usize, desk: &[u32], x: usize, p:
             }
         }
         grammar_table::OPTION => {
-            let a = match_eval::eval(t, s, cells, n, y, p);
+            let a = match_eval::round(t, s, cells, mem, n, y, p);
             if a == 0 {
                 return Next {
                     kind: DONE,
@@ -232,7 +275,7 @@ fn walk(t: &[u32], s: &[u8], cells: &[u32], n: usize, desk: &[u32], x: usize, p:
             }
         }
         grammar_table::STAR => {
-            let a = match_eval::eval(t, s, cells, n, y, p);
+            let a = match_eval::round(t, s, cells, mem, n, y, p);
             if a <= 1 {
                 return Next {
                     kind: DONE,
@@ -251,18 +294,23 @@ fn walk(t: &[u32], s: &[u8], cells: &[u32], n: usize, desk: &[u32], x: usize, p:
             x: y,
             place: p,
         },
-        _ => skip(t, s, cells, n, desk, x, p),
+        _ => skip(t, s, cells, mem, n, desk, st),
     }
 }
 
-// A round of x, a part of e, is done: a further one, up to the first that fails or takes nothing.
-fn further(t: &[u32], s: &[u8], cells: &[u32], n: usize, x: usize, e: usize, p: usize) -> Next
-    requires { ⌜ (n ≤ 64) × (x < 4294967296) × (length (now s) ≤ 65535) × (p ≤ length (now s)) ⌝ }
+// A round of a part of e is done: a further one, up to the first that fails or takes nothing.
+fn further(t: &[u32], s: &[u8], cells: &[u32], mem: &[u32], n: usize, st: Stand, e: usize) -> Next
+    requires { ⌜ ((n ≤ 64) × (st .x < 4294967296) × (length (now s) ≤ 65535) × (st .place ≤ length (now s)))
+        × Knows (now t) (now s) (now cells) n (now mem) 0 0 ⌝ }
     ensures { λ r.
-        ⌜ ((takes (now (t .entry)) (now (s .entry)) (now (cells .entry)) n x p ≤ 1) × (r .kind ≡ 1) × (r .x ≡ e) × (r .place ≡ p))
-        ⊎ ((1 < takes (now (t .entry)) (now (s .entry)) (now (cells .entry)) n x p) × (r .kind ≡ 2) × (r .x ≡ x) × (r .place ≡ p)) ⌝ }
+        ⌜ ((takes (now (t .entry)) (now (s .entry)) (now (cells .entry)) n (st .x) (st .place) ≤ 1) × (r .kind ≡ 1) × (r .x ≡ e)
+        × (r .place ≡ st .place))
+        ⊎ ((1 < takes (now (t .entry)) (now (s .entry)) (now (cells .entry)) n (st .x) (st .place)) × (r .kind ≡ 2) × (r .x ≡ st .x)
+        × (r .place ≡ st .place)) ⌝ }
 {
-    let a = match_eval::eval(t, s, cells, n, x, p);
+    let x = st.x;
+    let p = st.place;
+    let a = match_eval::round(t, s, cells, mem, n, x, p);
     if a <= 1 {
         return Next {
             kind: DONE,
@@ -277,13 +325,16 @@ fn further(t: &[u32], s: &[u8], cells: &[u32], n: usize, x: usize, e: usize, p: 
     }
 }
 
-// What comes behind expression x, which is done: the right part of its sequence, a further round, or its parent is done; OVER says that its body is.
-fn rise(t: &[u32], s: &[u8], cells: &[u32], n: usize, desk: &[u32], x: usize, p: usize) -> Next
-    requires { ⌜ Desk (now t) (now desk) (expressionCount (now t)) × (expressionCount (now t) ≤ 1024) × (n ≤ 64) × (x < 4294967296)
-        × (length (now s) ≤ 65535) × (p ≤ length (now s)) ⌝ }
-    ensures { λ r. ⌜ Risen (now (t .entry)) (now (s .entry)) (now (cells .entry)) n (now (desk .entry)) x p (r .kind) (r .x) × (r .kind ≤ 2)
-        × (r .place ≡ p) ⌝ }
+// What comes behind an expression that is done: the right part of its sequence, a further round, or its parent is done; OVER says that its body is.
+fn rise(t: &[u32], s: &[u8], cells: &[u32], mem: &[u32], n: usize, desk: &[u32], st: Stand) -> Next
+    requires { ⌜ Desk (now t) (now desk) (expressionCount (now t)) × (expressionCount (now t) ≤ 1024) × (n ≤ 64) × (st .x < 4294967296)
+        × (length (now s) ≤ 65535) × (st .place ≤ length (now s)) × Knows (now t) (now s) (now cells) n (now mem) 0 0 ⌝ }
+    ensures { λ r.
+        ⌜ Risen (now (t .entry)) (now (s .entry)) (now (cells .entry)) n (now (desk .entry)) (st .x) (st .place) (r .kind) (r .x) × (r .kind ≤ 2)
+        × (r .place ≡ st .place) ⌝ }
 {
+    let x = st.x;
+    let p = st.place;
     let e = base_words::word(desk, desk::PARENTS_AT + x);
     if e == 0 {
         return Next {
@@ -311,10 +362,10 @@ fn rise(t: &[u32], s: &[u8], cells: &[u32], n: usize, desk: &[u32], x: usize, p:
         };
     }
     if op == grammar_table::STAR {
-        return further(t, s, cells, n, x, e, p);
+        return further(t, s, cells, mem, n, st, e);
     }
     if op == grammar_table::PLUS {
-        return further(t, s, cells, n, x, e, p);
+        return further(t, s, cells, mem, n, st, e);
     }
     Next {
         kind: DONE,
@@ -419,20 +470,24 @@ fn turn(
     t: &[u32],
     s: &[u8],
     cells: &[u32],
+    mem: &[u32],
     nodes: &mut [u32],
-    g: Setting,
     desk: &mut [u32],
-    st: Stand,
+    tour: Tour,
 ) -> Stand
-    requires { ⌜ Ready (now t) (now s) (now cells) (g .n) × (st .at < 4611686018427387904) × (0 < st .mode)
-        × State (now t) (now s) (now cells) (g .n) (now desk) (st .mode) (st .level) (st .x) (st .place) ⌝ }
+    requires { ⌜ Ready (now t) (now s) (now cells) (tour .setting .n) × (tour .stand .at < 4611686018427387904) × (0 < tour .stand .mode)
+        × State (now t) (now s) (now cells) (tour .setting .n) (now desk) (tour .stand .mode) (tour .stand .level) (tour .stand .x) (tour .stand .place)
+        × Knows (now t) (now s) (now cells) (tour .setting .n) (now mem) 0 0 ⌝ }
     ensures { λ r.
-        ⌜ Turned (now (t .entry)) (now (s .entry)) (now (cells .entry)) (g .n) (g .room) (g .write) (out (now (nodes .entry)) (st .at))
-        (out (now (nodes .exit)) (r .at)) (tasksOf (now (t .entry)) (now (desk .entry)) (st .mode) (st .level) (st .x)) (st .place)
-        (climb (st .mode) (st .level) (st .x)) (now (desk .exit)) (r .mode) (r .level) (r .x) (r .place) ⌝ }
+        ⌜ Turned (now (t .entry)) (now (s .entry)) (now (cells .entry)) (tour .setting .n) (tour .setting .room) (tour .setting .write)
+        (out (now (nodes .entry)) (tour .stand .at)) (out (now (nodes .exit)) (r .at))
+        (tasksOf (now (t .entry)) (now (desk .entry)) (tour .stand .mode) (tour .stand .level) (tour .stand .x)) (tour .stand .place)
+        (climb (tour .stand .mode) (tour .stand .level) (tour .stand .x)) (now (desk .exit)) (r .mode) (r .level) (r .x) (r .place) ⌝ }
 {
+    let g = tour.setting;
+    let st = tour.stand;
     if st.mode == DONE {
-        let m = rise(t, s, cells, g.n, desk, st.x, st.place);
+        let m = rise(t, s, cells, mem, g.n, desk, st);
         if m.kind == OVER {
             return leave(desk, st);
         }
@@ -444,7 +499,7 @@ fn turn(
             at: st.at,
         };
     }
-    let m = walk(t, s, cells, g.n, desk, st.x, st.place);
+    let m = walk(t, s, cells, mem, g.n, desk, st);
     if m.kind == ENTER {
         return enter(
             t,
@@ -476,40 +531,40 @@ fn go_on(
     t: &[u32],
     s: &[u8],
     cells: &[u32],
+    mem: &[u32],
     nodes: &mut [u32],
-    g: Setting,
     desk: &mut [u32],
-    first: Stand,
+    tour: Tour,
 ) -> usize
-    requires { ⌜ Ready (now t) (now s) (now cells) (g .n) × (first .at < 4611686018427387904)
-        × State (now t) (now s) (now cells) (g .n) (now desk) (first .mode) (first .level) (first .x) (first .place) ⌝ }
+    requires { ⌜ Ready (now t) (now s) (now cells) (tour .setting .n) × (tour .stand .at < 4611686018427387904)
+        × State (now t) (now s) (now cells) (tour .setting .n) (now desk) (tour .stand .mode) (tour .stand .level) (tour .stand .x) (tour .stand .place)
+        × Knows (now t) (now s) (now cells) (tour .setting .n) (now mem) 0 0 ⌝ }
     ensures { λ v. ⌜ (out (now (nodes .exit)) v
-        ≡ run (g .room) (g .write) (out (now (nodes .entry)) (first .at))
-        (listed (now (t .entry)) (now (s .entry)) (now (cells .entry)) (g .n)
-        (tasksOf (now (t .entry)) (now (desk .entry)) (first .mode) (first .level) (first .x)) (first .place)))
+        ≡ run (tour .setting .room) (tour .setting .write) (out (now (nodes .entry)) (tour .stand .at))
+        (listed (now (t .entry)) (now (s .entry)) (now (cells .entry)) (tour .setting .n)
+        (tasksOf (now (t .entry)) (now (desk .entry)) (tour .stand .mode) (tour .stand .level) (tour .stand .x)) (tour .stand .place)))
         × Desk (now (t .entry)) (now (desk .exit)) (expressionCount (now (t .entry))) ⌝ }
 {
+    let g = tour.setting;
+    let first = tour.stand;
     let mut at = first.at;
     let mut mode = first.mode;
     let mut d = first.level;
     let mut x = first.x;
     let mut p = first.place;
     while 0 < mode {
-        let next = turn(
-            t,
-            s,
-            cells,
-            nodes,
-            g,
-            desk,
-            Stand {
-                mode: mode,
-                level: d,
-                x: x,
-                place: p,
-                at: at,
-            },
-        );
+        let st = Stand {
+            mode: mode,
+            level: d,
+            x: x,
+            place: p,
+            at: at,
+        };
+        let now = Tour {
+            setting: g,
+            stand: st,
+        };
+        let next = turn(t, s, cells, mem, nodes, desk, now);
         at = next.at;
         if REFUSED <= at {
             return at;
@@ -527,25 +582,21 @@ fn pass(
     t: &[u32],
     s: &[u8],
     cells: &[u32],
-    n: usize,
+    mem: &[u32],
     nodes: &mut [u32],
+    g: Setting,
     desk: &mut [u32],
-    write: usize,
 ) -> usize
-    requires { ⌜ Ready (now t) (now s) (now cells) n × Desk (now t) (now desk) (expressionCount (now t)) ⌝ }
+    requires { ⌜ Ready (now t) (now s) (now cells) (g .n) × Desk (now t) (now desk) (expressionCount (now t))
+        × Knows (now t) (now s) (now cells) (g .n) (now mem) 0 0 ⌝ }
     ensures { λ v. ⌜ (out (now (nodes .exit)) v
-        ≡ run (roomOf (now (nodes .entry))) write (out (now (nodes .entry)) 0) (listOf (bodiesOf (now (t .entry))) (now (s .entry)) (now (cells .entry))))
+        ≡ run (g .room) (g .write) (out (now (nodes .entry)) 0) (listOf (bodiesOf (now (t .entry))) (now (s .entry)) (now (cells .entry))))
         × Desk (now (t .entry)) (now (desk .exit)) (expressionCount (now (t .entry))) ⌝ }
 {
-    let c = match_eval::cell_at(s, cells, n, 0, 0);
+    let c = match_eval::cell_at(s, cells, g.n, 0, 0);
     if c == 0 {
         return 0;
     }
-    let g = Setting {
-        n: n,
-        room: nodes.len() / match_list::NODE_WORDS,
-        write: write,
-    };
     let first = enter(
         t,
         s,
@@ -564,7 +615,11 @@ fn pass(
     if REFUSED <= first.at {
         return first.at;
     }
-    go_on(t, s, cells, nodes, g, desk, first)
+    let tour = Tour {
+        setting: g,
+        stand: first,
+    };
+    go_on(t, s, cells, mem, nodes, desk, tour)
 }
 
 // A pass's number as an answer.
@@ -580,9 +635,9 @@ fn answer(room: usize, v: usize) -> Listed
     Listed::Full(room)
 }
 
-// The nodes of the start symbol at 0 into the lent words, all or none.
-pub fn list(t: &[u32], s: &[u8], cells: &[u32], n: usize, nodes: &mut [u32]) -> Listed
-    requires { ⌜ Ready (now t) (now s) (now cells) n ⌝ }
+// The nodes of the start symbol at 0 into the lent words, all or none. What filling the cells left in the memory is not evaluated again.
+pub fn list(t: &[u32], s: &[u8], cells: &[u32], mem: &[u32], n: usize, nodes: &mut [u32]) -> Listed
+    requires { ⌜ Ready (now t) (now s) (now cells) n × Knows (now t) (now s) (now cells) n (now mem) 0 0 ⌝ }
     ensures { λ r. ⌜ (said r ≡ listingOf (roomOf (now (nodes .entry))) 0 (listOf (bodiesOf (now (t .entry))) (now (s .entry)) (now (cells .entry))))
         × (now (nodes .exit)
         ≡ wordsOf (roomOf (now (nodes .entry))) (now (nodes .entry)) (listOf (bodiesOf (now (t .entry))) (now (s .entry)) (now (cells .entry)))) ⌝ }
@@ -590,10 +645,20 @@ pub fn list(t: &[u32], s: &[u8], cells: &[u32], n: usize, nodes: &mut [u32]) -> 
     let room = nodes.len() / match_list::NODE_WORDS;
     let mut desk: [u32; desk::WORDS] = [0; desk::WORDS];
     desk::learn_all(t, &mut desk);
-    let v = pass(t, s, cells, n, nodes, &mut desk, 0);
+    let look_only = Setting {
+        n: n,
+        room: room,
+        write: 0,
+    };
+    let v = pass(t, s, cells, mem, nodes, look_only, &mut desk);
     if REFUSED <= v {
         return answer(room, v);
     }
-    let i = pass(t, s, cells, n, nodes, &mut desk, 1);
+    let writing = Setting {
+        n: n,
+        room: room,
+        write: 1,
+    };
+    let i = pass(t, s, cells, mem, nodes, writing, &mut desk);
     answer(room, i)
 }

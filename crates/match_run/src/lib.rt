@@ -2,6 +2,7 @@
 ghost use mathlib.Core.Path.{_≡_};
 ghost use Rattle.match_run.specs.steps.Runs.{Loopless, Ran, listedMatch, notMatched};
 use grammar_table::Table;
+use match_eval::memory::Memory;
 use prepare::Verdict;
 
 // Matched to a place, none, or refused with number and place.
@@ -63,7 +64,7 @@ fn listed_match(taken: usize, l: match_nodes::Listed) -> Match
     }
 }
 
-// The table of a plain grammar matched: 9, 10, then the cells, then 11 and 12.
+// The table of a plain grammar matched: 9, 10, then the cells, then 11 and 12. What filling remembers serves the list too.
 pub fn run(t: &Table, input: &[u8], cells: &mut [u32], nodes: &mut [u32]) -> Match
     requires { ⌜ Loopless (now t) ⌝ }
     ensures { λ r. ⌜ Ran (now (t .entry)) (now (input .entry)) (now (cells .entry)) (now (nodes .entry)) (now (cells .exit)) (now (nodes .exit)) r ⌝ }
@@ -82,7 +83,8 @@ pub fn run(t: &Table, input: &[u8], cells: &mut [u32], nodes: &mut [u32]) -> Mat
             place: need,
         });
     }
-    match_cells::filling::fill(t, input, cells);
+    let mut mem: Memory = [0; match_eval::memory::WORDS];
+    match_cells::filling::fill(t, input, cells, &mut mem);
     let c = base_words::word(cells, 0);
     if c == 0 {
         return Match {
@@ -90,6 +92,6 @@ pub fn run(t: &Table, input: &[u8], cells: &mut [u32], nodes: &mut [u32]) -> Mat
             outcome: Outcome::NoMatch,
         };
     }
-    let l = match_nodes::list(t, input, cells, n, nodes);
+    let l = match_nodes::list(t, input, cells, &mem, n, nodes);
     listed_match(c - 1, l)
 }

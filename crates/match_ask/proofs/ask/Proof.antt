@@ -6,6 +6,7 @@ use lib.ListN.{length}
 use Rattle.base_facts.specs.laws.Bools.{not-false, not-true}
 use Rattle.match_run.specs.laws.Runs.{need-small}
 use Rattle.match_ask.specs.laws.Asks.{standing-same, standing-few, standing-terminals, asked-long, asked-few, asked-past, asked-other, asked-behind, asked-all}
+use Rattle.match_cells.specs.laws.Keys.{fresh-none}
 use borrow.Author.Needs.{needs}
 use Rattle.match_ask.proofs.ask.Statement.{statement}
 use Rattle.match_ask.proofs.ask.Tie as tie
@@ -86,53 +87,56 @@ returns-5 c = asked-behind (c .before .before .before .before .before .before .b
     (arith, c .before .before .before .before .before .if2 .left)) (omega (arith, c .before .before .before .before .if3 .left)) (c .not-asked5 .ensures) (sym
     (c .before .before .before .is-lake .ensures) ∙ not-false (c .before .before .before .is-lake .result) (c .before .before .if4 .left)) (c .before .if5 .taken)
 
+slice-aggregate-fill : tie.Need-slice-aggregate-fill
+slice-aggregate-fill c = search needs
+
 fill-requires : tie.Need-fill-requires
-fill-requires c κs = search needs
+fill-requires c κs = ((standing-few (c .before .before .before .before .before .before .before .before .before .before .before .before .pre), omega (arith, c .before .before .before .before .before .before .before .before .before .if1 .left)), fresh-none (c .before .before .before .before .before .before .before .before .before .before .before .before .args .plain .now) 26901 (omega arith))
 
 alt-of-requires : tie.Need-alt-of-requires
 alt-of-requires c κs = search needs
 
 way-requires : tie.Need-way-requires
 way-requires c κs = (
-  c .before .before .before .before .before .before .before .before .before .before .before .before .before .symbols .ensures ∙ standing-same
-      (c .before .before .before .before .before .before .before .before .before .before .before .before .before .before .before .before .before .pre),
+  c .before .before .before .before .before .before .before .before .before .before .before .before .before .before .before .symbols .ensures ∙ standing-same
+      (c .before .before .before .before .before .before .before .before .before .before .before .before .before .before .before .before .before .before .before .pre),
   omega (
     arith,
-    c .before .before .before .before .before .before .before .before .before .before .before .before .before .symbols .ensures,
+    c .before .before .before .before .before .before .before .before .before .before .before .before .before .before .before .symbols .ensures,
     standing-few
-        (c .before .before .before .before .before .before .before .before .before .before .before .before .before .before .before .before .before .pre),
+        (c .before .before .before .before .before .before .before .before .before .before .before .before .before .before .before .before .before .before .before .pre),
   ),
   standing-terminals
-      (c .before .before .before .before .before .before .before .before .before .before .before .before .before .before .before .before .before .pre),
+      (c .before .before .before .before .before .before .before .before .before .before .before .before .before .before .before .before .before .before .before .pre),
   omega
-      (arith, c .before .before .before .before .before .before .before .before .before .before .before .if3 .left),
+      (arith, c .before .before .before .before .before .before .before .before .before .before .before .before .before .if3 .left),
   omega
-      (arith, c .before .before .before .before .before .before .before .before .before .before .before .before .before .before .if1 .left),
+      (arith, c .before .before .before .before .before .before .before .before .before .before .before .before .before .before .before .before .if1 .left),
   omega
-      (arith, c .before .before .before .before .before .before .before .before .if5 .left),
+      (arith, c .before .before .before .before .before .before .before .before .before .before .if5 .left),
 )
 
 way-of-requires : tie.Need-way-of-requires
-way-of-requires c κs = search needs
+way-of-requires c κs = subst (λ (k : ℕ). k ≤ 3) (sym (c .way .ensures)) (way-few _ _ _ _ _ _ _)
 
 same-length : tie.Need-same-length
 same-length c = search needs
 
 returns-6 : tie.Need-returns-6
 returns-6 c = asked-all
-    (c .before .before .before .before .before .before .before .before .before .before .before .before .before .before .before .before .before .before .before .args .input .now)
-    (c .before .before .before .before .before .before .before .before .before .before .before .before .before .before .before .before .before .before .before .args .cells .now)
-    (c .before .before .before .before .before .before .before .before .before .before .before .before .before .before .before .before .before .before .before .args .q .lake)
-    (c .before .before .before .before .before .before .before .before .before .before .before .before .before .before .before .before .before .before .before .args .q .place)
-    (c .before .before .before .before .before .before .before .before .before .before .before .before .before .before .before .symbols .result) _
-    (c .before .before .before .before .before .before .before .before .before .before .before .before .before .before .before .symbols .ensures) (omega
-    (arith, c .before .before .before .before .before .before .before .before .before .before .before .before .before .before .before .before .if1 .left)) refl (omega
-    (arith, c .before .before .before .before .before .before .before .before .before .before .before .before .before .before .if2 .left)) (omega
-    (arith, c .before .before .before .before .before .before .before .before .before .before .before .before .before .if3 .left)) (sym
-    (c .before .before .before .before .before .before .before .before .before .before .before .before .is-lake .ensures) ∙ not-false
-    (c .before .before .before .before .before .before .before .before .before .before .before .before .is-lake .result)
-    (c .before .before .before .before .before .before .before .before .before .before .before .if4 .left)) (omega
-    (arith, c .before .before .before .before .before .before .before .before .before .before .if5 .left)) _ (c .before .before .before .before .before .before .before .fill .ensures)
+    (c .before .before .before .before .before .before .before .before .before .before .before .before .before .before .before .before .before .before .before .before .before .args .input .now)
+    (c .before .before .before .before .before .before .before .before .before .before .before .before .before .before .before .before .before .before .before .before .before .args .cells .now)
+    (c .before .before .before .before .before .before .before .before .before .before .before .before .before .before .before .before .before .before .before .before .before .args .q .lake)
+    (c .before .before .before .before .before .before .before .before .before .before .before .before .before .before .before .before .before .before .before .before .before .args .q .place)
+    (c .before .before .before .before .before .before .before .before .before .before .before .before .before .before .before .before .before .symbols .result) _
+    (c .before .before .before .before .before .before .before .before .before .before .before .before .before .before .before .before .before .symbols .ensures) (omega
+    (arith, c .before .before .before .before .before .before .before .before .before .before .before .before .before .before .before .before .before .before .if1 .left)) refl (omega
+    (arith, c .before .before .before .before .before .before .before .before .before .before .before .before .before .before .before .before .if2 .left)) (omega
+    (arith, c .before .before .before .before .before .before .before .before .before .before .before .before .before .before .before .if3 .left)) (sym
+    (c .before .before .before .before .before .before .before .before .before .before .before .before .before .before .is-lake .ensures) ∙ not-false
+    (c .before .before .before .before .before .before .before .before .before .before .before .before .before .before .is-lake .result)
+    (c .before .before .before .before .before .before .before .before .before .before .before .before .before .if4 .left)) (omega
+    (arith, c .before .before .before .before .before .before .before .before .before .before .before .before .if5 .left)) _ (c .before .before .before .before .before .before .before .before .fill .ensures .0)
     (c .before .before .before .before .alt-of .result) (c .before .way .result) (c .way-of .result) (c .before .before .before .before .alt-of .ensures) (c .before .way .ensures)
     (c .way-of .ensures)
 
@@ -154,6 +158,7 @@ ask-spec =
     returns-4
     not-asked-requires-5
     returns-5
+    slice-aggregate-fill
     fill-requires
     alt-of-requires
     way-requires

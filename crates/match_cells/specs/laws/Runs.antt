@@ -17,6 +17,7 @@ use Rattle.grammar_table.specs.laws.Places.{is-upTo, upTo-long}
 use Rattle.lake_calls.specs.Calls.{loop, order}
 use Rattle.grammar_table.specs.Trees.{treeOf, bodiesOf}
 use Rattle.lake_calls.specs.laws.Trees.{bodies-are, trees-are}
+use Rattle.match_eval.specs.steps.Memory.{Knows}
 use Rattle.match_cells.specs.Cells.{cells}
 use Rattle.match_cells.specs.laws.First.{Ordered}
 use Rattle.match_cells.specs.laws.Agrees.{Right}
@@ -31,6 +32,10 @@ pub zeros : (n j : ℕ) → _≡_ {A = ℕ} (getD (replicate {A = ℕ} n 0) j 0)
 zeros zero j = refl
 zeros (suc n) zero = refl
 zeros (suc n) (suc j) = zeros n j
+
+-- what is known over n symbols, where n is how many a table counts
+pub knows-count : (t s cs mem : List ℕ) (n k : ℕ) → n ≡ k → Knows t s cs n mem 0 0 → Knows t s cs k mem 0 0
+knows-count t s cs mem n k e w = subst (λ (j : ℕ). Knows t s cs j mem 0 0) e w
 
 -- ── the cells ──
 words-shift : (x i n : ℕ) (l : List ℕ) → wordsFrom (x ∷ l) (suc i) n ≡ wordsFrom l i n

@@ -2,7 +2,7 @@
 use mathlib.Core.Path.{_≡_, sym, _∙_}
 use native.Mathlib.Omega.{arith}
 use lib.ListN.{length}
-use Rattle.match_cells.specs.laws.Runs.{zeros, fills}
+use Rattle.match_cells.specs.laws.Runs.{zeros, fills, knows-count}
 use borrow.Author.Needs.{needs}
 use Rattle.match_cells.proofs.filling.fill.Statement.{statement}
 use Rattle.match_cells.proofs.filling.fill.Tie as tie
@@ -37,13 +37,16 @@ slice-aggregate-rows-in : tie.Need-slice-aggregate-rows-in
 slice-aggregate-rows-in c = search needs
 
 rows-in-requires : tie.Need-rows-in-requires
-rows-in-requires c κs = (c .before .before .before .before .before .before .before .before .before .before .before .before .before .symbols .ensures .0, omega (arith, c .before .before .before .before .before .before .before .before .before .before .before .before .before .symbols .ensures .0, c .before .before .before .before .before .before .before .before .before .before .before .before .before .before .before .before .before .pre .0), c .before .before .before .before .before .before .before .order-front .ensures .entries (zeros 64), c .before .before .before .before .before .before .before .before .before .before .before .before .before .before .before .before .before .pre .1)
+rows-in-requires c κs = ((c .before .before .before .before .before .before .before .before .before .before .before .before .before .before .symbols .ensures .0, omega (arith, c .before .before .before .before .before .before .before .before .before .before .before .before .before .before .symbols .ensures .0, c .before .before .before .before .before .before .before .before .before .before .before .before .before .before .before .before .before .before .before .pre .0 .0), c .before .before .before .before .before .before .before .before .order-front .ensures .entries (zeros 64), c .before .before .before .before .before .before .before .before .before .before .before .before .before .before .before .before .before .before .before .pre .0 .1), c .before .before .before .before .before .before .before .before .before .before .before .before .before .before .before .before .before .before .before .pre .1)
 
 same-length : tie.Need-same-length
 same-length c = search needs
 
+same-length-2 : tie.Need-same-length-2
+same-length-2 c = search needs
+
 returns : tie.Need-returns
-returns c = fills (c .before .before .before .before .before .before .before .before .before .before .before .before .before .before .before .before .before .before .before .before .args .t .now) (c .before .before .before .before .before .before .before .before .before .before .before .before .before .before .before .before .before .before .before .before .args .s .now) (c .before .before .before .before .before .before .before .before .before .before .before .before .before .before .before .before .before .before .before .before .args .cells .now) _ _ _ (c .before .before .before .before .before .before .before .before .before .before .before .before .before .before .before .before .symbols .result) (c .before .before .before .before .before .before .before .before .before .before .before .before .before .before .before .before .symbols .ensures .0) (c .before .before .before .before .before .before .before .before .before .before .order-front .ensures) (c .before .before .rows-in .ensures)
+returns c = (fills (c .before .before .before .before .before .before .before .before .before .before .before .before .before .before .before .before .before .before .before .before .before .before .before .before .args .t .now) (c .before .before .before .before .before .before .before .before .before .before .before .before .before .before .before .before .before .before .before .before .before .before .before .before .args .s .now) (c .before .before .before .before .before .before .before .before .before .before .before .before .before .before .before .before .before .before .before .before .before .before .before .before .args .cells .now) _ _ _ (c .before .before .before .before .before .before .before .before .before .before .before .before .before .before .before .before .before .before .before .symbols .result) (c .before .before .before .before .before .before .before .before .before .before .before .before .before .before .before .before .before .before .before .symbols .ensures .0) (c .before .before .before .before .before .before .before .before .before .before .before .before .before .order-front .ensures) (c .before .before .before .before .rows-in .ensures .0), knows-count (c .before .before .before .before .before .before .before .before .before .before .before .before .before .before .before .before .before .before .before .before .before .before .before .before .args .t .now) (c .before .before .before .before .before .before .before .before .before .before .before .before .before .before .before .before .before .before .before .before .before .before .before .before .args .s .now) _ _ _ _ (c .before .before .before .before .before .before .before .before .before .before .before .before .before .before .before .before .before .before .before .symbols .ensures .0) (c .before .before .before .before .rows-in .ensures .1))
 
 pub fill-spec : {M : Type 1} → statement M
 fill-spec =
@@ -59,4 +62,5 @@ fill-spec =
     slice-aggregate-rows-in
     rows-in-requires
     same-length
+    same-length-2
     returns)

@@ -51,7 +51,7 @@ same-length-2 : tie.Need-same-length-2 Inv-loop μ-loop
 same-length-2 c = c .before .loop .inv .2
 
 returns : tie.Need-returns Inv-loop μ-loop
-returns c = by-end (c .before .before .before .before .before .before .before .args .t .now) (c .before .before .before .before .before .before .before .args .mem .now) (bodiesOf (c .before .before .before .before .before .before .before .args .t .now)) (c .before .before .before .before .before .before .before .args .s .now) (c .before .before .before .before .before .before .before .args .n) (wordsFrom (c .before .before .before .before .before .before .before .args .order .now) 0 (c .before .before .before .before .before .before .before .args .n)) (c .before .loop .cells) (c .before .loop .i) (omega (arith, c .loop-test .left)) ∙ c .before .loop .inv .3
+returns c = (by-end (c .before .before .before .before .before .before .before .args .t .now) (c .before .before .before .before .before .before .before .args .mem .now) (bodiesOf (c .before .before .before .before .before .before .before .args .t .now)) (c .before .before .before .before .before .before .before .args .s .now) (c .before .before .before .before .before .before .before .args .n) (wordsFrom (c .before .before .before .before .before .before .before .args .order .now) 0 (c .before .before .before .before .before .before .before .args .n)) (c .before .loop .cells) (c .before .loop .i) (omega (arith, c .loop-test .left)) ∙ c .before .loop .inv .3, knows-from (c .before .before .before .before .before .before .before .args .t .now) (c .before .before .before .before .before .before .before .args .s .now) (c .before .loop .cells) (c .before .loop .mem) (c .before .before .before .before .before .before .before .args .n) (c .before .loop .i) 0 (c .before .loop .i) 0 (omega arith) (omega (arith, c .loop-test .left)) (c .before .loop .inv .4))
 
 pub rows-spec : {M : Type 1} → statement M
 rows-spec =

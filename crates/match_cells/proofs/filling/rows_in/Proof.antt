@@ -1,6 +1,5 @@
 -- `match_cells::filling::rows_in` meets its contract. Assumes nothing.
 use native.Mathlib.Omega.{arith}
-use Rattle.match_cells.specs.laws.Keys.{fresh-none}
 use Rattle.match_cells.specs.laws.Preset.{knows-first}
 use borrow.Author.Needs.{needs}
 use Rattle.match_cells.proofs.filling.rows_in.Statement.{statement}
@@ -11,43 +10,35 @@ use Rattle.match_cells.proofs.filling.rows.Reads as rows-reads
 use Rattle.match_firsts.proofs.decide_all.Reads as decide-all-reads
 use Rattle.match_cells.proofs.memory.enter_all.Reads as enter-all-reads
 
-slice-aggregate-enter-all : tie.Need-slice-aggregate-enter-all
-slice-aggregate-enter-all c = search needs
-
 enter-all-requires : tie.Need-enter-all-requires
-enter-all-requires c κs = fresh-none (c .before .before .before .before .before .args .t .now) 26901 (omega arith)
-
-slice-aggregate-decide-all : tie.Need-slice-aggregate-decide-all
-slice-aggregate-decide-all c = search needs
+enter-all-requires c κs = c .before .before .before .before .before .before .pre .1
 
 decide-all-requires : tie.Need-decide-all-requires
-decide-all-requires c κs = ((c .before .before .before .before .before .before .before .before .pre .1, c .before .before .before .before .before .before .before .before .pre .3, c .before .before .before .before .before .before .before .before .pre .2), c .before .before .enter-all .ensures)
-
-slice-aggregate-rows : tie.Need-slice-aggregate-rows
-slice-aggregate-rows c = search needs
+decide-all-requires c κs = ((c .before .before .before .before .before .before .before .before .before .before .pre .0 .1, c .before .before .before .before .before .before .before .before .before .before .pre .0 .3, c .before .before .before .before .before .before .before .before .before .before .pre .0 .2), c .before .before .before .enter-all .ensures)
 
 add-rows : tie.Need-add-rows
 add-rows c = search needs
 
 rows-requires : tie.Need-rows-requires
-rows-requires c κs = ((c .before .before .before .before .before .before .before .before .before .before .before .before .pre .0, c .before .before .before .before .before .before .before .before .before .before .before .before .pre .1, c .before .before .before .before .before .before .before .before .before .before .before .before .pre .2, c .before .before .before .before .before .before .before .before .before .before .before .before .pre .3, omega arith), knows-first (c .before .before .before .before .before .before .before .before .before .before .before .before .args .t .now) (c .before .before .before .before .before .before .before .before .before .before .before .before .args .s .now) (c .before .before .before .before .before .before .before .before .before .before .before .before .args .cells .now) (c .before .before .before .before .before .before .before .before .before .before .before .before .args .n) (c .before .before .before .decide-all .ensures) .0, knows-first (c .before .before .before .before .before .before .before .before .before .before .before .before .args .t .now) (c .before .before .before .before .before .before .before .before .before .before .before .before .args .s .now) (c .before .before .before .before .before .before .before .before .before .before .before .before .args .cells .now) (c .before .before .before .before .before .before .before .before .before .before .before .before .args .n) (c .before .before .before .decide-all .ensures) .1)
+rows-requires c κs = ((c .before .before .before .before .before .before .before .before .before .before .before .before .before .before .before .pre .0 .0, c .before .before .before .before .before .before .before .before .before .before .before .before .before .before .before .pre .0 .1, c .before .before .before .before .before .before .before .before .before .before .before .before .before .before .before .pre .0 .2, c .before .before .before .before .before .before .before .before .before .before .before .before .before .before .before .pre .0 .3, omega arith), knows-first (c .before .before .before .before .before .before .before .before .before .before .before .before .before .before .before .args .t .now) (c .before .before .before .before .before .before .before .before .before .before .before .before .before .before .before .args .s .now) (c .before .before .before .before .before .before .before .before .before .before .before .before .before .before .before .args .cells .now) (c .before .before .before .before .before .before .before .before .before .before .before .before .before .before .before .args .n) (c .before .before .before .before .decide-all .ensures) .0, knows-first (c .before .before .before .before .before .before .before .before .before .before .before .before .before .before .before .args .t .now) (c .before .before .before .before .before .before .before .before .before .before .before .before .before .before .before .args .s .now) (c .before .before .before .before .before .before .before .before .before .before .before .before .before .before .before .args .cells .now) (c .before .before .before .before .before .before .before .before .before .before .before .before .before .before .before .args .n) (c .before .before .before .before .decide-all .ensures) .1)
 
 same-length : tie.Need-same-length
 same-length c = search needs
 
+same-length-2 : tie.Need-same-length-2
+same-length-2 c = search needs
+
 returns : tie.Need-returns
-returns c = (_, c .before .before .before .before .before .before .before .decide-all .ensures .1, c .before .before .before .rows .ensures)
+returns c = ((_, c .before .before .before .before .before .before .before .before .before .decide-all .ensures .1, c .before .before .before .before .rows .ensures .0), c .before .before .before .before .rows .ensures .1)
 
 pub rows-in-spec : {M : Type 1} → statement M
 rows-in-spec =
     tie.close
     (tie.spec
-    slice-aggregate-enter-all
     enter-all-requires
-    slice-aggregate-decide-all
     decide-all-requires
-    slice-aggregate-rows
     add-rows
     rows-requires
     same-length
+    same-length-2
     returns)
