@@ -7,25 +7,21 @@ ghost use lib.ListN.{length};
 ghost use Rattle.grammar.specs.Trees.{treeC, treeS, treeP, treeQ};
 ghost use Rattle.read_syntax.specs.Reader.{begins, isArrow, choiceP, seqP, prefP, primP};
 ghost use Rattle.read_grammar.specs.steps.Promises.{toksAt, Over, Occurs, Matches, Grown, Suffixes, Ruled, Laid, Named, Marked, Built};
-
-pub mod entries;
-pub mod parts;
-
 use base_words::put;
-use entries::note_any;
-use entries::note_leaf;
-use entries::note_symbol;
-use entries::symbol_number;
 use grammar_table::Table;
 use grammar_table::records::expressions;
 use grammar_table::records::symbols;
 use grammar_table::records::terminals;
-use parts::add_over;
-use parts::add_pair;
-use parts::add_part;
-use parts::prefix_op;
-use parts::set_body;
-use parts::suffix_op;
+use read_entries::entries::note_any;
+use read_entries::entries::note_leaf;
+use read_entries::entries::note_symbol;
+use read_entries::entries::symbol_number;
+use read_entries::parts::add_over;
+use read_entries::parts::add_pair;
+use read_entries::parts::add_part;
+use read_entries::parts::prefix_op;
+use read_entries::parts::set_body;
+use read_entries::parts::suffix_op;
 use read_tokens::Mode;
 use read_tokens::token_at;
 

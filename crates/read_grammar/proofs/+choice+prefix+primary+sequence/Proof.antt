@@ -6,7 +6,7 @@ use mathlib.Core.List.{List}
 use native.Mathlib.Omega.{arith}
 use borrow.Author.Tests.{not-true, not-false}
 use lib.ListN.{length}
-use Rattle.read_grammar.specs.steps.Entries.{prefixOp}
+use Rattle.read_entries.specs.steps.Entries.{prefixOp}
 use Rattle.read_grammar.specs.steps.Promises.{toksAt}
 use Rattle.read_grammar.specs.laws.Places.{begins-some}
 use Rattle.read_grammar.specs.laws.Glue.{LoopC, loop-c, more-c, end-c, LoopS, loop-s, more-s, end-s, with-pre, without-pre, grouped, kind-there, over-next, long-next, start-in, room, prim-end, prim-bad, prim-name, prim-terminal, prefix-some, not-zero}
@@ -29,9 +29,9 @@ use Rattle.read_grammar.proofs.+choice+prefix+primary+sequence.Lts-sequ
 use Rattle.read_grammar.proofs.begins_at.Reads as begins-at-reads
 use Rattle.read_grammar.proofs.occurrence.Reads as occurrence-reads
 use Rattle.read_grammar.proofs.over.Reads as over-reads
-use Rattle.read_grammar.proofs.parts.add_over.Reads as add-over-reads
-use Rattle.read_grammar.proofs.parts.add_pair.Reads as add-pair-reads
-use Rattle.read_grammar.proofs.parts.prefix_op.Reads as prefix-op-reads
+use Rattle.read_entries.proofs.parts.add_over.Reads as add-over-reads
+use Rattle.read_entries.proofs.parts.add_pair.Reads as add-pair-reads
+use Rattle.read_entries.proofs.parts.prefix_op.Reads as prefix-op-reads
 use Rattle.read_grammar.proofs.suffix.Reads as suffix-reads
 use Rattle.read_grammar.proofs.terminal.Reads as terminal-reads
 use Rattle.read_tokens.proofs.token_at.Reads as token-at-reads

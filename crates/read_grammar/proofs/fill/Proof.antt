@@ -12,7 +12,7 @@ use Rattle.read_grammar.proofs.fill.Statement.{statement}
 use Rattle.read_grammar.proofs.fill.Tie as tie
 use Rattle.read_grammar.proofs.fill.Reads as reads
 use Rattle.read_grammar.proofs.fill.Lts as lts
-use Rattle.read_grammar.proofs.entries.note_any.Reads as note-any-reads
+use Rattle.read_entries.proofs.entries.note_any.Reads as note-any-reads
 use Rattle.read_grammar.proofs.mark_all.Reads as mark-all-reads
 use Rattle.read_grammar.proofs.rules.Reads as rules-reads
 use Rattle.base_words.proofs.put.Reads as put-reads

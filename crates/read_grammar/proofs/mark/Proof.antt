@@ -15,7 +15,7 @@ use Rattle.read_grammar.proofs.mark.Tie as tie
 use Rattle.read_grammar.proofs.mark.Reads as reads
 use Rattle.read_grammar.proofs.mark.Lts as lts
 use Rattle.read_grammar.proofs.arrow_at.Reads as arrow-at-reads
-use Rattle.read_grammar.proofs.entries.note_symbol.Reads as note-symbol-reads
+use Rattle.read_entries.proofs.entries.note_symbol.Reads as note-symbol-reads
 use Rattle.read_tokens.proofs.token_at.Reads as token-at-reads
 
 token-at-requires : tie.Need-token-at-requires

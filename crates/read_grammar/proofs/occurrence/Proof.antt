@@ -11,8 +11,8 @@ use Rattle.read_grammar.proofs.occurrence.Statement.{statement}
 use Rattle.read_grammar.proofs.occurrence.Tie as tie
 use Rattle.read_grammar.proofs.occurrence.Reads as reads
 use Rattle.read_grammar.proofs.occurrence.Lts as lts
-use Rattle.read_grammar.proofs.entries.symbol_number.Reads as symbol-number-reads
-use Rattle.read_grammar.proofs.parts.add_part.Reads as add-part-reads
+use Rattle.read_entries.proofs.entries.symbol_number.Reads as symbol-number-reads
+use Rattle.read_entries.proofs.parts.add_part.Reads as add-part-reads
 
 symbol-number-requires : tie.Need-symbol-number-requires
 symbol-number-requires c κs = search needs

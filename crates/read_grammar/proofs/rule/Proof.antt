@@ -13,7 +13,7 @@ use Rattle.read_grammar.proofs.rule.Reads as reads
 use Rattle.read_grammar.proofs.rule.Lts as lts
 use Rattle.read_grammar.proofs.choice.Reads as choice-reads
 use Rattle.read_grammar.proofs.over.Reads as over-reads
-use Rattle.read_grammar.proofs.parts.set_body.Reads as set-body-reads
+use Rattle.read_entries.proofs.parts.set_body.Reads as set-body-reads
 
 over-requires : tie.Need-over-requires
 over-requires c κs = c .before .before .pre .0

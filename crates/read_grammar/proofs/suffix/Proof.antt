@@ -5,15 +5,15 @@ use mathlib.Core.Bool.{Bool, true, false, not, _||_}
 use mathlib.Core.List.{List}
 use native.Mathlib.Omega.{arith}
 use lib.ListN.{length}
-use Rattle.read_grammar.specs.steps.Entries.{suffixOp}
+use Rattle.read_entries.specs.steps.Entries.{suffixOp}
 use Rattle.read_grammar.specs.laws.Glue.{kind-there, over-next, suffix-some, suf-no, suf-yes}
 use borrow.Author.Needs.{needs}
 use Rattle.read_grammar.proofs.suffix.Statement.{statement}
 use Rattle.read_grammar.proofs.suffix.Tie as tie
 use Rattle.read_grammar.proofs.suffix.Reads as reads
 use Rattle.read_grammar.proofs.suffix.Lts as lts
-use Rattle.read_grammar.proofs.parts.add_over.Reads as add-over-reads
-use Rattle.read_grammar.proofs.parts.suffix_op.Reads as suffix-op-reads
+use Rattle.read_entries.proofs.parts.add_over.Reads as add-over-reads
+use Rattle.read_entries.proofs.parts.suffix_op.Reads as suffix-op-reads
 use Rattle.read_tokens.proofs.token_at.Reads as token-at-reads
 
 token-at-requires : tie.Need-token-at-requires

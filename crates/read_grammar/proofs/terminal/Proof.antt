@@ -11,8 +11,8 @@ use Rattle.read_grammar.proofs.terminal.Statement.{statement}
 use Rattle.read_grammar.proofs.terminal.Tie as tie
 use Rattle.read_grammar.proofs.terminal.Reads as reads
 use Rattle.read_grammar.proofs.terminal.Lts as lts
-use Rattle.read_grammar.proofs.entries.note_leaf.Reads as note-leaf-reads
-use Rattle.read_grammar.proofs.parts.add_part.Reads as add-part-reads
+use Rattle.read_entries.proofs.entries.note_leaf.Reads as note-leaf-reads
+use Rattle.read_entries.proofs.parts.add_part.Reads as add-part-reads
 
 note-leaf-requires : tie.Need-note-leaf-requires
 note-leaf-requires c κs = search needs

@@ -15,7 +15,7 @@ use Rattle.grammar_table.specs.Table.{terminalWords, symbolWords, symbolKey, te
 use Rattle.grammar_table.specs.laws.Words.{words-ext, sets-out, sets-in, no-more}
 use Rattle.grammar.specs.laws.Same.{bytes-sound, bytes-refl}
 use Rattle.grammar_table.specs.laws.Rows.{At}
-use Rattle.read_grammar.specs.steps.Entries.{symbolRow, symbolRecord, FitSymbol, symbolFrom, leafRow, bitOf, leafRecord, FitLeaf, leafKind, leafFrom}
+use Rattle.read_entries.specs.steps.Entries.{symbolRow, symbolRecord, FitSymbol, symbolFrom, leafRow, bitOf, leafRecord, FitLeaf, leafKind, leafFrom}
 
 -- ── runs of words and of marks ──
 pub words-is : (t : List ℕ) (i : ℕ) (w : List ℕ) → ((j : ℕ) → j < length w → getD t (i + j) 0 ≡ getD w j 0) → wordsFrom t i (length w) ≡ w

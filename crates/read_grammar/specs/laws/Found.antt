@@ -20,7 +20,7 @@ use Rattle.grammar.specs.Exp.{sym as symb, ter}
 use Rattle.grammar_table.specs.Table.{terminalsAt, terminalWords, symbolsAt, symbolWords, symbolKey, terminalKey, wordsFrom}
 use Rattle.grammar_table.specs.steps.Rows.{cap, seek, kept, Noted}
 use Rattle.grammar_table.specs.laws.Caps.{cap-low, cap-high}
-use Rattle.read_grammar.specs.steps.Entries.{symbolRow, symbolRecord, lakeOf, symbolAt, leafRow, bitOf, leafRecord, FitLeaf, leafAt, pushed}
+use Rattle.read_entries.specs.steps.Entries.{symbolRow, symbolRecord, lakeOf, symbolAt, leafRow, bitOf, leafRecord, FitLeaf, leafAt, pushed}
 use Rattle.read_grammar.specs.steps.Lay.{St, lay, Rel}
 use Rattle.read_grammar.specs.steps.Promises.{Occurs, Matches}
 use Rattle.read_grammar.specs.laws.Entries.{words-is}

@@ -20,7 +20,7 @@ use Rattle.grammar_table.specs.Table.{partBy}
 use Rattle.grammar.specs.Syntax.{Choice, Sequence, Prefixed, Suffixed, Primary, one, or, first, next, bare, with, only, then, psym, term, group}
 use Rattle.grammar.specs.Trees.{prefixed, suffixed, treeC, treeS, treeP, treeF, treeQ}
 use Rattle.read_syntax.specs.Reader.{Res, ok, isArrow, begins, sufBy, choiceP, choiceR, seqP, seqR, prefP, primP}
-use Rattle.read_grammar.specs.steps.Entries.{pushed, prefixOp, suffixOp}
+use Rattle.read_entries.specs.steps.Entries.{pushed, prefixOp, suffixOp}
 use Rattle.read_grammar.specs.steps.Lay.{St, st, joined, under, lay, Rel}
 use Rattle.read_grammar.specs.steps.Promises.{toksAt, Over, Occurs, Matches, Grown, Suffixes}
 use Rattle.read_grammar.specs.laws.Grows.{Grows, lay-grows}

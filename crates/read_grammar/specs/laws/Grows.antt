@@ -10,7 +10,7 @@ use Rattle.grammar.specs.Exp.{Exp, sym as symb, ter, seq, alt, opt, star, plus,
 use Rattle.grammar.specs.Parts.{Part}
 use Rattle.grammar.specs.Same.{sameLeaf, isIn}
 use Rattle.grammar_table.specs.laws.Rows.{also, also-in, also-new, All, all-left}
-use Rattle.read_grammar.specs.steps.Entries.{FitSymbol, FitLeaf}
+use Rattle.read_entries.specs.steps.Entries.{FitSymbol, FitLeaf}
 use Rattle.read_grammar.specs.steps.Lay.{St, st, push, leafed, lay, Fits}
 
 pub record Grows (u v : St) : Type 0 where

@@ -16,7 +16,7 @@ use Rattle.grammar.specs.Same.{sameSymbol}
 use Rattle.read_syntax.specs.Reader.{isArrow}
 use Rattle.grammar_table.specs.steps.Rows.{Noted}
 use Rattle.grammar_table.specs.laws.Rows.{also, adds}
-use Rattle.read_grammar.specs.steps.Entries.{symbolRecord, symbolAt}
+use Rattle.read_entries.specs.steps.Entries.{symbolRecord, symbolAt}
 use Rattle.read_grammar.specs.steps.Lay.{St, st, gatherBy, gathered, Rel}
 use Rattle.read_grammar.specs.steps.Promises.{toksAt, Over, Marked, Named}
 use Rattle.read_grammar.specs.laws.Places.{kindL, the-token, toks-more, is-symbol, symbol-low}

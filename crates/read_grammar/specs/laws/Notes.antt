@@ -19,7 +19,7 @@ use Rattle.grammar_table.specs.laws.Caps.{cap-low}
 use Rattle.grammar_table.specs.laws.Words.{sets-out}
 use Rattle.grammar_table.specs.laws.Rows.{At, also, All, all-left}
 use Rattle.grammar_table.specs.laws.Kept.{Kept, With, kept-all, kept-moved, seek-index, fits-also, noted}
-use Rattle.read_grammar.specs.steps.Entries.{symbolRow, symbolRecord, FitSymbol, symbolFrom, leafRecord, FitLeaf, leafFrom, pushed}
+use Rattle.read_entries.specs.steps.Entries.{symbolRow, symbolRecord, FitSymbol, symbolFrom, leafRecord, FitLeaf, leafFrom, pushed}
 use Rattle.read_grammar.specs.steps.Lay.{St, st, push, leafed, used, lay, Fits, Told, Rel}
 use Rattle.read_grammar.specs.laws.Entries.{symbol-read, symbol-sound, symbol-refl, symbol-alike, leaf-read}
 use Rattle.grammar.specs.laws.Same.{leaf-sound, leaf-refl}

@@ -8,7 +8,7 @@ use lib.ListN.{length}
 use Rattle.read_tokens.specs.Token.{Symbol, name, lake, Leaf, any, literal, class, Prefix, amp, bang, Suffix, query, asterisk, cross, Tok, symbol, leaf, pre, suf, arrow, slash, opens, closes, bad}
 use Rattle.grammar.specs.Syntax.{Choice, Sequence, Prefixed, Suffixed, Primary, Rules, one, or, first, next, bare, with, only, then, psym, term, group, rule, more}
 use Rattle.read_syntax.specs.Reader.{Res, ok, no as refused, out, bind, isArrow, begins, symBy, closeBy, primBy, sufBy, sufP, prefBy, choiceBy, seqBy, choiceP, choiceR, seqP, seqR, prefP, primP, arrowBy, ruleBy, endBy, rulesR, rulesP}
-use Rattle.read_grammar.specs.steps.Entries.{prefixOp, suffixOp}
+use Rattle.read_entries.specs.steps.Entries.{prefixOp, suffixOp}
 use Rattle.read_grammar.specs.laws.Places.{kindL, kind-some}
 
 abbrev pub isOk : {A : Type 0} → Res A → Bool

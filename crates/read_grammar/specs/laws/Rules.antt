@@ -11,7 +11,7 @@ use Rattle.grammar.specs.Exp.{Rule}
 use Rattle.grammar.specs.Syntax.{Choice, Rules, rule, more}
 use Rattle.grammar.specs.Trees.{treeC, ruled, trees}
 use Rattle.read_syntax.specs.Reader.{Res, ok, choiceP, ruleBy, rulesR, rulesP}
-use Rattle.read_grammar.specs.steps.Entries.{bodied}
+use Rattle.read_entries.specs.steps.Entries.{bodied}
 use Rattle.read_grammar.specs.steps.Lay.{St, lay, headed, layRules, Rel}
 use Rattle.read_grammar.specs.steps.Promises.{toksAt, Over, Grown, Ruled, Laid}
 use Rattle.read_grammar.specs.laws.Grows.{lay-grows}

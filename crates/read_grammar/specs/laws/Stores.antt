@@ -20,7 +20,7 @@ use Rattle.grammar_table.specs.laws.Caps.{cap-low, cap-high}
 use Rattle.grammar_table.specs.laws.Words.{sets-out, sets-in}
 use Rattle.grammar_table.specs.laws.Rows.{At, also, All}
 use Rattle.grammar_table.specs.laws.Kept.{Kept, With, at-moved, kept-all, kept-moved, seek-index, fits-also, noted}
-use Rattle.read_grammar.specs.steps.Entries.{symbolRow, symbolRecord, FitSymbol, symbolFrom, leafRecord, FitLeaf, leafFrom, pushBy, pushed, bodiedBy, bodied}
+use Rattle.read_entries.specs.steps.Entries.{symbolRow, symbolRecord, FitSymbol, symbolFrom, leafRecord, FitLeaf, leafFrom, pushBy, pushed, bodiedBy, bodied}
 use Rattle.read_grammar.specs.steps.Lay.{St, st, lastOf, push, under, joined, leafed, used, headed, lay, Fits, Told, Rel}
 use Rattle.read_grammar.specs.laws.Entries.{symbol-read, symbol-sound, symbol-refl, symbol-alike, leaf-read}
 use Rattle.grammar.specs.laws.Same.{leaf-sound, leaf-refl}

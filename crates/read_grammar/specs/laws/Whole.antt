@@ -32,7 +32,7 @@ use Rattle.grammar_table.specs.laws.Rows.{also, adds, All, all-at, in-append}
 use Rattle.grammar_table.specs.laws.Firsts.{adds-front}
 use Rattle.grammar_table.specs.laws.Kept.{Kept}
 use Rattle.read_grammar.specs.declared.Counts.{Counts}
-use Rattle.read_grammar.specs.steps.Entries.{symbolRecord, FitSymbol, symbolFrom, leafRecord, FitLeaf, leafKind, leafFrom}
+use Rattle.read_entries.specs.steps.Entries.{symbolRecord, FitSymbol, symbolFrom, leafRecord, FitLeaf, leafKind, leafFrom}
 use Rattle.read_grammar.specs.steps.Lay.{St, st, leafed, gathered, layRules, Fits, Told, Rel}
 use Rattle.read_grammar.specs.steps.Promises.{toksAt, Laid, Named, Sound, Built}
 use Rattle.read_grammar.specs.laws.Entries.{symbol-read, symbol-refl, leaf-read}

@@ -20,7 +20,7 @@ use Rattle.read_tokens.specs.laws.Again.{class-again}
 use Rattle.grammar.specs.Same.{isIn}
 use Rattle.read_syntax.specs.Machine.{State, Judged, fine, syntax, wide, step, over, longLeaf, openIn, judgeBy, judge}
 use Rattle.grammar_table.specs.laws.Rows.{also, adds, also-in, also-new, All}
-use Rattle.read_grammar.specs.steps.Entries.{FitSymbol, FitLeaf}
+use Rattle.read_entries.specs.steps.Entries.{FitSymbol, FitLeaf}
 use Rattle.read_grammar.specs.steps.Lay.{gatherBy, gathered}
 use Rattle.read_grammar.specs.laws.Symbols.{leaves}
 use Rattle.read_syntax.specs.Reader.{isArrow}

@@ -15,7 +15,7 @@ use Rattle.read_syntax.specs.Reader.{isArrow}
 use Rattle.grammar_table.specs.steps.Rows.{cap}
 use Rattle.grammar_table.specs.laws.Rows.{also, All}
 use Rattle.grammar_table.specs.laws.Kept.{Kept}
-use Rattle.read_grammar.specs.steps.Entries.{symbolRecord, FitSymbol, leafRecord, FitLeaf}
+use Rattle.read_entries.specs.steps.Entries.{symbolRecord, FitSymbol, leafRecord, FitLeaf}
 
 pub record St : Type 0 where
   pub names : List Symbol

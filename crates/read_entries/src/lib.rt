@@ -1,0 +1,3 @@
+// What is stored in a table while a text is read: a record for each symbol and each terminal, once, and the words of each expression.
+pub mod entries;
+pub mod parts;
