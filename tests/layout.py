@@ -20,7 +20,7 @@ LEFT = {
     "table numbers in definitions": 0,
     "table numbers in laws and proofs": 0,
     "places of records in code": 4,
-    "functions with too many parameters": 3,
+    "functions with too many parameters": 2,
     "long lines in code": 0,
     "long lines in definitions": 0,
     "long lines in documents": 0,

@@ -67,18 +67,17 @@ pub fn sets(mode: Mode, text: &[u8], e: usize) -> SetsOf
     let mut eps = [false; 1024];
     let mut succ: [[u64; 2]; 1024] = [[0, 0]; 1024];
     let mut alts: [[u64; 2]; 1024] = [[0, 0]; 1024];
-    let p = prepare::prepare(
-        mode,
-        text,
-        &mut t,
+    let r = prepare::load(mode, text, &mut t);
+    let made = prepare::analyse(
+        &t,
         &mut mid,
         &mut marks,
         &mut sets,
         &mut eps,
         &mut succ,
         &mut alts,
-        &mut out,
     );
+    let p = prepare::finish(r, made, &mid, &alts, &mut out);
     let c = p.counted;
     let v = c.verdict;
     if prepare::is_refused(v) {
@@ -117,18 +116,17 @@ pub fn cannot_skip(mode: Mode, text: &[u8]) -> Lakes
     let mut eps = [false; 1024];
     let mut succ: [[u64; 2]; 1024] = [[0, 0]; 1024];
     let mut alts: [[u64; 2]; 1024] = [[0, 0]; 1024];
-    let p = prepare::prepare(
-        mode,
-        text,
-        &mut t,
+    let r = prepare::load(mode, text, &mut t);
+    let made = prepare::analyse(
+        &t,
         &mut mid,
         &mut marks,
         &mut sets,
         &mut eps,
         &mut succ,
         &mut alts,
-        &mut out,
     );
+    let p = prepare::finish(r, made, &mid, &alts, &mut out);
     let c = p.counted;
     let v = c.verdict;
     if prepare::is_refused(v) {
@@ -248,18 +246,17 @@ pub fn lake_at(
     let mut eps = [false; 1024];
     let mut succ: [[u64; 2]; 1024] = [[0, 0]; 1024];
     let mut alts: [[u64; 2]; 1024] = [[0, 0]; 1024];
-    let p = prepare::prepare(
-        mode,
-        text,
-        &mut t,
+    let r = prepare::load(mode, text, &mut t);
+    let made = prepare::analyse(
+        &t,
         &mut mid,
         &mut marks,
         &mut sets,
         &mut eps,
         &mut succ,
         &mut alts,
-        &mut plain,
     );
+    let p = prepare::finish(r, made, &mid, &alts, &mut plain);
     let c = p.counted;
     let v = c.verdict;
     if prepare::is_refused(v) {

@@ -6,7 +6,7 @@ ghost use Rattle.grammar_table.specs.Table.{tableWords, symbolCount, expression
 ghost use Rattle.lake_calls.specs.steps.Marks.{LoopedAll};
 ghost use Rattle.read_tokens.specs.Bounds.{expressionBound};
 ghost use Rattle.prepare.specs.Reads.{isRefused};
-ghost use Rattle.prepare.specs.steps.Loads.{Loads, Between, Follows, Finished, Ready, Plainly};
+ghost use Rattle.prepare.specs.steps.Loads.{Loads, Between, Follows, Finished, Plainly};
 ghost use Rattle.prepare.specs.declared.Verdict.the-variants.{Refused as VerdictRefused};
 
 pub mod refusals;
@@ -205,29 +205,6 @@ pub fn finish(
         counted: r,
         rounds: made.rounds,
     }
-}
-
-// A grammar text worked out, or refused 1 to 8.
-pub fn prepare(
-    mode: Mode,
-    text: &[u8],
-    t: &mut Table,
-    mid: &mut Table,
-    marks: &mut [bool; 64],
-    sets: &mut [[u64; 2]; 1024],
-    eps: &mut [bool; 1024],
-    succ: &mut [[u64; 2]; 1024],
-    alts: &mut [[u64; 2]; 1024],
-    out: &mut Table,
-) -> Prepared
-    requires { ⌜ length (now t) ≡ tableWords ⌝ }
-    ensures { λ r.
-        ⌜ Ready mode (now (text .entry)) (now (t .exit)) (now (mid .exit)) (now (marks .exit)) (now (sets .exit)) (now (eps .exit)) (now (succ .exit))
-        (now (alts .exit)) (now (out .exit)) (r .counted) (r .rounds) ⌝ }
-{
-    let r = load(mode, text, t);
-    let made = analyse(t, mid, marks, sets, eps, succ, alts);
-    finish(r, made, mid, alts, out)
 }
 
 // The grammar and its plain form, or a refusal 1 to 8.

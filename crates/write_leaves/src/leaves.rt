@@ -107,9 +107,7 @@ pub fn leaf(t: &[u32], out: &mut [u8], write: bool, at: usize, x: usize) -> usiz
     requires { ⌜ (at ≤ most) × (x < 4294967296) ⌝ }
     ensures { λ r. ⌜ Penned write (leafText (lowLeaf (leafIn (now (t .entry)) x))) (now (out .entry)) at (now (out .exit)) r ⌝ }
 {
-    let i = grammar_table::TERMINALS_AT
-        + grammar_table::TERMINAL_WORDS * x
-        + grammar_table::CONTENT;
+    let i = records::content_at(x);
     let k = records::leaf_kind(t, x);
     if k == grammar_table::ANY {
         return bytes::emit(out, write, at, 46);
@@ -130,18 +128,18 @@ pub fn symbol(t: &[u32], out: &mut [u8], write: bool, plain: bool, at: usize, r:
     requires { ⌜ (at ≤ most) × (r < 4294967296) ⌝ }
     ensures { λ u. ⌜ Penned write (symbolText (called plain (now (t .entry)) r)) (now (out .entry)) at (now (out .exit)) u ⌝ }
 {
-    let i = grammar_table::SYMBOLS_AT + grammar_table::SYMBOL_WORDS * r;
+    let i = records::name_at(r);
     let k = records::kind(t, r);
-    let n = base_words::word(t, i + grammar_table::NAME_LENGTH);
+    let n = records::name_length(t, r);
     if k == 0 {
-        return name_bytes(t, out, write, at, i + grammar_table::NAME, n);
+        return name_bytes(t, out, write, at, i, n);
     }
     if plain {
         let a = bytes::emit4(out, write, at, 108, 97, 107, 101);
         let b = bytes::emit2(out, write, a, 95, 95);
-        return name_bytes(t, out, write, b, i + grammar_table::NAME, n);
+        return name_bytes(t, out, write, b, i, n);
     }
     let a = bytes::emit(out, write, at, 60);
-    let b = name_bytes(t, out, write, a, i + grammar_table::NAME, n);
+    let b = name_bytes(t, out, write, a, i, n);
     bytes::emit(out, write, b, 62)
 }

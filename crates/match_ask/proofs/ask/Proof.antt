@@ -117,7 +117,7 @@ way-requires c κs = (
 )
 
 way-of-requires : tie.Need-way-of-requires
-way-of-requires c κs = subst (λ (k : ℕ). k ≤ 3) (sym (c .way .ensures)) (way-few _ _ _ _ _ _ _)
+way-of-requires c κs = search needs
 
 same-length : tie.Need-same-length
 same-length c = search needs

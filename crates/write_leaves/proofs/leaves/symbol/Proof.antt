@@ -2,6 +2,9 @@
 use Prim.Native.Nat.{ℕ, _+_, _-_, _*_, _≤_, _<_}
 use mathlib.Core.Path.{_≡_, refl, sym, ap, _∙_, subst}
 use native.Mathlib.Omega.{arith}
+use mathlib.Core.List.{map}
+use Rattle.grammar_table.specs.Table.{wordsFrom}
+use Rattle.write_leaves.specs.steps.Printed.{low}
 use Rattle.write_leaves.specs.steps.Pen.{most, Penned}
 use Rattle.write_leaves.specs.laws.Pen.{on, penned-is, penned-most}
 use Rattle.write_leaves.specs.laws.Names.{name-text, plain-text, lake-text}
@@ -15,37 +18,29 @@ use Rattle.write_leaves.proofs.bytes.emit2.Reads as emit2-reads
 use Rattle.write_leaves.proofs.bytes.emit4.Reads as emit4-reads
 use Rattle.write_leaves.proofs.leaves.name_bytes.Reads as name-bytes-reads
 use Rattle.grammar_table.proofs.records.kind.Reads as kind-reads
-use Rattle.base_words.proofs.word.Reads as word-reads
+use Rattle.grammar_table.proofs.records.name_at.Reads as name-at-reads
+use Rattle.grammar_table.proofs.records.name_length.Reads as name-length-reads
 
-mul-i : tie.Need-mul-i
-mul-i c = search needs
-
-add-i : tie.Need-add-i
-add-i c = search needs
+name-at-requires : tie.Need-name-at-requires
+name-at-requires c κs = search needs
 
 kind-requires : tie.Need-kind-requires
 kind-requires c κs = search needs
 
-add-word : tie.Need-add-word
-add-word c = search needs
-
-word-requires : tie.Need-word-requires
-word-requires c κs = search needs
-
-add-name-bytes : tie.Need-add-name-bytes
-add-name-bytes c = search needs
+name-length-requires : tie.Need-name-length-requires
+name-length-requires c κs = search needs
 
 name-bytes-requires : tie.Need-name-bytes-requires
-name-bytes-requires c κs = search needs
+name-bytes-requires c κs = (c .before .before .before .before .before .before .before .pre .0, omega (arith, c .before .before .before .before .name-at .ensures, c .before .before .before .before .before .before .before .pre .1), c .before .before .name-length .ensures .1)
 
 same-length : tie.Need-same-length
 same-length c = search needs
 
 returns : tie.Need-returns
-returns c = penned-is (name-text (c .before .before .before .before .before .before .before .before .before .args .t .now)
-    (c .before .before .before .before .before .before .before .before .before .args .r) (c .before .before .before .before .before .before .kind .result)
-    (c .before .before .before .before .before .word .result) (c .before .before .before .before .before .before .kind .ensures .0) (c .before .before .before .before .before .word .ensures .0)
-    (c .before .before .before .before .before .before .before .before .before .args .plain) (c .before .before .before .before .if1 .taken)) (c .before .before .name-bytes .ensures)
+returns c = penned-is (name-text (c .before .before .before .before .before .before .before .before .before .before .args .t .now)
+    (c .before .before .before .before .before .before .before .before .before .before .args .r) (c .before .before .before .before .before .before .kind .result)
+    (c .before .before .before .before .before .name-length .result) (c .before .before .before .before .before .before .kind .ensures .0) (c .before .before .before .before .before .name-length .ensures .0)
+    (c .before .before .before .before .before .before .before .before .before .before .args .plain) (c .before .before .before .before .if1 .taken)) (penned-is (ap (λ (i : ℕ). map low (wordsFrom (c .before .before .before .before .before .before .before .before .before .before .args .t .now) i (c .before .before .before .before .before .name-length .result))) (c .before .before .before .before .before .before .before .name-at .ensures)) (c .before .before .name-bytes .ensures))
 
 emit4-requires : tie.Need-emit4-requires
 emit4-requires c κs = search needs
@@ -53,37 +48,31 @@ emit4-requires c κs = search needs
 emit2-requires : tie.Need-emit2-requires
 emit2-requires c κs = penned-most (c .before .before .before .emit4 .ensures)
 
-add-name-bytes-2 : tie.Need-add-name-bytes-2
-add-name-bytes-2 c = search needs
-
 name-bytes-requires-2 : tie.Need-name-bytes-requires-2
-name-bytes-requires-2 c κs = (penned-most (c .before .before .before .emit2 .ensures), omega arith, omega arith)
+name-bytes-requires-2 c κs = (penned-most (c .before .before .before .emit2 .ensures), omega (arith, c .before .before .before .before .before .before .before .before .before .before .before .before .before .name-at .ensures, c .before .before .before .before .before .before .before .before .before .before .before .before .before .before .before .before .pre .1), c .before .before .before .before .before .before .before .before .before .before .before .name-length .ensures .1)
 
 same-length-2 : tie.Need-same-length-2
 same-length-2 c = search needs
 
 returns-2 : tie.Need-returns-2
 returns-2 c = penned-is (plain-text
-    (c .before .before .before .before .before .before .before .before .before .before .before .before .before .before .before .before .before .before .args .t .now)
-    (c .before .before .before .before .before .before .before .before .before .before .before .before .before .before .before .before .before .before .args .r)
+    (c .before .before .before .before .before .before .before .before .before .before .before .before .before .before .before .before .before .before .before .args .t .now)
+    (c .before .before .before .before .before .before .before .before .before .before .before .before .before .before .before .before .before .before .before .args .r)
     (c .before .before .before .before .before .before .before .before .before .before .before .before .before .before .before .kind .result)
-    (c .before .before .before .before .before .before .before .before .before .before .before .before .before .before .word .result)
+    (c .before .before .before .before .before .before .before .before .before .before .before .before .before .before .name-length .result)
     (c .before .before .before .before .before .before .before .before .before .before .before .before .before .before .before .kind .ensures .0)
-    (c .before .before .before .before .before .before .before .before .before .before .before .before .before .before .word .ensures .0)
-    (c .before .before .before .before .before .before .before .before .before .before .before .before .before .before .before .before .before .before .args .plain)
+    (c .before .before .before .before .before .before .before .before .before .before .before .before .before .before .name-length .ensures .0)
+    (c .before .before .before .before .before .before .before .before .before .before .before .before .before .before .before .before .before .before .before .args .plain)
     (c .before .before .before .before .before .before .before .before .before .before .before .before .if2 .taken)
     (c .before .before .before .before .before .before .before .before .before .before .before .before .before .if1 .left)) (on (omega arith)
     (c .before .before .before .before .before .before .before .before .before .before .emit4 .ensures) (on (omega arith) (c .before .before .before .before .before .before .emit2 .ensures)
-    (c .before .before .name-bytes2 .ensures)))
+    (penned-is (ap (λ (i : ℕ). map low (wordsFrom (c .before .before .before .before .before .before .before .before .before .before .before .before .before .before .before .before .before .before .before .args .t .now) i (c .before .before .before .before .before .before .before .before .before .before .before .before .before .before .name-length .result))) (c .before .before .before .before .before .before .before .before .before .before .before .before .before .before .before .before .name-at .ensures)) (c .before .before .name-bytes2 .ensures))))
 
 emit-requires : tie.Need-emit-requires
 emit-requires c κs = search needs
 
-add-name-bytes-3 : tie.Need-add-name-bytes-3
-add-name-bytes-3 c = search needs
-
 name-bytes-requires-3 : tie.Need-name-bytes-requires-3
-name-bytes-requires-3 c κs = (penned-most (c .before .before .before .emit .ensures), omega arith, omega arith)
+name-bytes-requires-3 c κs = (penned-most (c .before .before .before .emit .ensures), omega (arith, c .before .before .before .before .before .before .before .before .before .name-at .ensures, c .before .before .before .before .before .before .before .before .before .before .before .before .pre .1), c .before .before .before .before .before .before .before .name-length .ensures .1)
 
 emit-requires-2 : tie.Need-emit-requires-2
 emit-requires-2 c κs = penned-most (c .before .before .before .name-bytes3 .ensures)
@@ -92,39 +81,34 @@ same-length-3 : tie.Need-same-length-3
 same-length-3 c = search needs
 
 returns-3 : tie.Need-returns-3
-returns-3 c = penned-is (lake-text (c .before .before .before .before .before .before .before .before .before .before .before .before .before .before .before .before .before .before .args .t .now)
-    (c .before .before .before .before .before .before .before .before .before .before .before .before .before .before .before .before .before .before .args .r)
+returns-3 c = penned-is (lake-text (c .before .before .before .before .before .before .before .before .before .before .before .before .before .before .before .before .before .before .before .args .t .now)
+    (c .before .before .before .before .before .before .before .before .before .before .before .before .before .before .before .before .before .before .before .args .r)
     (c .before .before .before .before .before .before .before .before .before .before .before .before .before .before .before .kind .result)
-    (c .before .before .before .before .before .before .before .before .before .before .before .before .before .before .word .result)
+    (c .before .before .before .before .before .before .before .before .before .before .before .before .before .before .name-length .result)
     (c .before .before .before .before .before .before .before .before .before .before .before .before .before .before .before .kind .ensures .0)
-    (c .before .before .before .before .before .before .before .before .before .before .before .before .before .before .word .ensures .0)
-    (c .before .before .before .before .before .before .before .before .before .before .before .before .before .before .before .before .before .before .args .plain)
+    (c .before .before .before .before .before .before .before .before .before .before .before .before .before .before .name-length .ensures .0)
+    (c .before .before .before .before .before .before .before .before .before .before .before .before .before .before .before .before .before .before .before .args .plain)
     (c .before .before .before .before .before .before .before .before .before .before .before .before .if2 .left)
     (c .before .before .before .before .before .before .before .before .before .before .before .before .before .if1 .left)) (on (omega arith)
-    (c .before .before .before .before .before .before .before .before .before .before .emit .ensures) (on (omega arith) (c .before .before .before .before .before .before .name-bytes3 .ensures)
+    (c .before .before .before .before .before .before .before .before .before .before .emit .ensures) (on (omega arith) (penned-is (ap (λ (i : ℕ). map low (wordsFrom (c .before .before .before .before .before .before .before .before .before .before .before .before .before .before .before .before .before .before .before .args .t .now) i (c .before .before .before .before .before .before .before .before .before .before .before .before .before .before .name-length .result))) (c .before .before .before .before .before .before .before .before .before .before .before .before .before .before .before .before .name-at .ensures)) (c .before .before .before .before .before .before .name-bytes3 .ensures))
     (c .before .before .emit3 .ensures)))
 
 pub symbol-spec : {M : Type 1} → statement M
 symbol-spec =
     tie.close
     (tie.spec
-    mul-i
-    add-i
+    name-at-requires
     kind-requires
-    add-word
-    word-requires
-    add-name-bytes
+    name-length-requires
     name-bytes-requires
     same-length
     returns
     emit4-requires
     emit2-requires
-    add-name-bytes-2
     name-bytes-requires-2
     same-length-2
     returns-2
     emit-requires
-    add-name-bytes-3
     name-bytes-requires-3
     emit-requires-2
     same-length-3
