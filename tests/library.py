@@ -220,7 +220,7 @@ def check_worst(target, others):
     bad += sum(mine != theirs or mine in ("broken", "unreadable") for mine, theirs in zip(got, others[0])) + abs(len(got) - len(questions))
     if bad:
         wrong(f"{target.name}: {bad} answers on the worst grammars are broken or others than expected")
-    used = f", stack {int(target.said):,} bytes" if "Node" in target.name else ", two threads at once, 640 KiB of stack each"
+    used = f", stack {int(target.said):,} bytes" if "Node" in target.name else ", two threads at once, 576 KiB of stack each"
     print(f"library: {target.name}: {len(questions)} questions on the worst grammars, {bad} wrong{used}")
 
 

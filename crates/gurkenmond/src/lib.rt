@@ -203,9 +203,8 @@ pub fn match_input(
         ⌜ SaysMatch r (now (cells .exit)) (now (nodes .exit))
         (matchOf mode (now (text .entry)) (now (input .entry)) (now (cells .entry)) (now (nodes .entry))) ⌝ }
 {
-    let mut t: Table = [0; grammar_table::WORDS];
     let mut plain: Table = [0; grammar_table::WORDS];
-    let c = prepare::plainly(mode, text, &mut t, &mut plain);
+    let c = prepare::plain_only(mode, text, &mut plain);
     let v = c.verdict;
     if prepare::is_refused(v) {
         return match_run::not_matched(v);

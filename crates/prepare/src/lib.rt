@@ -6,7 +6,9 @@ ghost use Rattle.grammar_table.specs.Table.{tableWords, symbolCount, expression
 ghost use Rattle.lake_calls.specs.steps.Marks.{LoopedAll};
 ghost use Rattle.read_tokens.specs.Bounds.{expressionBound};
 ghost use Rattle.prepare.specs.Reads.{isRefused};
-ghost use Rattle.prepare.specs.steps.Loads.{Loads, Between, Follows, Finished, Plainly};
+ghost use Rattle.read_syntax.specs.steps.Found.{found};
+ghost use Rattle.prepare.specs.steps.Scanned.{scanned};
+ghost use Rattle.prepare.specs.steps.Loads.{Loads, Between, Follows, Finished, Plainly, PlainOnly};
 ghost use Rattle.prepare.specs.declared.Verdict.the-variants.{Refused as VerdictRefused};
 
 pub mod refusals;
@@ -51,15 +53,11 @@ fn expression_bound(mode: Mode) -> usize
     }
 }
 
-// Refusals 1 to 6, or the counts of a grammar, which the table then holds.
-pub fn load(mode: Mode, text: &[u8], t: &mut Table) -> Counted
-    requires { ⌜ length (now t) ≡ tableWords ⌝ }
+// The counts of a grammar that 1 to 5 let through, which the table then holds, or refusal 6.
+fn gather(mode: Mode, text: &[u8], t: &mut Table) -> Counted
+    requires { ⌜ (length (now t) ≡ tableWords) × (found (scanned mode (now text)) .number ≡ 0) ⌝ }
     ensures { λ r. ⌜ Loads mode (now (text .entry)) (now (t .exit)) r ⌝ }
 {
-    let f = refusals::refused(mode, text);
-    if f.number != 0 {
-        return refusal(f.number, f.place);
-    }
     let c = read_grammar::build(mode, text, t);
     if 64 < c.symbols {
         return refusal(6, 1);
@@ -76,6 +74,18 @@ pub fn load(mode: Mode, text: &[u8], t: &mut Table) -> Counted
         expressions: c.expressions,
         verdict: Verdict::Accepted,
     }
+}
+
+// Refusals 1 to 6, or the counts of a grammar, which the table then holds.
+pub fn load(mode: Mode, text: &[u8], t: &mut Table) -> Counted
+    requires { ⌜ length (now t) ≡ tableWords ⌝ }
+    ensures { λ r. ⌜ Loads mode (now (text .entry)) (now (t .exit)) r ⌝ }
+{
+    let f = refusals::refused(mode, text);
+    if f.number != 0 {
+        return refusal(f.number, f.place);
+    }
+    gather(mode, text, t)
 }
 
 // How many expressions the intermediate grammar has, and how many rounds ALT took.
@@ -207,12 +217,17 @@ pub fn finish(
     }
 }
 
-// The grammar and its plain form, or a refusal 1 to 8.
+// The grammar and its plain form, or a refusal 1 to 8. Refusals 1 to 5 are asked for here and in `load`: what two places call has a frame of its own, which is
+// gone when the grammar is gathered.
 pub fn plainly(mode: Mode, text: &[u8], t: &mut Table, out: &mut Table) -> Counted
     requires { ⌜ length (now t) ≡ tableWords ⌝ }
     ensures { λ r. ⌜ Plainly mode (now (text .entry)) (now (t .exit)) (now (out .exit)) r ⌝ }
 {
-    let r = load(mode, text, t);
+    let f = refusals::refused(mode, text);
+    if f.number != 0 {
+        return refusal(f.number, f.place);
+    }
+    let r = gather(mode, text, t);
     let v = r.verdict;
     if is_refused(v) {
         return r;
@@ -234,4 +249,12 @@ pub fn plainly(mode: Mode, text: &[u8], t: &mut Table, out: &mut Table) -> Count
     );
     let p = finish(r, made, &mid, &alts, out);
     p.counted
+}
+
+// The same for the plain form alone: the grammar's own table is needed no longer.
+pub fn plain_only(mode: Mode, text: &[u8], out: &mut Table) -> Counted
+    ensures { λ r. ⌜ PlainOnly mode (now (text .entry)) (now (out .exit)) r ⌝ }
+{
+    let mut t: Table = [0; grammar_table::WORDS];
+    plainly(mode, text, &mut t, out)
 }

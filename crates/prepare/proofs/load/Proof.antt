@@ -1,15 +1,13 @@
 -- `prepare::load` meets its contract. Assumes nothing.
-use Prim.Native.Nat.{ℕ, _+_, _-_, _*_, _≤_, _<_}
-use mathlib.Core.Path.{_≡_, refl, sym, ap, _∙_, subst}
-use native.Mathlib.Omega.{arith}
-use Rattle.prepare.specs.laws.Loads.{early, clean-by, not-long, six-one, six-two, six-three, loads-refused, loads-accepted}
+use mathlib.Core.Path.{sym, ap, _∙_}
+use Rattle.read_syntax.specs.declared.syntax.Found.{Found}
+use Rattle.prepare.specs.laws.Loads.{early, loads-refused}
 use borrow.Author.Needs.{needs}
 use Rattle.prepare.proofs.load.Statement.{statement}
 use Rattle.prepare.proofs.load.Tie as tie
 use Rattle.prepare.proofs.load.Reads as reads
 use Rattle.prepare.proofs.load.Lts as lts
-use Rattle.read_grammar.proofs.build.Reads as build-reads
-use Rattle.prepare.proofs.expression_bound.Reads as expression-bound-reads
+use Rattle.prepare.proofs.gather.Reads as gather-reads
 use Rattle.prepare.proofs.refusal.Reads as refusal-reads
 use Rattle.prepare.proofs.refusals.refused.Reads as refused-reads
 
@@ -22,46 +20,11 @@ refusal-requires c κs = search needs
 returns : tie.Need-returns
 returns c = loads-refused (c .refusal .ensures) (early (c .before .before .before .before .before .args .mode) (c .before .before .before .before .before .args .text .now) (c .before .before .before .refused .result) (c .before .before .before .refused .ensures) (c .before .if1 .taken))
 
-build-requires : tie.Need-build-requires
-build-requires c κs = not-long (c .before .before .before .before .before .args .mode) (c .before .before .before .before .before .args .text .now) (clean-by (c .before .before .before .before .before .args .mode) (c .before .before .before .before .before .args .text .now) (c .before .before .before .refused .result) (c .before .before .before .refused .ensures) (c .before .if1 .left))
-
-refusal-requires-2 : tie.Need-refusal-requires-2
-refusal-requires-2 c κs = search needs
+gather-requires : tie.Need-gather-requires
+gather-requires c κs = (c .before .before .before .before .before .pre, sym (ap (λ (f : Found). f .number) (c .before .before .before .refused .ensures)) ∙ c .before .if1 .left)
 
 returns-2 : tie.Need-returns-2
-returns-2 c = loads-refused (c .refusal2 .ensures) (six-one (c .before .before .before .before .before .before .before .before .before .args .mode) (c .before .before .before .before .before .before .before .before .before .args .text .now) _ _ (clean-by (c .before .before .before .before .before .before .before .before .before .args .mode) (c .before .before .before .before .before .before .before .before .before .args .text .now) (c .before .before .before .before .before .before .before .refused .result) (c .before .before .before .before .before .before .before .refused .ensures) (c .before .before .before .before .before .if1 .left)) (c .before .before .before .build .result) (c .before .before .before .build .ensures) (c .before .before .before .before .before .before .before .before .before .pre) (c .before .if2 .taken))
-
-refusal-requires-3 : tie.Need-refusal-requires-3
-refusal-requires-3 c κs = search needs
-
-returns-3 : tie.Need-returns-3
-returns-3 c = loads-refused (c .refusal3 .ensures) (six-two (c .before .before .before .before .before .before .before .before .before .before .before .args .mode) (c .before .before .before .before .before .before .before .before .before .before .before .args .text .now) _ _ (clean-by (c .before .before .before .before .before .before .before .before .before .before .before .args .mode) (c .before .before .before .before .before .before .before .before .before .before .before .args .text .now) (c .before .before .before .before .before .before .before .before .before .refused .result) (c .before .before .before .before .before .before .before .before .before .refused .ensures) (c .before .before .before .before .before .before .before .if1 .left)) (c .before .before .before .before .before .build .result) (c .before .before .before .before .before .build .ensures) (c .before .before .before .before .before .before .before .before .before .before .before .pre) (omega (arith, c .before .before .before .if2 .left)) (c .before .if3 .taken))
-
-expression-bound-requires : tie.Need-expression-bound-requires
-expression-bound-requires c κs = search needs
-
-refusal-requires-4 : tie.Need-refusal-requires-4
-refusal-requires-4 c κs = search needs
-
-returns-4 : tie.Need-returns-4
-returns-4 c = loads-refused (c .refusal4 .ensures) (six-three (c .before .before .before .before .before .before .before .before .before .before .before .before .before .before .args .mode) (c .before .before .before .before .before .before .before .before .before .before .before .before .before .before .args .text .now) _ _ (clean-by (c .before .before .before .before .before .before .before .before .before .before .before .before .before .before .args .mode) (c .before .before .before .before .before .before .before .before .before .before .before .before .before .before .args .text .now) (c .before .before .before .before .before .before .before .before .before .before .before .before .refused .result) (c .before .before .before .before .before .before .before .before .before .before .before .before .refused .ensures) (c .before .before .before .before .before .before .before .before .before .before .if1 .left)) (c .before .before .before .before .before .before .before .before .build .result) (c .before .before .before .before .before .before .before .before .build .ensures) (c .before .before .before .before .before .before .before .before .before .before .before .before .before .before .pre) (omega (arith, c .before .before .before .before .before .before .if2 .left)) (omega (arith, c .before .before .before .before .if3 .left)) (omega (arith, c .before .if4 .taken, c .before .before .before .expression-bound .ensures)))
-
-returns-5 : tie.Need-returns-5
-returns-5 c = loads-accepted (clean-by (c .before .before .before .before .before .before .before .before .before .before .before .before .before .args .mode) (c .before .before .before .before .before .before .before .before .before .before .before .before .before .args .text .now) (c .before .before .before .before .before .before .before .before .before .before .before .refused .result) (c .before .before .before .before .before .before .before .before .before .before .before .refused .ensures) (c .before .before .before .before .before .before .before .before .before .if1 .left)) (c .before .before .before .before .before .before .before .build .ensures) (c .before .before .before .before .before .before .before .before .before .before .before .before .before .pre) (omega (arith, c .before .before .before .before .before .if2 .left)) (omega (arith, c .before .before .before .if3 .left)) (omega (arith, c .if4 .left, c .before .before .expression-bound .ensures))
+returns-2 c = c .gather .ensures
 
 pub load-spec : {M : Type 1} → statement M
-load-spec =
-    tie.close
-    (tie.spec
-    refused-requires
-    refusal-requires
-    returns
-    build-requires
-    refusal-requires-2
-    returns-2
-    refusal-requires-3
-    returns-3
-    expression-bound-requires
-    refusal-requires-4
-    returns-4
-    returns-5)
+load-spec = tie.close (tie.spec refused-requires refusal-requires returns gather-requires returns-2)

@@ -1,5 +1,9 @@
 -- `prepare::plainly` meets its contract. Assumes nothing.
-use mathlib.Core.Path.{_≡_, sym, _∙_}
+use mathlib.Core.Path.{_≡_, sym, ap, _∙_}
+use Rattle.read_syntax.specs.declared.syntax.Found.{Found}
+use Rattle.prepare.specs.declared.Counted.{Counted}
+use Rattle.prepare.specs.Reads.{isRefused}
+use Rattle.prepare.specs.laws.Loads.{early, loads-refused}
 use Rattle.prepare.specs.laws.Reads.{first-six, refused-plainly, as-plainly}
 use borrow.Author.Needs.{needs}
 use Rattle.prepare.proofs.plainly.Statement.{statement}
@@ -8,17 +12,28 @@ use Rattle.prepare.proofs.plainly.Reads as reads
 use Rattle.prepare.proofs.plainly.Lts as lts
 use Rattle.prepare.proofs.analyse.Reads as analyse-reads
 use Rattle.prepare.proofs.finish.Reads as finish-reads
+use Rattle.prepare.proofs.gather.Reads as gather-reads
 use Rattle.prepare.proofs.is_refused.Reads as is-refused-reads
-use Rattle.prepare.proofs.load.Reads as load-reads
+use Rattle.prepare.proofs.refusal.Reads as refusal-reads
+use Rattle.prepare.proofs.refusals.refused.Reads as refused-reads
 
-load-requires : tie.Need-load-requires
-load-requires c κs = search needs
+refused-requires : tie.Need-refused-requires
+refused-requires c κs = search needs
+
+refusal-requires : tie.Need-refusal-requires
+refusal-requires c κs = search needs
+
+returns : tie.Need-returns
+returns c = refused-plainly (c .before .before .before .before .before .args .mode) (c .before .before .before .before .before .args .text .now) _ _ (c .refusal .result) (ap (λ (r : Counted). isRefused (r .verdict)) (c .refusal .ensures)) (first-six (c .before .before .before .before .before .args .mode) (c .before .before .before .before .before .args .text .now) (c .before .before .before .before .before .args .t .now) (c .refusal .result) (loads-refused (c .refusal .ensures) (early (c .before .before .before .before .before .args .mode) (c .before .before .before .before .before .args .text .now) (c .before .before .before .refused .result) (c .before .before .before .refused .ensures) (c .before .if1 .taken))) (ap (λ (r : Counted). isRefused (r .verdict)) (c .refusal .ensures)))
+
+gather-requires : tie.Need-gather-requires
+gather-requires c κs = (c .before .before .before .before .before .pre, sym (ap (λ (f : Found). f .number) (c .before .before .before .refused .ensures)) ∙ c .before .if1 .left)
 
 is-refused-requires : tie.Need-is-refused-requires
 is-refused-requires c κs = search needs
 
-returns : tie.Need-returns
-returns c = refused-plainly (c .before .before .before .before .before .args .mode) (c .before .before .before .before .before .args .text .now) _ _ (c .before .before .load .result) (sym (c .before .is-refused .ensures) ∙ c .if1 .taken) (first-six (c .before .before .before .before .before .args .mode) (c .before .before .before .before .before .args .text .now) _ (c .before .before .load .result) (c .before .before .load .ensures) (sym (c .before .is-refused .ensures) ∙ c .if1 .taken))
+returns-2 : tie.Need-returns-2
+returns-2 c = refused-plainly (c .before .before .before .before .before .before .before .before .args .mode) (c .before .before .before .before .before .before .before .before .args .text .now) _ _ (c .before .before .gather .result) (sym (c .before .is-refused .ensures) ∙ c .if2 .taken) (first-six (c .before .before .before .before .before .before .before .before .args .mode) (c .before .before .before .before .before .before .before .before .args .text .now) _ (c .before .before .gather .result) (c .before .before .gather .ensures) (sym (c .before .is-refused .ensures) ∙ c .if2 .taken))
 
 analyse-requires : tie.Need-analyse-requires
 analyse-requires c κs = search needs
@@ -26,10 +41,19 @@ analyse-requires c κs = search needs
 finish-requires : tie.Need-finish-requires
 finish-requires c κs = search needs
 
-returns-2 : tie.Need-returns-2
-returns-2 c = as-plainly (c .before .finish .ensures .ready (c .before .before .before .before .before .before .before .before .before .before .before .before .before .before .before .before .before .before .args .mode) (c .before .before .before .before .before .before .before .before .before .before .before .before .before .before .before .before .before .before .args .text .now) _ _ _ _ _ (c .before .before .before .before .before .before .before .before .before .before .before .before .before .before .before .load .ensures) (c .before .before .before .before .before .analyse .ensures))
+returns-3 : tie.Need-returns-3
+returns-3 c = as-plainly (c .before .finish .ensures .ready (c .before .before .before .before .before .before .before .before .before .before .before .before .before .before .before .before .before .before .before .before .before .args .mode) (c .before .before .before .before .before .before .before .before .before .before .before .before .before .before .before .before .before .before .before .before .before .args .text .now) _ _ _ _ _ (c .before .before .before .before .before .before .before .before .before .before .before .before .before .before .before .gather .ensures) (c .before .before .before .before .before .analyse .ensures))
 
 pub plainly-spec : {M : Type 1} → statement M
 plainly-spec =
     tie.close
-    (tie.spec load-requires is-refused-requires returns analyse-requires finish-requires returns-2)
+    (tie.spec
+    refused-requires
+    refusal-requires
+    returns
+    gather-requires
+    is-refused-requires
+    returns-2
+    analyse-requires
+    finish-requires
+    returns-3)

@@ -89,3 +89,9 @@ pub record Plainly (m : Mode) (s t out : List ℕ) (r : Counted) : Type 0 where
   pub clear : isRefused (r .verdict) ≡ false → refuses m s ≡ none
   pub table : isRefused (r .verdict) ≡ false → Holds t (numbered (rulesOf m s))
   pub plain : isRefused (r .verdict) ≡ false → Holds out (withBodies (numbered (rulesOf m s)) (plainOf (numbered (rulesOf m s))))
+
+-- the same of the table of the plain form alone
+pub record PlainOnly (m : Mode) (s out : List ℕ) (r : Counted) : Type 0 where
+  pub answer : r ≡ readOf m s
+  pub clear : isRefused (r .verdict) ≡ false → refuses m s ≡ none
+  pub plain : isRefused (r .verdict) ≡ false → Holds out (withBodies (numbered (rulesOf m s)) (plainOf (numbered (rulesOf m s))))
