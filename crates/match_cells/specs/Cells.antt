@@ -9,13 +9,13 @@ use Rattle.match_eval.specs.Eval.{bodyOf, ev}
 
 module _ (bodies : List (Exp ℕ)) (s : List ℕ) where
   -- what symbol r takes at p, by the cells cs
-  unfoldable pub bodyAt : List ℕ → ℕ → ℕ → ℕ
-  bodyAt cs r p = ev s cs (length bodies) (bodyOf bodies r) p
+  unfoldable pub bodyTakes : List ℕ → ℕ → ℕ → ℕ
+  bodyTakes cs r p = ev s cs (length bodies) (bodyOf bodies r) p
 
   -- the cells after the symbols of a list have been stored at p
   unfoldable pub rowOf : ℕ → List ℕ → List ℕ → List ℕ
   rowOf p [] cs = cs
-  rowOf p (r ∷ rs) cs = rowOf p rs (set cs (p * length bodies + r) (bodyAt cs r p))
+  rowOf p (r ∷ rs) cs = rowOf p rs (set cs (p * length bodies + r) (bodyTakes cs r p))
 
   -- the cells after the places below the first number have been stored, the last first
   unfoldable pub fillOf : ℕ → List ℕ → List ℕ → List ℕ

@@ -4,7 +4,7 @@ ghost use mathlib.Core.Path.{_≡_};
 ghost use lib.ListN.{getD, length, set};
 ghost use Rattle.grammar_table.specs.Table.{wordsFrom, symbolCount};
 ghost use Rattle.grammar_table.specs.Trees.{bodiesOf};
-ghost use Rattle.match_cells.specs.Cells.{bodyAt, rowOf};
+ghost use Rattle.match_cells.specs.Cells.{bodyTakes, rowOf};
 ghost use Rattle.match_eval.specs.steps.Firsts.{byteAt, presetOf};
 ghost use Rattle.match_eval.specs.steps.Memory.{Fresh, Knows, Roomy};
 ghost use Rattle.match_cells.specs.steps.Runs.{fillBy, FilledBy, Fills};
@@ -33,7 +33,7 @@ fn store(t: &[u32], s: &[u8], cells: &mut [u32], mem: &[u32], n: usize, r: usize
         × Knows (now t) (now s) (now cells) n (now mem) (p + 1) p ⌝ }
     ensures { λ _. ⌜ (now (cells .exit)
         ≡ set (now (cells .entry)) (p * length (bodiesOf (now (t .entry))) + r)
-        (bodyAt (bodiesOf (now (t .entry))) (now (s .entry)) (now (cells .entry)) r p))
+        (bodyTakes (bodiesOf (now (t .entry))) (now (s .entry)) (now (cells .entry)) r p))
         × Knows (now (t .entry)) (now (s .entry)) (now (cells .exit)) n (now (mem .entry)) (p + 1) p ⌝ }
 {
     let x = grammar_table::records::body(t, r);

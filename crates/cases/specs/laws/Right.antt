@@ -26,7 +26,7 @@ use Rattle.lake_sets.specs.Flows.{overParts, given, leastBy}
 use Rattle.lake_step_one.specs.Intermediate.{waterIn, bodiesBy, intermediate}
 use Rattle.lake_calls.specs.Calls.{firstCalls, callsOf, allCalled, reach, loopFrom, loop, ranksOf, ofRank, orderFrom, order}
 use Rattle.lake_step_two.specs.Plain.{nonterminalsIn, terminalsIn, alternatives, plainFrom, plainBodies, sizes, rulesBy, plainRules}
-use Rattle.match_cells.specs.Cells.{bodyAt, rowOf, fillOf, cells}
+use Rattle.match_cells.specs.Cells.{bodyTakes, rowOf, fillOf, cells}
 use Rattle.match_eval.specs.Eval.{stands, leafAt, cellAt, joinOf, seqOf, altOf, stepOf, rep, plusOf, optOf, aheadOf, neverOf, ev}
 use Rattle.match_list.specs.Nodes.{seqN, altN, optN, stepN, repN, walkOf, nodeIf, nodesOf, levels, listOf, listingOf, inWords, putNode, written}
 use Rattle.match_list.specs.Nodes.{wordsOf, roomOf, nodeAt, nodesAt, soundAt, nodeText}
@@ -49,7 +49,7 @@ unfolding cases answered text-bytes oneOf ranges kindAt textBound nameBound open
     placeOf closeBy primBy sufBy prefBy choiceBy arrowBy ruleBy rulesR rulesP choiceP choiceR seqP seqR prefP primP startsWith reserved second leftsIn
     unruled tooMany rulesFrom refusesText rulesOf settle analysed analysis setsAt blockedBy cannotSkipBelow cannotSkip markRound sets-marksOf
     beginningsFrom beginnings overParts given leastBy waterIn bodiesBy intermediate firstCalls callsOf allCalled reach loopFrom loop ranksOf ofRank
-    orderFrom order nonterminalsIn terminalsIn alternatives plainFrom plainBodies sizes rulesBy plainRules bodyAt rowOf fillOf cells stands leafAt
+    orderFrom order nonterminalsIn terminalsIn alternatives plainFrom plainBodies sizes rulesBy plainRules bodyTakes rowOf fillOf cells stands leafAt
     cellAt joinOf seqOf altOf stepOf rep plusOf optOf aheadOf neverOf ev seqN altN optN stepN repN walkOf nodeIf nodesOf levels listOf listingOf
     inWords putNode written wordsOf roomOf nodeAt nodesAt soundAt nodeText byteText litChar classChar litChars writing-runs runText runsText leafText
     symbolText exprText ruleText text verdictOf readOf setsOf cannotSkipOf matchOf noneMatches wayNumber wayIn lakeOf writeOwnOf writePlainOf

@@ -13,7 +13,7 @@ use lib.ListN.{getD, length, set, length-set}
 use lib.Seq.{getD-set-same, getD-set-other}
 use Rattle.grammar.specs.Exp.{Exp, sym}
 use Rattle.match_eval.specs.Eval.{bodyOf}
-use Rattle.match_cells.specs.Cells.{bodyAt, rowOf, fillOf, cells}
+use Rattle.match_cells.specs.Cells.{bodyTakes, rowOf, fillOf, cells}
 use Rattle.match_cells.specs.laws.First.{Markings, In, Ordered}
 use Rattle.match_cells.specs.laws.Sound.{Means, sym-is}
 use Rattle.match_cells.specs.laws.Agrees.{Known, After, FirstAt, ev-right, Right}
@@ -38,7 +38,7 @@ module _ (bodies : List (Exp ℕ)) (s : List ℕ) where
   pub row-length : (order cs : List ℕ) (p : ℕ) → length (rowOf bodies s p order cs) ≡ length cs
   unfolding rowOf
   row-length [] cs p = refl
-  row-length (r ∷ rs) cs p = row-length rs (set cs (p * length bodies + r) (bodyAt bodies s cs r p)) p ∙ length-set cs (p * length bodies + r) (bodyAt bodies s cs r p)
+  row-length (r ∷ rs) cs p = row-length rs (set cs (p * length bodies + r) (bodyTakes bodies s cs r p)) p ∙ length-set cs (p * length bodies + r) (bodyTakes bodies s cs r p)
 
   pub fill-length : (order : List ℕ) (p : ℕ) (cs : List ℕ) → length (fillOf bodies s p order cs) ≡ length cs
   unfolding fillOf
@@ -46,8 +46,8 @@ module _ (bodies : List (Exp ℕ)) (s : List ℕ) where
   fill-length order (suc p) cs = fill-length order p (rowOf bodies s p order cs) ∙ row-length order cs p
 
   module _ (m : ℕ → Bool) (marked : Markings m bodies) where
-    body-right : (cs : List ℕ) (p r : ℕ) → p ≤ length s → After bodies s cs p → FirstAt bodies s m cs (bodyOf bodies r) p → Means bodies s (sym r) p (bodyAt bodies s cs r p)
-    unfolding bodyAt
+    body-right : (cs : List ℕ) (p r : ℕ) → p ≤ length s → After bodies s cs p → FirstAt bodies s m cs (bodyOf bodies r) p → Means bodies s (sym r) p (bodyTakes bodies s cs r p)
+    unfolding bodyTakes
     body-right cs p r h a f = sym-is bodies s r p _ (ev-right bodies s m marked cs r p h a f)
 
     pub row-right : (order done : List ℕ) (p : ℕ) (cs : List ℕ) → p ≤ length s → Room cs → After bodies s cs p
@@ -57,20 +57,20 @@ module _ (bodies : List (Exp ℕ)) (s : List ℕ) where
     row-right [] done p cs h room a d o = (a, λ x l. d x (o x l) l)
     row-right (r ∷ rs) done p cs h room a d o =
         row-right rs (r ∷ done) p next h
-        (rw (length-set cs (p * length bodies + r) (bodyAt bodies s cs r p)) room)
-        (λ q x l i j. kept cs (p * length bodies + r) (bodyAt bodies s cs r p) q x (λ e. omega (arith, far (length bodies) p q r x l (o .0))) (a q x l i j))
+        (rw (length-set cs (p * length bodies + r) (bodyTakes bodies s cs r p)) room)
+        (λ q x l i j. kept cs (p * length bodies + r) (bodyTakes bodies s cs r p) q x (λ e. omega (arith, far (length bodies) p q r x l (o .0))) (a q x l i j))
         known
         (o .2)
       where
         next : List ℕ
-        next = set cs (p * length bodies + r) (bodyAt bodies s cs r p)
+        next = set cs (p * length bodies + r) (bodyTakes bodies s cs r p)
 
         now : Known bodies s next p r
-        now = stored cs (bodyAt bodies s cs r p) p r h (o .0) room (body-right cs p r h a (λ x c l. d x (o .1 x c l) l))
+        now = stored cs (bodyTakes bodies s cs r p) p r h (o .0) room (body-right cs p r h a (λ x c l. d x (o .1 x c l) l))
 
         other : (x : ℕ) → Dec (x ≡ r) → In x done → x < length bodies → Known bodies s next p x
         other x (yes e) i l = subst (λ (y : ℕ). Known bodies s next p y) (flip e) now
-        other x (no f) i l = kept cs (p * length bodies + r) (bodyAt bodies s cs r p) p x (λ e. f (omega arith)) (d x i l)
+        other x (no f) i l = kept cs (p * length bodies + r) (bodyTakes bodies s cs r p) p x (λ e. f (omega arith)) (d x i l)
 
         known : (x : ℕ) → In x (r ∷ done) → x < length bodies → Known bodies s next p x
         known x (inl e) l = subst (λ (y : ℕ). Known bodies s next p y) (flip e) now
@@ -100,8 +100,8 @@ module _ (bodies : List (Exp ℕ)) (s : List ℕ) where
     unfolding rowOf
     row-frame [] done p cs i h l o = refl
     row-frame (r ∷ rs) done p cs i h l o =
-        row-frame rs (r ∷ done) p (set cs (p * length bodies + r) (bodyAt bodies s cs r p)) i h l (o .2)
-        ∙ getD-set-other cs (p * length bodies + r) i (bodyAt bodies s cs r p) 0 (λ e. omega (arith, far (length bodies) p (length s + 1) r 0 (omega arith) (o .0)))
+        row-frame rs (r ∷ done) p (set cs (p * length bodies + r) (bodyTakes bodies s cs r p)) i h l (o .2)
+        ∙ getD-set-other cs (p * length bodies + r) i (bodyTakes bodies s cs r p) 0 (λ e. omega (arith, far (length bodies) p (length s + 1) r 0 (omega arith) (o .0)))
 
     fill-frame : (order : List ℕ) → Ordered m bodies [] order → (p : ℕ) (cs : List ℕ) (i : ℕ) → p ≤ length s + 1 → (length s + 1) * length bodies ≤ i
         → getD (fillOf bodies s p order cs) i 0 ≡ getD cs i 0

@@ -16,7 +16,7 @@ use Rattle.grammar.specs.Exp.{Exp, sym}
 use Rattle.match_meaning.specs.laws.One.{one}
 use Rattle.grammar_table.specs.Table.{symbolCount, symbolWord}
 use Rattle.grammar_table.specs.Trees.{bodiesOf}
-use Rattle.match_cells.specs.Cells.{bodyAt, rowOf, fillOf, cells}
+use Rattle.match_cells.specs.Cells.{bodyTakes, rowOf, fillOf, cells}
 use Rattle.match_cells.specs.laws.First.{Markings, Ordered}
 use Rattle.match_cells.specs.laws.Sound.{plainly, Means}
 use Rattle.match_cells.specs.laws.Agrees.{Known, After, Right}

@@ -8,7 +8,7 @@ use Rattle.grammar.specs.Exp.{Exp}
 use Rattle.grammar_table.specs.Table.{symbolWord, symbolCount, wordsFrom}
 use Rattle.grammar_table.specs.laws.Lists.{up-length, up-at}
 use Rattle.match_eval.specs.Eval.{nowhere, bodyOf, ev}
-use Rattle.match_cells.specs.Cells.{bodyAt, rowOf, fillOf, cells}
+use Rattle.match_cells.specs.Cells.{bodyTakes, rowOf, fillOf, cells}
 use Rattle.grammar_table.specs.Trees.{treeOf, bodiesOf}
 use Rattle.grammar_table.specs.laws.Leaves.{words-more}
 
@@ -24,8 +24,8 @@ module _ (t : List ℕ) where
   module _ (s : List ℕ) (n : ℕ) (e : n ≡ symbolCount t) where
     -- one cell
     pub stored : (cs : List ℕ) (r p b v : ℕ) → r < n → b ≡ symbolWord t r 1 → v ≡ ev s cs n (treeOf t b) p
-        → set cs (p * n + r) v ≡ set cs (p * length (bodiesOf t) + r) (bodyAt (bodiesOf t) s cs r p)
-    unfolding bodyAt
+        → set cs (p * n + r) v ≡ set cs (p * length (bodiesOf t) + r) (bodyTakes (bodiesOf t) s cs r p)
+    unfolding bodyTakes
     stored cs r p b v l q u =
         let z : n ≡ length (bodiesOf t) = e ∙ sym bodies-length in
         let w : v ≡ ev s cs (length (bodiesOf t)) (bodyOf (bodiesOf t) r) p =
@@ -34,7 +34,7 @@ module _ (t : List ℕ) where
 
   module _ (s : List ℕ) (p : ℕ) (order : List ℕ) where
     -- one symbol of a row
-    pub row-more : (j n : ℕ) (cs new : List ℕ) → j < n → new ≡ set cs (p * length (bodiesOf t) + getD order j 0) (bodyAt (bodiesOf t) s cs (getD order j 0) p)
+    pub row-more : (j n : ℕ) (cs new : List ℕ) → j < n → new ≡ set cs (p * length (bodiesOf t) + getD order j 0) (bodyTakes (bodiesOf t) s cs (getD order j 0) p)
         → rowOf (bodiesOf t) s p (wordsFrom order (j + 1) (n - (j + 1))) new ≡ rowOf (bodiesOf t) s p (wordsFrom order j (n - j)) cs
     unfolding rowOf
     row-more j n cs new l q =

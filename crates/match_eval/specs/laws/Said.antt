@@ -1,7 +1,7 @@
 -- What is said where a byte stands: the bits of the memory, read and added. Assumes nothing.
 use Prim.Native.Nat.{ℕ, zero, suc, _+_, _*_, _/_, _%_, _^_, _≤_, _<_, max}
 use mathlib.Core.Path.{_≡_, refl, sym, ap, ap₂, _∙_, subst}
-use mathlib.Core.Bool.{Bool, true, false, cond, _&&_}
+use mathlib.Core.Bool.{Bool, cond, _&&_, and-false}
 use mathlib.Core.List.{List}
 use mathlib.Core.Logic.{_⊎_, inl, inr}
 use native.Mathlib.Omega.{arith}
@@ -28,13 +28,9 @@ pub said-end : (mem : List ℕ) (b x : ℕ) → 256 ≤ b → 0 ≡ saidOf mem b
 unfolding saidOf
 said-end mem b x l = sym (ap (λ (c : Bool). cond (c && ltb x parts) (bitsOf mem b x) 0) (le-ltb b 256 l))
 
-and-off : (c : Bool) → (c && false) ≡ false
-and-off true = refl
-and-off false = refl
-
 pub said-past : (mem : List ℕ) (b x : ℕ) → parts ≤ x → 0 ≡ saidOf mem b x
 unfolding saidOf
-said-past mem b x l = sym (ap (λ (c : Bool). cond c (bitsOf mem b x) 0) (ap (λ (d : Bool). ltb b 256 && d) (le-ltb x parts l) ∙ and-off (ltb b 256)))
+said-past mem b x l = sym (ap (λ (c : Bool). cond c (bitsOf mem b x) 0) (ap (λ (d : Bool). ltb b 256 && d) (le-ltb x parts l) ∙ and-false (ltb b 256)))
 
 pub said-small : (mem : List ℕ) (b x : ℕ) → saidOf mem b x ≤ 3
 said-small mem b x = go (lt-or-ge b 256) (lt-or-ge x parts)

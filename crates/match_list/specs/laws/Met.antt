@@ -15,7 +15,7 @@ use Rattle.grammar.specs.Exp.{Exp, sym, ter, seq, alt, star, never}
 use Rattle.grammar.specs.Lakes.{waterOf, stepOne, choiceOf, skipOf, stepTwo}
 use Rattle.match_meaning.specs.Meaning.{nd}
 use Rattle.match_eval.specs.Eval.{bodyOf, stands, leafAt, cellAt, joinOf, seqOf, altOf, stepOf, rep, plusOf, optOf, aheadOf, neverOf, ev}
-use Rattle.match_cells.specs.Cells.{bodyAt, rowOf, fillOf, cells}
+use Rattle.match_cells.specs.Cells.{bodyTakes, rowOf, fillOf, cells}
 use Rattle.grammar.specs.Empty.{emptyLeaf, hasEmpty}
 use Rattle.lake_calls.specs.Loops.{Calls}
 use Rattle.match_cells.specs.laws.First.{Terse, Markings, In, Ordered}
@@ -113,7 +113,7 @@ abbrev lent : List ℕ
 lent = replicate 20 7
 
 pub cells-are : cells G order text lent ≡ twenty
-unfolding stands leafAt cellAt joinOf seqOf altOf stepOf rep plusOf optOf aheadOf neverOf ev bodyAt rowOf fillOf cells
+unfolding stands leafAt cellAt joinOf seqOf altOf stepOf rep plusOf optOf aheadOf neverOf ev bodyTakes rowOf fillOf cells
 cells-are = refl
 
 pub cells-right : Right G text twenty

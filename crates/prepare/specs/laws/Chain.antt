@@ -18,7 +18,7 @@ use Rattle.read_syntax.specs.Machine.{Judged, fine, syntax, wide, judge, start,
 use Rattle.read_syntax.specs.Reading.{tooLong, offence, second, unruled, leftsIn, tooMany, rulesFrom, refusesText, rulesOf}
 use Rattle.read_syntax.specs.declared.syntax.Found.{Found}
 use Rattle.read_syntax.specs.steps.Found.{found}
-use Rattle.read_names.specs.steps.Names.{placed}
+use Rattle.read_walks.specs.steps.Names.{placed}
 use Rattle.prepare.specs.steps.Scanned.{scanned}
 
 pub assoc : (a b c : Option Refusal) → ((a ▸ b) ▸ c) ≡ (a ▸ (b ▸ c))

@@ -15,7 +15,7 @@ use Rattle.grammar.specs.Numbers.{symbolsOf, leavesOf, terminalsOf, numbered}
 use Rattle.read_syntax.specs.Machine.{start}
 use Rattle.grammar_table.specs.laws.Rows.{adds, All, all-at}
 use Rattle.grammar_table.specs.laws.Firsts.{adds-front}
-use Rattle.read_grammar.specs.steps.Entries.{FitSymbol, FitLeaf}
+use Rattle.read_entries.specs.steps.Entries.{FitSymbol, FitLeaf}
 use Rattle.read_grammar.specs.steps.Lay.{gathered}
 use Rattle.read_grammar.specs.steps.Promises.{toksAt, Sound}
 use Rattle.read_grammar.specs.laws.Symbols.{tells-leaves, leaves}

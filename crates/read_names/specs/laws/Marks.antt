@@ -1,7 +1,7 @@
 -- What the marks of a range say, and one token for refusals 4 and 5. Assumes nothing.
 use Prim.Native.Nat.{ℕ, zero, suc, _+_, _-_, _≤_, _<_}
 use mathlib.Core.Path.{_≡_, refl, sym, ap, ap₂, _∙_, subst}
-use mathlib.Core.Bool.{Bool, true, false, cond, not, _&&_, _||_, false≢true}
+use mathlib.Core.Bool.{Bool, true, false, cond, not, _&&_, _||_, false≢true, and-false}
 use mathlib.Core.List.{List, [], _∷_}
 use mathlib.Core.Option.{Option, none, some}
 use native.Mathlib.Omega.{arith}
@@ -46,10 +46,6 @@ pub knows-none : (s a : List ℕ) (low high n k : ℕ) → Knows s a low high n 
 unfolding isIn
 knows-none s a low high n k x h = sym (ap (λ (b : Bool). found s a n x && b) unmarked ∙ and-false (found s a n x))
   where
-    and-false : (b : Bool) → (b && false) ≡ false
-    and-false true = refl
-    and-false false = refl
-
     i : ℕ
     i = findIn s a n x
 

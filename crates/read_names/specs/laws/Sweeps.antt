@@ -23,9 +23,9 @@ use Rattle.read_walks.specs.laws.Walks.{in-left, next-none, next-some, moves, s
 use Rattle.read_tokens.specs.laws.Here.{is-end, is-token}
 use Rattle.read_walks.specs.laws.Hits.{all-none, all-next}
 use Rattle.read_walks.specs.laws.Offences.{walked, at-token, walked-into, none-lacks, this-lacks, later-lacks}
-use Rattle.read_order.specs.steps.Order.{over, upTo, within}
+use Rattle.read_order.specs.steps.Order.{above, upTo, within}
 use Rattle.read_names.specs.steps.Lefts.{Knows, leftAt, Met, MetAll, UsedAll, placeBy, second4, lacks5, Clear, Struck, Swept, Whole, Answer}
-use Rattle.read_order.specs.laws.Order.{over-none, over-or, up-none}
+use Rattle.read_order.specs.laws.Order.{above-none, above-or, up-none}
 
 -- ── all left sides ──
 module _ (m : Mode) (s : List ℕ) where
@@ -230,11 +230,11 @@ module _ (m : Mode) (s : List ℕ) (bad : ℕ → Tok → Bool) where
   -- no symbol up to `low` is bad before the limit
   pub record Upto (low limit : ℕ) : Type 0 where
     pub less : limit ≤ length s
-    pub clear : Clear m s bad (λ x. not (over s low x)) limit
+    pub clear : Clear m s bad (λ x. not (above s low x)) limit
     pub why : (limit ≡ length s) ⊎ Struck m s bad limit
 
   pub upto-none : Upto 0 (length s)
-  upto-none = record { less = omega arith; clear = λ j h l q w. absurd (false≢true (ap not (over-none s 0 h refl) ∙ w)); why = inl refl }
+  upto-none = record { less = omega arith; clear = λ j h l q w. absurd (false≢true (ap not (above-none s 0 h refl) ∙ w)); why = inl refl }
 
   -- the range of the names above a bound
   pub swept-low : (b low high limit r : ℕ) → b ≡ low → Swept m s bad (within s b high) limit r → Swept m s bad (within s low high) limit r
@@ -251,9 +251,9 @@ module _ (m : Mode) (s : List ℕ) (bad : ℕ → Tok → Bool) where
 
     -- a symbol is up to the lower bound, or in the range
     either : (names : Symbol → Bool) → ((x : Symbol) → names x ≡ true → upTo s high x ≡ true) → Clear m s bad names r
-    either names f j h l q w = go (over s low h) refl
+    either names f j h l q w = go (above s low h) refl
       where
-        go : (b : Bool) → over s low h ≡ b → bad j (symbol h) ≡ false
+        go : (b : Bool) → above s low h ≡ b → bad j (symbol h) ≡ false
         go true e = p .clear j h l q (ap₂ (λ (x y : Bool). x && y) e (f h w))
         go false e = g .clear j h (omega (arith, l, p .less)) q (ap not e)
 
@@ -261,7 +261,7 @@ module _ (m : Mode) (s : List ℕ) (bad : ℕ → Tok → Bool) where
     upto-next f =
         record {
           less = within-limit;
-          clear = either (λ x. not (over s high x)) (λ x w. over-or s high x f (not-true (over s high x) w));
+          clear = either (λ x. not (above s high x)) (λ x w. above-or s high x f (not-true (above s high x) w));
           why = reason;
         }
 

@@ -5,7 +5,7 @@ use native.Mathlib.Omega.{arith}
 use lib.ListN.{length, getD, set}
 use mathlib.Core.List.{List}
 use Rattle.grammar_table.specs.Table.{wordsFrom}
-use Rattle.match_cells.specs.Cells.{bodyAt, rowOf}
+use Rattle.match_cells.specs.Cells.{bodyTakes, rowOf}
 use Rattle.grammar_table.specs.Trees.{bodiesOf}
 use Rattle.match_cells.specs.laws.Rows.{row-more, row-end, row-start}
 use Rattle.match_eval.specs.steps.Memory.{Knows}
@@ -39,7 +39,7 @@ loop-less : tie.Need-loop-less Inv-loop μ-loop
 loop-less c = omega (arith, c .before .before .before .before .before .loop-test .taken)
 
 loop-again : tie.Need-loop-again Inv-loop μ-loop
-loop-again c = (omega (arith, c .before .before .before .before .before .loop-test .taken), c .before .before .store .kept .1 .1 .0 ∙ c .before .before .before .before .before .before .loop .inv .1, row-more (c .before .before .before .before .before .before .before .before .before .before .before .before .args .t .now) (c .before .before .before .before .before .before .before .before .before .before .before .before .args .s .now) (c .before .before .before .before .before .before .before .before .before .before .before .before .args .p) (c .before .before .before .before .before .before .before .before .before .before .before .before .args .order .now) (c .before .before .before .before .before .before .loop .j) (c .before .before .before .before .before .before .before .before .before .before .before .before .args .n) (c .before .before .before .before .before .before .loop .cells) _ (c .before .before .before .before .before .loop-test .taken) (c .before .before .store .ensures .0 ∙ ap (λ (x : ℕ). set (c .before .before .before .before .before .before .loop .cells) (c .before .before .before .before .before .before .before .before .before .before .before .before .args .p * length (bodiesOf (c .before .before .before .before .before .before .before .before .before .before .before .before .args .t .now)) + x) (bodyAt (bodiesOf (c .before .before .before .before .before .before .before .before .before .before .before .before .args .t .now)) (c .before .before .before .before .before .before .before .before .before .before .before .before .args .s .now) (c .before .before .before .before .before .before .loop .cells) x (c .before .before .before .before .before .before .before .before .before .before .before .before .args .p))) (c .before .before .before .before .word .ensures .0)) ∙ c .before .before .before .before .before .before .loop .inv .2, c .before .before .store .ensures .1)
+loop-again c = (omega (arith, c .before .before .before .before .before .loop-test .taken), c .before .before .store .kept .1 .1 .0 ∙ c .before .before .before .before .before .before .loop .inv .1, row-more (c .before .before .before .before .before .before .before .before .before .before .before .before .args .t .now) (c .before .before .before .before .before .before .before .before .before .before .before .before .args .s .now) (c .before .before .before .before .before .before .before .before .before .before .before .before .args .p) (c .before .before .before .before .before .before .before .before .before .before .before .before .args .order .now) (c .before .before .before .before .before .before .loop .j) (c .before .before .before .before .before .before .before .before .before .before .before .before .args .n) (c .before .before .before .before .before .before .loop .cells) _ (c .before .before .before .before .before .loop-test .taken) (c .before .before .store .ensures .0 ∙ ap (λ (x : ℕ). set (c .before .before .before .before .before .before .loop .cells) (c .before .before .before .before .before .before .before .before .before .before .before .before .args .p * length (bodiesOf (c .before .before .before .before .before .before .before .before .before .before .before .before .args .t .now)) + x) (bodyTakes (bodiesOf (c .before .before .before .before .before .before .before .before .before .before .before .before .args .t .now)) (c .before .before .before .before .before .before .before .before .before .before .before .before .args .s .now) (c .before .before .before .before .before .before .loop .cells) x (c .before .before .before .before .before .before .before .before .before .before .before .before .args .p))) (c .before .before .before .before .word .ensures .0)) ∙ c .before .before .before .before .before .before .loop .inv .2, c .before .before .store .ensures .1)
 
 same-length : tie.Need-same-length Inv-loop μ-loop
 same-length c = c .before .loop .inv .1
