@@ -208,7 +208,7 @@ pub fn many(t: &[u32], s: &[u8], cells: &[u32], mem: &[u32], n: usize, x: usize,
     q - p
 }
 
-// The same, not evaluated where the byte at p decides it.
+// What expression x - 1 takes at p, not evaluated where the byte there decides it.
 pub fn round(t: &[u32], s: &[u8], cells: &[u32], mem: &[u32], n: usize, x: usize, p: usize) -> usize
     requires { ⌜ ((n ≤ 64) × (x ≤ 4294967296) × (length (now s) ≤ 65535) × (p ≤ length (now s))) × Knows (now t) (now s) (now cells) n (now mem) 0 p ⌝ }
     ensures { λ r. ⌜ r ≡ ev (now (s .entry)) (now (cells .entry)) n (treeOf (now (t .entry)) x) p ⌝ }
