@@ -1,21 +1,33 @@
 // The work cells of a plain grammar's table on a text, symbols in the order of ranks (01, Meaning of a match).
-ghost use Prim.Native.Nat.{ℕ, _+_, _*_, _<_, _≤_};
+ghost use Prim.Native.Nat.{ℕ, _+_, _*_, _^_, _<_, _≤_};
 ghost use mathlib.Core.Path.{_≡_};
+ghost use lib.Bits.{bitOr};
 ghost use lib.ListN.{getD, length, set};
 ghost use Rattle.grammar_table.specs.Table.{wordsFrom, symbolCount};
 ghost use Rattle.grammar_table.specs.Trees.{bodiesOf};
 ghost use Rattle.match_cells.specs.Cells.{bodyTakes, rowOf};
 ghost use Rattle.match_eval.specs.steps.Firsts.{byteAt, presetOf};
 ghost use Rattle.match_eval.specs.steps.Memory.{Fresh, Knows, Roomy};
-ghost use Rattle.match_cells.specs.steps.Runs.{fillBy, FilledBy, Fills};
+ghost use Rattle.match_cells.specs.steps.Runs.{Open, fillBy, FilledBy, Fills};
 use base_words::put;
 use base_words::word;
 
-// Sets the cells of n symbols from i on to what is said of their bodies where byte b stands. The others keep what they have: it is never asked for.
-fn preset(t: &[u32], cells: &mut [u32], mem: &[u32], n: usize, b: usize, i: usize)
-    requires { ⌜ (n ≤ 64) × (i < 4294967296) ⌝ }
-    ensures { λ _. ⌜ now (cells .exit) ≡ presetOf (now (t .entry)) (now (mem .entry)) b i n (now (cells .entry)) ⌝ }
+// The word with symbol r too.
+fn with(w: u64, r: usize) -> u64
+    requires { ⌜ r < 64 ⌝ }
+    ensures { λ z. ⌜ z ≡ bitOr w (2 ^ r) ⌝ }
 {
+    w | 1 << r
+}
+
+// Sets the cells of n symbols from i on to what is said of their bodies where byte b stands. The others keep what they have, which is never asked for; the
+// answer has them all.
+fn preset(t: &[u32], cells: &mut [u32], mem: &[u32], n: usize, b: usize, i: usize) -> u64
+    requires { ⌜ (n ≤ 64) × (i < 4294967296) ⌝ }
+    ensures { λ w. ⌜ (now (cells .exit) ≡ presetOf (now (t .entry)) (now (mem .entry)) b i n (now (cells .entry)))
+        × Open (now (t .entry)) (now (mem .entry)) b 0 n w ⌝ }
+{
+    let mut open: u64 = 0;
     let mut r = n;
     while 0 < r {
         r -= 1;
@@ -23,8 +35,11 @@ fn preset(t: &[u32], cells: &mut [u32], mem: &[u32], n: usize, b: usize, i: usiz
         let w = match_eval::memory::said(mem, x, b);
         if w != 0 {
             put(cells, i + r, w - 1);
+        } else {
+            open = with(open, r);
         }
     }
+    open
 }
 
 // Fills the cell of symbol r at p.
@@ -37,26 +52,11 @@ fn store(t: &[u32], s: &[u8], cells: &mut [u32], mem: &[u32], n: usize, r: usize
         × Knows (now (t .entry)) (now (s .entry)) (now (cells .exit)) n (now (mem .entry)) (p + 1) p ⌝ }
 {
     let x = grammar_table::records::body(t, r);
-    let v = match_eval::round(t, s, cells, mem, n, x, p);
+    let v = match_eval::eval_with(t, s, cells, mem, n, x, p);
     put(cells, p * n + r, v);
 }
 
-// Fills the cells of all symbols at p, in an order that puts first-called symbols first.
-fn row(t: &[u32], s: &[u8], cells: &mut [u32], mem: &[u32], order: &[u32], n: usize, p: usize)
-    requires { ⌜ ((n ≡ symbolCount (now t)) × (n ≤ 64) × ((j : ℕ) → j < n → getD (now order) j 0 < n) × (length (now s) ≤ 65535)
-        × (p ≤ length (now s))) × Knows (now t) (now s) (now cells) n (now mem) (p + 1) p ⌝ }
-    ensures { λ _. ⌜ (now (cells .exit) ≡ rowOf (bodiesOf (now (t .entry))) (now (s .entry)) p (wordsFrom (now (order .entry)) 0 n) (now (cells .entry)))
-        × Knows (now (t .entry)) (now (s .entry)) (now (cells .exit)) n (now (mem .entry)) (p + 1) p ⌝ }
-{
-    let mut j: usize = 0;
-    while j < n {
-        let r = word(order, j);
-        store(t, s, cells, mem, n, r, p);
-        j += 1;
-    }
-}
-
-// The same with what is decided set before.
+// Fills the cells of all symbols at p: what is decided at once, the others in an order that puts first-called symbols first.
 fn place(t: &[u32], s: &[u8], cells: &mut [u32], mem: &[u32], order: &[u32], n: usize, p: usize)
     requires { ⌜ ((n ≡ symbolCount (now t)) × (n ≤ 64) × ((j : ℕ) → j < n → getD (now order) j 0 < n) × (length (now s) ≤ 65535)
         × (p ≤ length (now s)))
@@ -67,8 +67,15 @@ fn place(t: &[u32], s: &[u8], cells: &mut [u32], mem: &[u32], order: &[u32], n: 
         × Knows (now (t .entry)) (now (s .entry)) (now (cells .exit)) n (now (mem .entry)) (p + 1) p ⌝ }
 {
     let b = match_eval::byte_at(s, p);
-    preset(t, cells, mem, n, b, p * n);
-    row(t, s, cells, mem, order, n, p);
+    let open = preset(t, cells, mem, n, b, p * n);
+    let mut j: usize = 0;
+    while j < n {
+        let r = word(order, j);
+        if lake_calls::has(open, r) {
+            store(t, s, cells, mem, n, r, p);
+        }
+        j += 1;
+    }
 }
 
 // Fills the cells of the places below k, the last first (01: "for p from 0 to n"), and remembers the rounds of each key at each place.

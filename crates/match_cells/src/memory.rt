@@ -178,6 +178,19 @@ fn count(t: &[u32]) -> usize
     m
 }
 
+// How many places of each of d keys are kept: a power of two, so that a place is found without a division.
+fn places(d: usize) -> usize
+    requires { ⌜ d < 4294967296 ⌝ }
+    ensures { λ w. ⌜ w ≤ 4096 ⌝ }
+{
+    let most = ENTRIES / (d + 1);
+    let mut w = ENTRIES;
+    while most < w {
+        w = w / 2;
+    }
+    w
+}
+
 // The keys of all repeated parts.
 pub fn enter_all(t: &[u32], mem: &mut [u32])
     requires { ⌜ Fresh (now t) (now mem) ⌝ }
@@ -190,5 +203,5 @@ pub fn enter_all(t: &[u32], mem: &mut [u32])
         e += 1;
     }
     let d = word(mem, COUNT);
-    put(mem, PLACES, ENTRIES / (d + 1));
+    put(mem, PLACES, places(d));
 }

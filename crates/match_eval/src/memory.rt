@@ -24,12 +24,12 @@ pub const PARTS_AT: usize = 1027;
 
 pub const SEEN_AT: usize = 2052;
 
-// Two bits for each part and byte, 16 words a part, a pair of words for 32 bytes: 0 says nothing, else 1 + what the part takes where the byte stands.
+// Two bits for each part and byte, 16 words a part, 16 bytes a word: 0 says nothing, else 1 + what the part takes where the byte stands.
 pub const SAID_AT: usize = 2309;
 
 pub const PART_WORDS: usize = 16;
 
-pub const WORD_BITS: usize = 32;
+pub const WORD_BYTES: usize = 16;
 
 // The bytes: of the text's end nothing is said.
 pub const BYTES: usize = 256;
@@ -64,13 +64,13 @@ pub fn key(mem: &[u32], x: usize) -> usize
     0
 }
 
-// Bit k of the word at i.
-fn bit_at(mem: &[u32], i: usize, k: usize) -> usize
-    requires { ⌜ k < 32 ⌝ }
-    ensures { λ r. ⌜ r ≡ bit (getD (now (mem .entry)) i 0) k ⌝ }
+// The two bits from k on of the word at i.
+fn bits_at(mem: &[u32], i: usize, k: usize) -> usize
+    requires { ⌜ k < 31 ⌝ }
+    ensures { λ r. ⌜ r ≡ bit (getD (now (mem .entry)) i 0) k + 2 * bit (getD (now (mem .entry)) i 0) (k + 1) ⌝ }
 {
     let w = word(mem, i);
-    (w >> k) & 1
+    (w >> k) & 3
 }
 
 // What is said of part x where byte b stands: 0 nothing, else 1 + what it takes there.
@@ -83,11 +83,11 @@ pub fn said(mem: &[u32], x: usize, b: usize) -> usize
     if PARTS <= x {
         return 0;
     }
-    let i = SAID_AT + PART_WORDS * x + 2 * (b / WORD_BITS);
-    let k = b % WORD_BITS;
-    let low = bit_at(mem, i, k);
-    let high = bit_at(mem, i + 1, k);
-    low + 2 * high
+    bits_at(
+        mem,
+        SAID_AT + PART_WORDS * x + b / WORD_BYTES,
+        2 * (b % WORD_BYTES),
+    )
 }
 
 // Sets bit k of the word at i if d is 1.
@@ -109,10 +109,10 @@ pub fn say(mem: &mut [u32], x: usize, b: usize, v: usize)
 {
     let w = said(mem, x, b);
     if w == 0 {
-        let i = SAID_AT + PART_WORDS * x + 2 * (b / WORD_BITS);
-        let k = b % WORD_BITS;
+        let i = SAID_AT + PART_WORDS * x + b / WORD_BYTES;
+        let k = 2 * (b % WORD_BYTES);
         mark(mem, i, k, (v + 1) % 2);
-        mark(mem, i + 1, k, (v + 1) / 2);
+        mark(mem, i, k + 1, (v + 1) / 2);
     }
 }
 
@@ -128,7 +128,7 @@ pub fn slot(mem: &[u32], k: usize, q: usize) -> usize
     if ENTRIES < w {
         return 0;
     }
-    k * w + q % w
+    k * w + (q & (w - 1))
 }
 
 // The bytes that rounds of part x take from q on if an entry is about them, else more than a text has.

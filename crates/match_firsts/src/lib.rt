@@ -261,7 +261,7 @@ fn decide_bodies(t: &[u32], mem: &mut [u32], order: &[u32], n: usize, b: usize)
     }
 }
 
-// All this once for a byte.
+// All this once for a byte, and the bodies twice: what a symbol does that stands behind in the order is known to the others only then.
 fn decide_once(t: &[u32], mem: &mut [u32], order: &[u32], n: usize, b: usize)
     requires { ⌜ ((n ≤ 64) × (b < 256) × ((j : ℕ) → j < n → getD (now order) j 0 < n)) × Ready (now t) n (now mem) ⌝ }
     ensures { λ _. ⌜ Ready (now (t .entry)) n (now (mem .exit)) ⌝ }
@@ -270,6 +270,7 @@ fn decide_once(t: &[u32], mem: &mut [u32], order: &[u32], n: usize, b: usize)
     if w == 0 {
         put(mem, SEEN_AT + b, 1);
         decide_part(t, mem, n, b, 0);
+        decide_bodies(t, mem, order, n, b);
         decide_bodies(t, mem, order, n, b);
     }
 }

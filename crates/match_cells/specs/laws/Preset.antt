@@ -1,14 +1,16 @@
 -- Cells that are set to what the words say before their place is filled: where there is no loop they come to the same, for what stood in a cell before it is
 -- filled is never asked for. Assumes nothing.
-use Prim.Native.Nat.{ℕ, zero, suc, _+_, _-_, _*_, _≤_, _<_}
+use Prim.Native.Nat.{ℕ, zero, suc, _+_, _-_, _*_, _^_, _≤_, _<_}
 use mathlib.Core.Path.{_≡_, refl, ap, _∙_, subst}
 use mathlib.Core.Path.{sym as flip}
-use mathlib.Core.Bool.{Bool}
+use mathlib.Core.Bool.{Bool, true, false, true≢false}
 use mathlib.Core.List.{List, []}
 use mathlib.Core.Logic.{_⊎_, inl, inr}
 use native.Mathlib.Omega.{arith}
 use native.Mathlib.Numerals.{add-one}
 use native.Mathlib.Nat.{eq-or-lt-of-le, suc-mul, mul-le-mul-right}
+use lib.Bits.{bitOr}
+use lib.Dec.{eqb}
 use lib.ListN.{getD, length, set, length-set}
 use lib.Seq.{getD-set-same, getD-set-other, ext-getD, set-getD}
 use Rattle.base_facts.specs.laws.Numbers.{lt-or-ge}
@@ -26,7 +28,10 @@ use Rattle.match_eval.specs.laws.Said.{said-same}
 use Rattle.match_cells.specs.laws.Rows.{stored}
 use Rattle.match_eval.specs.steps.Firsts.{byteAt, wordOf, Heard, Silent, putSaid, presetOf}
 use Rattle.match_eval.specs.steps.Memory.{Ready, Knows, Roomy, Front}
-use Rattle.match_cells.specs.steps.Runs.{fillBy, FilledBy}
+use Rattle.match_cells.specs.steps.Runs.{Open, fillBy, FilledBy}
+use Rattle.lake_calls.specs.Calls.{holds}
+use Rattle.lake_calls.specs.laws.Exact.{up-l, up-r}
+use Rattle.base_words.specs.laws.Members.{bit-pow-same}
 
 -- a cell at a later place stands further on
 far : (n p q r x : ℕ) → p < q → r < n → p * n + r < q * n + x
@@ -103,6 +108,38 @@ module _ (t mem : List ℕ) (b i : ℕ) where
   unfolding presetOf
   preset-ends zero cs l = refl
   preset-ends (suc r) cs l = absurd (omega arith)
+
+-- ── the symbols of which nothing is said ──
+module _ (t mem : List ℕ) (b n : ℕ) where
+  pub open-none : (w : ℕ) → Open t mem b n n w
+  open-none w r l m = absurd (omega arith)
+
+  -- something is said of the symbol before
+  pub open-said : (w k v : ℕ) → 0 < k → v ≡ wordOf t mem b (k - 1) → (v ≡ 0 → ⊥) → Open t mem b k n w → Open t mem b (k - 1) n w
+  open-said w k v z e f o r l m h q = elim (lt-or-ge r k) [
+    | inl a ↦ (let g : k - 1 ≡ r = omega (arith, z) in f (e ∙ ap (wordOf t mem b) g ∙ q))
+    | inr a ↦ o r a m h q
+  ]
+
+  -- nothing is, and the word has it from now on
+  pub open-with : (w k : ℕ) → 0 < k → Open t mem b k n w → Open t mem b (k - 1) n (bitOr w (2 ^ (k - 1)))
+  open-with w k z o r l m h q = elim (lt-or-ge r k) [
+    | inl a ↦ (let g : k - 1 ≡ r = omega (arith, z) in true≢false (flip (up-r w (2 ^ (k - 1)) r (ap (λ (j : ℕ). holds (2 ^ (k - 1)) j) (flip g) ∙ ap (λ (y : ℕ). eqb y 1) (bit-pow-same (k - 1)))) ∙ h))
+    | inr a ↦ kept r a m h q (holds w r) refl
+  ]
+    where
+      kept : (r : ℕ) → k ≤ r → r < n → holds (bitOr w (2 ^ (k - 1))) r ≡ false → wordOf t mem b r ≡ 0 → (y : Bool) → holds w r ≡ y → ⊥
+      kept r a m h q true e = true≢false (flip (up-l w (2 ^ (k - 1)) r e) ∙ h)
+      kept r a m h q false e = o r a m e q
+
+-- a cell of which something is said stands already as it is to be stored
+pub said-stays : (t s cs mem : List ℕ) (n r p k : ℕ) → n ≡ symbolCount t → r < n → p ≤ length s → (wordOf t mem (byteAt s p) r ≡ 0 → ⊥)
+    → Knows t s cs n mem k p → cs ≡ set cs (p * length (bodiesOf t) + r) (bodyTakes (bodiesOf t) s cs r p)
+said-stays t s cs mem n r p k q l h f o =
+    let y : wordOf t mem (byteAt s p) r ≡ suc (wordOf t mem (byteAt s p) r - 1) = omega (arith, f) in
+    flip (set-getD cs (p * n + r) 0) ∙ ap (set cs (p * n + r)) (o .heard p (omega arith) h r (wordOf t mem (byteAt s p) r - 1) l y)
+    ∙ stored t s n q cs r p (symbolWord t r 1) (wordOf t mem (byteAt s p) r - 1) l refl
+    (flip (o .words (byteAt s p) (symbolWord t r 1) (wordOf t mem (byteAt s p) r - 1) y s cs p refl (o .heard p (omega arith) h)))
 
 -- only what is said counts
 pub preset-same : (t mem new : List ℕ) (b i n : ℕ) (cs : List ℕ) → Front mem new → presetOf t new b i n cs ≡ presetOf t mem b i n cs

@@ -1,5 +1,6 @@
 -- The filled cells of a table, as code says them. Assumes nothing: these are definitions.
-use Prim.Native.Nat.{ℕ, zero, suc, _+_, _*_}
+use Prim.Native.Nat.{ℕ, zero, suc, _+_, _*_, _≤_, _<_}
+use mathlib.Core.Bool.{false}
 use mathlib.Core.Path.{_≡_}
 use mathlib.Core.List.{List}
 use mathlib.Core.Option.{none}
@@ -10,15 +11,19 @@ use Rattle.grammar_table.specs.Holds.{Holds}
 use Rattle.grammar.specs.Numbers.{terminalIn}
 use Rattle.lake_step_one.specs.Proper.{SoundAll}
 use Rattle.lake_step_one.specs.steps.Made.{withBodies}
-use Rattle.lake_calls.specs.Calls.{loop, order}
+use Rattle.lake_calls.specs.Calls.{holds, loop, order}
 use Rattle.match_cells.specs.Cells.{rowOf, cells}
-use Rattle.match_eval.specs.steps.Firsts.{byteAt, presetOf}
+use Rattle.match_eval.specs.steps.Firsts.{byteAt, wordOf, presetOf}
 use Rattle.match_eval.specs.steps.Memory.{Roomy}
 
 -- a table that holds a plain grammar with a body for each symbol, whose symbols and terminals are all there
 pub record Plain (t : List ℕ) (g : Grammar) (bodies : List (Exp ℕ)) : Type 0 where
   pub holds : Holds t (withBodies g bodies)
   pub sound : SoundAll (terminalIn g) (length (g .names)) (length (g .terminals)) bodies
+
+-- a word that has every symbol from k on, of those below n, of which nothing is said where byte b stands
+abbrev pub Open : List ℕ → List ℕ → ℕ → ℕ → ℕ → ℕ → Type 0
+Open t mem b k n w = (r : ℕ) → k ≤ r → r < n → holds w r ≡ false → wordOf t mem b r ≡ 0 → ⊥
 
 -- the cells after the places below the first number have been stored, the last first, each after its cells were set to what is said by its byte
 unfoldable pub fillBy : List ℕ → List ℕ → List (Exp ℕ) → List ℕ → ℕ → ℕ → List ℕ → List ℕ → List ℕ

@@ -21,17 +21,20 @@ byteAt s p = getD s p 256
 abbrev pub parts : ℕ
 parts = 1025
 
--- where the bits begin: 16 words for each part, a pair of words for 32 bytes
+-- where the bits begin: 16 words for each part, a word for 16 bytes
 abbrev pub saidAt : ℕ
 saidAt = 2309
 
--- the first word of part x and byte b; the second stands behind it
+-- the word of part x and byte b, and the lower of its two bits there
 abbrev pub saidWord : ℕ → ℕ → ℕ
-saidWord b x = saidAt + 16 * x + 2 * (b / 32)
+saidWord b x = saidAt + 16 * x + b / 16
+
+abbrev pub saidBit : ℕ → ℕ
+saidBit b = 2 * (b % 16)
 
 -- the two bits of part x and byte b, as one number
 abbrev pub bitsOf : List ℕ → ℕ → ℕ → ℕ
-bitsOf mem b x = bit (getD mem (saidWord b x) 0) (b % 32) + 2 * bit (getD mem (saidWord b x + 1) 0) (b % 32)
+bitsOf mem b x = bit (getD mem (saidWord b x) 0) (saidBit b) + 2 * bit (getD mem (saidWord b x) 0) (saidBit b + 1)
 
 -- what is said of part x where byte b stands: 0 nothing, else 1 + what it takes there; of the text's end nothing is said
 unfoldable pub saidOf : List ℕ → ℕ → ℕ → ℕ

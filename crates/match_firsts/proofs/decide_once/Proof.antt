@@ -34,11 +34,14 @@ decide-part-requires c κs = ((c .before .before .before .before .before .before
 decide-bodies-requires : tie.Need-decide-bodies-requires
 decide-bodies-requires c κs = (c .before .before .before .before .before .before .before .before .before .before .before .before .before .before .before .pre .0, c .before .before .before .decide-part .ensures)
 
+decide-bodies-requires-2 : tie.Need-decide-bodies-requires-2
+decide-bodies-requires-2 c κs = (c .before .before .before .before .before .before .before .before .before .before .before .before .before .before .before .before .before .before .before .pre .0, c .before .before .before .decide-bodies .ensures)
+
 same-length : tie.Need-same-length
 same-length c = search needs
 
 returns : tie.Need-returns
-returns c = c .before .before .decide-bodies .ensures
+returns c = c .before .before .decide-bodies2 .ensures
 
 same-length-2 : tie.Need-same-length-2
 same-length-2 c = search needs
@@ -56,6 +59,7 @@ decide-once-spec =
     put-requires
     decide-part-requires
     decide-bodies-requires
+    decide-bodies-requires-2
     same-length
     returns
     same-length-2

@@ -1,9 +1,8 @@
 -- `match_cells::memory::enter_all` meets its contract. Assumes nothing.
 use native.Mathlib.Omega.{arith}
 use mathlib.Core.Path.{_≡_, refl, sym, subst, _∙_}
-use Prim.Native.Nat.{ℕ, _+_, _-_, _/_}
+use Prim.Native.Nat.{ℕ, _-_}
 use mathlib.Core.List.{List}
-use native.Mathlib.Nat.{div-le-self}
 use lib.ListN.{length}
 use Rattle.match_eval.specs.steps.Memory.{Fresh}
 use Rattle.match_cells.specs.laws.Keys.{fresh-places}
@@ -16,6 +15,7 @@ use Rattle.base_words.proofs.put.Reads as put-reads
 use Rattle.base_words.proofs.word.Reads as word-reads
 use Rattle.match_cells.proofs.memory.count.Reads as count-reads
 use Rattle.match_cells.proofs.memory.enter_repeat.Reads as enter-repeat-reads
+use Rattle.match_cells.proofs.memory.places.Reads as places-reads
 
 abbrev Inv-loop : tie.InvT-loop
 Inv-loop t mem₀ m e₀ mem e = (length mem ≡ length mem₀) × Fresh t mem
@@ -44,20 +44,17 @@ loop-again c = (c .before .before .enter-repeat .kept .1 .0 ∙ c .before .befor
 word-requires : tie.Need-word-requires Inv-loop μ-loop
 word-requires c κs = search needs
 
-add-put : tie.Need-add-put Inv-loop μ-loop
-add-put c = omega (arith, c .before .word .ensures .1)
-
-div-put : tie.Need-div-put Inv-loop μ-loop
-div-put c = search needs
+places-requires : tie.Need-places-requires Inv-loop μ-loop
+places-requires c κs = c .before .word .ensures .1
 
 put-requires : tie.Need-put-requires Inv-loop μ-loop
-put-requires c κs = omega (arith, div-le-self 4096 (c .before .word .result + 1))
+put-requires c κs = omega (arith, c .places .ensures)
 
 same-length : tie.Need-same-length Inv-loop μ-loop
 same-length c = search needs
 
 returns : tie.Need-returns Inv-loop μ-loop
-returns c = subst (λ (v : List ℕ). Fresh (c .before .before .before .before .before .before .before .before .before .before .before .args .t .now) v) (sym (c .before .before .put .ensures)) (fresh-places (c .before .before .before .before .before .before .before .before .before .before .before .args .t .now) (c .before .before .before .before .before .before .before .loop .mem) (c .before .before .before .before .before .before .before .loop .inv .1) (4096 / (c .before .before .before .before .word .result + 1)))
+returns c = subst (λ (v : List ℕ). Fresh (c .before .before .before .before .before .before .before .before .before .before .before .before .args .t .now) v) (sym (c .before .before .put .ensures)) (fresh-places (c .before .before .before .before .before .before .before .before .before .before .before .before .args .t .now) (c .before .before .before .before .before .before .before .before .loop .mem) (c .before .before .before .before .before .before .before .before .loop .inv .1) (c .before .before .before .places .result))
 
 pub enter-all-spec : {M : Type 1} → statement M
 enter-all-spec =
@@ -72,8 +69,7 @@ enter-all-spec =
     loop-less
     loop-again
     word-requires
-    add-put
-    div-put
+    places-requires
     put-requires
     same-length
     returns)

@@ -19,11 +19,11 @@ mul-i c = search needs
 add-i : tie.Need-add-i
 add-i c = search needs
 
-mul-i-2 : tie.Need-mul-i-2
-mul-i-2 c = search needs
-
 add-i-2 : tie.Need-add-i-2
 add-i-2 c = search needs
+
+mul-k : tie.Need-mul-k
+mul-k c = search needs
 
 add-mark : tie.Need-add-mark
 add-mark c = search needs
@@ -59,8 +59,8 @@ say-spec =
     said-requires
     mul-i
     add-i
-    mul-i-2
     add-i-2
+    mul-k
     add-mark
     mark-requires
     add-mark-2

@@ -1,7 +1,8 @@
 -- `match_eval::memory::slot` meets its contract. Assumes nothing.
 use native.Mathlib.Omega.{arith}
-use native.Mathlib.Nat.{mul-le-mul, mod-lt}
-use Prim.Native.Nat.{_+_, _*_, _%_, _≤_, _<_}
+use native.Mathlib.Nat.{mul-le-mul}
+use Prim.Native.Nat.{_+_, _-_, _*_, _≤_, _<_}
+use lib.Bits.{bitAnd, and-le-r}
 use borrow.Author.Needs.{needs}
 use Rattle.match_eval.proofs.memory.slot.Statement.{statement}
 use Rattle.match_eval.proofs.memory.slot.Tie as tie
@@ -19,17 +20,17 @@ returns-2 : tie.Need-returns-2
 returns-2 c = search needs
 
 mul-result : tie.Need-mul-result
-mul-result c = let h : (c .before .before .before .before .args .k) * c .before .before .word .result ≤ 1025 * 4096 = mul-le-mul {n₂ = 1025} {m₂ = 4096} (c .before .before .before .before .pre) (omega (arith, c .if2 .left)) in let l : (c .before .before .before .before .args .q) % (c .before .before .word .result) < c .before .before .word .result = mod-lt (c .before .before .before .before .args .q) (omega (arith, c .before .if1 .left)) in omega (arith, h, l, c .if2 .left)
+mul-result c = let h : (c .before .before .before .before .args .k) * c .before .before .word .result ≤ 1025 * 4096 = mul-le-mul {n₂ = 1025} {m₂ = 4096} (c .before .before .before .before .pre) (omega (arith, c .if2 .left)) in let l : bitAnd (c .before .before .before .before .args .q) (c .before .before .word .result - 1) ≤ c .before .before .word .result - 1 = and-le-r (c .before .before .before .before .args .q) (c .before .before .word .result - 1) in omega (arith, h, l, c .if2 .left)
 
-rem-result : tie.Need-rem-result
-rem-result c = omega (arith, c .before .if1 .left)
+sub-result : tie.Need-sub-result
+sub-result c = search needs
 
 add-result : tie.Need-add-result
-add-result c = let h : (c .before .before .before .before .args .k) * c .before .before .word .result ≤ 1025 * 4096 = mul-le-mul {n₂ = 1025} {m₂ = 4096} (c .before .before .before .before .pre) (omega (arith, c .if2 .left)) in let l : (c .before .before .before .before .args .q) % (c .before .before .word .result) < c .before .before .word .result = mod-lt (c .before .before .before .before .args .q) (omega (arith, c .before .if1 .left)) in omega (arith, h, l, c .if2 .left)
+add-result c = let h : (c .before .before .before .before .args .k) * c .before .before .word .result ≤ 1025 * 4096 = mul-le-mul {n₂ = 1025} {m₂ = 4096} (c .before .before .before .before .pre) (omega (arith, c .if2 .left)) in let l : bitAnd (c .before .before .before .before .args .q) (c .before .before .word .result - 1) ≤ c .before .before .word .result - 1 = and-le-r (c .before .before .before .before .args .q) (c .before .before .word .result - 1) in omega (arith, h, l, c .if2 .left)
 
 returns-3 : tie.Need-returns-3
-returns-3 c = let h : (c .before .before .before .before .args .k) * c .before .before .word .result ≤ 1025 * 4096 = mul-le-mul {n₂ = 1025} {m₂ = 4096} (c .before .before .before .before .pre) (omega (arith, c .if2 .left)) in let l : (c .before .before .before .before .args .q) % (c .before .before .word .result) < c .before .before .word .result = mod-lt (c .before .before .before .before .args .q) (omega (arith, c .before .if1 .left)) in omega (arith, h, l, c .if2 .left)
+returns-3 c = let h : (c .before .before .before .before .args .k) * c .before .before .word .result ≤ 1025 * 4096 = mul-le-mul {n₂ = 1025} {m₂ = 4096} (c .before .before .before .before .pre) (omega (arith, c .if2 .left)) in let l : bitAnd (c .before .before .before .before .args .q) (c .before .before .word .result - 1) ≤ c .before .before .word .result - 1 = and-le-r (c .before .before .before .before .args .q) (c .before .before .word .result - 1) in omega (arith, h, l, c .if2 .left)
 
 pub slot-spec : {M : Type 1} → statement M
 slot-spec =
-    tie.close (tie.spec word-requires returns returns-2 mul-result rem-result add-result returns-3)
+    tie.close (tie.spec word-requires returns returns-2 mul-result sub-result add-result returns-3)
