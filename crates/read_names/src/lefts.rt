@@ -26,10 +26,9 @@ use read_walks::is_left;
 use read_walks::name_start;
 use read_walks::reserved_name;
 use read_walks::second_walked;
-use read_walks::unruled_walked;
 
 // Which names of a range have been passed.
-pub type Marks = [bool; 24576];
+pub type Marks = [bool; 20480];
 
 // What is found of a token: that it is not refused, that it is, or nothing.
 const FINE: usize = 0;
@@ -41,6 +40,9 @@ const LOST: usize = 2;
 // More ranges than there can be.
 const RANGES: usize = 64;
 
+// Nothing is found, and a slower way has to be gone.
+pub const GIVEN_UP: usize = 4294967296;
+
 fn set_mark(marks: &mut [bool], j: usize)
     requires { ⌜ j < length (now marks) ⌝ }
     ensures { λ r. ⌜ (now (marks .exit) ≡ set (now (marks .entry)) j true) × (j < length (now (marks .entry))) ⌝ }
@@ -50,7 +52,7 @@ fn set_mark(marks: &mut [bool], j: usize)
 
 // Marks a name.
 fn enter(text: &[u8], a: &Room, count: usize, v: usize, marks: &mut Marks) -> usize
-    requires { ⌜ Fits (now text) (now a) × inText (now text) v × (count ≤ 24576) ⌝ }
+    requires { ⌜ Fits (now text) (now a) × inText (now text) v × (count ≤ 20480) ⌝ }
     ensures { λ r. ⌜ Entered (now (text .entry)) (now (a .entry)) count (symbolIn (now (text .entry)) v) r (now (marks .entry)) (now (marks .exit)) ⌝ }
 {
     let j = find(text, a, count, v);
@@ -67,7 +69,7 @@ fn enter(text: &[u8], a: &Room, count: usize, v: usize, marks: &mut Marks) -> us
 
 // Whether a name is marked.
 fn known(text: &[u8], a: &Room, count: usize, v: usize, marks: &Marks) -> bool
-    requires { ⌜ Fits (now text) (now a) × inText (now text) v × (count ≤ 24576) ⌝ }
+    requires { ⌜ Fits (now text) (now a) × inText (now text) v × (count ≤ 20480) ⌝ }
     ensures { λ r. ⌜ r ≡ marked (now (text .entry)) (now (a .entry)) count (symbolIn (now (text .entry)) v) (now (marks .entry)) ⌝ }
 {
     let j = find(text, a, count, v);
@@ -149,7 +151,7 @@ fn sweep(mode: Mode, text: &[u8], a: &Room, c: Range, limit: usize, marks: &mut 
             return at;
         }
         if r != FINE {
-            return NONE;
+            return GIVEN_UP;
         }
         at = t.next;
     }
@@ -160,7 +162,7 @@ fn second_in(mode: Mode, text: &[u8], a: &Room, c: Range, limit: usize) -> usize
     requires { ⌜ (length (now text) < 4294967296) × Ranged (now text) (now a) (c .low) (c .high) (c .count) × (limit ≤ length (now text)) ⌝ }
     ensures { λ r. ⌜ ((r ≡ 4294967296 → ⊥) → Swept4 mode (now (text .entry)) (c .low) (c .high) limit r) ⌝ }
 {
-    let mut marks: Marks = [false; 24576];
+    let mut marks: Marks = [false; 20480];
     sweep(mode, text, a, c, limit, &mut marks)
 }
 
@@ -213,22 +215,24 @@ fn uses(mode: Mode, text: &[u8], a: &Room, c: Range, limit: usize, marks: &Marks
             return at;
         }
         if r != FINE {
-            return NONE;
+            return GIVEN_UP;
         }
         at = t.next;
     }
     limit
 }
 
-// Given up where there is refusal 4.
+// Given up where there is refusal 4: there is none in the range if this answers.
 fn unruled_in(mode: Mode, text: &[u8], a: &Room, c: Range, limit: usize) -> usize
     requires { ⌜ (length (now text) < 4294967296) × Ranged (now text) (now a) (c .low) (c .high) (c .count) × (limit ≤ length (now text)) ⌝ }
-    ensures { λ r. ⌜ ((r ≡ 4294967296 → ⊥) → Swept5 mode (now (text .entry)) (c .low) (c .high) limit r) ⌝ }
+    ensures { λ r. ⌜ ((r ≡ 4294967296 → ⊥)
+        → Swept5 mode (now (text .entry)) (c .low) (c .high) limit r
+        × Swept4 mode (now (text .entry)) (c .low) (c .high) (length (now (text .entry))) (length (now (text .entry)))) ⌝ }
 {
-    let mut marks: Marks = [false; 24576];
+    let mut marks: Marks = [false; 20480];
     let r = sweep(mode, text, a, c, text.len(), &mut marks);
     if r != text.len() {
-        return NONE;
+        return GIVEN_UP;
     }
     uses(mode, text, a, c, limit, &marks)
 }
@@ -251,14 +255,14 @@ pub fn second_left(mode: Mode, text: &[u8]) -> usize
     requires { ⌜ length (now text) < 4294967296 ⌝ }
     ensures { λ r. ⌜ r ≡ placed (second mode [] (lexemes mode (now (text .entry)))) ⌝ }
 {
-    let mut a: Room = [0; 24576];
+    let mut a: Room = [0; 20480];
     let mut low: usize = 0;
     let mut limit = text.len();
     let mut passed: usize = 0;
     while passed < RANGES {
         let c = gather(mode, text, low, &mut a);
         limit = second_in(mode, text, &a, c, limit);
-        if limit == NONE {
+        if limit == GIVEN_UP {
             return second_walked(mode, text);
         }
         low = c.high;
@@ -270,20 +274,23 @@ pub fn second_left(mode: Mode, text: &[u8]) -> usize
     second_walked(mode, text)
 }
 
-// Refusal 5: 1 + the place of the first use of a nonterminal without a rule; 0 where there is none.
+// Refusal 5 where there is no refusal 4: 1 + the place of the first use of a nonterminal without a rule; 0 where there is none. One order of the names serves
+// both; given up where there is refusal 4.
 pub fn unruled_use(mode: Mode, text: &[u8]) -> usize
     requires { ⌜ length (now text) < 4294967296 ⌝ }
-    ensures { λ r. ⌜ r ≡ placed (unruled (leftsIn (lexemes mode (now (text .entry)))) (lexemes mode (now (text .entry)))) ⌝ }
+    ensures { λ r. ⌜ ((r ≡ 4294967296 → ⊥)
+        → (0 ≡ placed (second mode [] (lexemes mode (now (text .entry)))))
+        × (r ≡ placed (unruled (leftsIn (lexemes mode (now (text .entry)))) (lexemes mode (now (text .entry)))))) ⌝ }
 {
-    let mut a: Room = [0; 24576];
+    let mut a: Room = [0; 20480];
     let mut low: usize = 0;
     let mut limit = text.len();
     let mut passed: usize = 0;
     while passed < RANGES {
         let c = gather(mode, text, low, &mut a);
         limit = unruled_in(mode, text, &a, c, limit);
-        if limit == NONE {
-            return unruled_walked(mode, text);
+        if limit == GIVEN_UP {
+            return GIVEN_UP;
         }
         low = c.high;
         if low == 0 {
@@ -291,5 +298,5 @@ pub fn unruled_use(mode: Mode, text: &[u8]) -> usize
         }
         passed += 1;
     }
-    unruled_walked(mode, text)
+    GIVEN_UP
 }

@@ -113,6 +113,18 @@ fn any_set(marks: &[bool; 256]) -> bool
     false
 }
 
+// The same, faster where the mark at `hint` is set.
+fn some_set(marks: &[bool; 256], hint: usize) -> bool
+    ensures { λ r. ⌜ r ≡ someFrom 0 256 (now (marks .entry)) ⌝ }
+{
+    if hint < 256 {
+        if marks[hint] {
+            return true;
+        }
+    }
+    any_set(marks)
+}
+
 // The marks of a class, and the place behind it. A bad one: no mark, and 0.
 pub struct Class {
     pub marks: [bool; 256],
@@ -128,11 +140,11 @@ fn no_class() -> Class
     }
 }
 
-// "A class without bytes" is bad.
-fn settled(marks: [bool; 256], next: usize) -> Class
+// "A class without bytes" is bad. `hint`: a byte that it may have.
+fn settled(marks: [bool; 256], next: usize, hint: usize) -> Class
     ensures { λ r. ⌜ r ≡ classIs (marked (someFrom 0 256 marks) marks 0 next) ⌝ }
 {
-    if any_set(&marks) {
+    if some_set(&marks, hint) {
         return Class {
             marks: marks,
             next: next,
@@ -157,9 +169,9 @@ fn class_from(text: &[u8], at: usize, complement: bool) -> Class
     }
     if complement {
         turn(&mut marks);
-        return settled(marks, next);
+        return settled(marks, next, 0);
     }
-    settled(marks, next)
+    settled(marks, next, b as usize)
 }
 
 // "A class that begins with `^` is the complement", in lake mode.

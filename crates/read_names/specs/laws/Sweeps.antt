@@ -392,6 +392,10 @@ module _ (m : Mode) (s : List ℕ) where
       (k .k, refl, second-from limit (c .0) (k .k) (λ j l u e. omega (arith, in-front (k .k) (k .tok) (k .there) j l u e, k .place))) (k .tok) (k .there) refl (sym (k .worse)))
       (c .1)
 
+  -- there is none in the whole text
+  pub second-none : Clear m s (second4 m s) (λ x. true) (length s) × ((length s ≡ length s) ⊎ Struck m s (second4 m s) (length s)) → 0 ≡ placed (second m [] (lexemes m s))
+  second-none c = second-says (length s) 0 c (sym (ap (λ (u : Option Tok). placeBy u (tokenAt m s (length s) .start)) at-length))
+
   pub unruled-says : (limit r : ℕ) → Clear m s (lacks5 m s) (λ x. true) limit × ((limit ≡ length s) ⊎ Struck m s (lacks5 m s) limit)
       → r ≡ placeBy (tokenAt m s limit .is) (tokenAt m s limit .start) → r ≡ placed (unruled (leftsIn (lexemes m s)) (lexemes m s))
   unruled-says limit r c h =

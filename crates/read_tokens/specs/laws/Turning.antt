@@ -1,9 +1,11 @@
 -- Marks by place: turned one after the other, all are turned; looked at one after the other, one is set or none. Assumes nothing.
-use Prim.Native.Nat.{ℕ, zero, suc, _+_}
+use Prim.Native.Nat.{ℕ, zero, suc, _+_, _≤_, _<_}
 use mathlib.Core.Path.{_≡_, refl, sym, ap, _∙_}
-use mathlib.Core.Bool.{Bool, false, not, _||_}
+use mathlib.Core.Bool.{Bool, true, false, not, _||_}
 use mathlib.Core.List.{List, [], _∷_, _++_, append-nil, append-assoc}
+use mathlib.Core.Logic.{_⊎_, inl, inr}
 use native.Mathlib.Omega.{arith}
+use native.Mathlib.Nat.{eq-or-lt-of-le}
 use lib.ListN.{length, getD, set, length-append}
 use lib.Seq.{getD-append-seam, set-append-seam}
 use Rattle.read_tokens.specs.laws.Marks.{turnAll}
@@ -43,3 +45,17 @@ some-behind p (x ∷ l) n e =
 
 pub somes : (l : List Bool) → someFrom 0 (length l) l ≡ someTrue l
 somes l = some-behind [] l 0 refl
+
+-- a mark that is set among them
+or-true : (x : Bool) → (x || true) ≡ true
+or-true true = refl
+or-true false = refl
+
+pub some-at : (n i h : ℕ) (l : List Bool) → i ≤ h → h < i + n → getD l h false ≡ true → someFrom i n l ≡ true
+unfolding someFrom
+some-at zero i h l a b e = absurd (omega arith)
+some-at (suc n) i h l a b e = go (eq-or-lt-of-le a) (λ g. some-at n (suc i) h l (omega arith) (omega arith) e)
+  where
+    go : (i ≡ h) ⊎ (i < h) → (i < h → someFrom (suc i) n l ≡ true) → (getD l i false || someFrom (suc i) n l) ≡ true
+    go (inl g) f = ap (λ (y : Bool). y || someFrom (suc i) n l) (ap (λ (k : ℕ). getD l k false) g ∙ e)
+    go (inr g) f = ap (λ (y : Bool). getD l i false || y) (f g) ∙ or-true (getD l i false)

@@ -23,7 +23,7 @@ abbrev μ-loop : tie.MeasureT-loop
 μ-loop mode text a₀ low₀ limit₀ passed₀ a low limit passed = 64 - passed
 
 loop-holds : tie.Need-loop-holds Inv-loop μ-loop
-loop-holds c = (fits-new (c .before .args .text .now) 24576, fits-none (c .before .args .text .now), upto-none (c .before .args .mode) (c .before .args .text .now) (second4 (c .before .args .mode) (c .before .args .text .now)))
+loop-holds c = (fits-new (c .before .args .text .now) 20480, fits-none (c .before .args .text .now), upto-none (c .before .args .mode) (c .before .args .text .now) (second4 (c .before .args .mode) (c .before .args .text .now)))
 
 gather-requires : tie.Need-gather-requires Inv-loop μ-loop
 gather-requires c κs = (c .before .before .before .before .pre, c .before .before .loop .inv .0, c .before .before .loop .inv .1)

@@ -1,6 +1,9 @@
 -- `lefts::unruled_in` meets its contract. Assumes nothing.
 use mathlib.Core.Path.{_≡_, refl, sym, ap, _∙_, subst}
 use native.Mathlib.Omega.{arith}
+use Prim.Native.Nat.{ℕ}
+use lib.ListN.{length}
+use Rattle.read_names.specs.steps.Lefts.{Swept4}
 use Rattle.read_names.specs.laws.Marks.{knows-none}
 use borrow.Author.Needs.{needs}
 use Rattle.read_names.proofs.lefts.unruled_in.Statement.{statement}
@@ -11,7 +14,7 @@ use Rattle.read_names.proofs.lefts.sweep.Reads as sweep-reads
 use Rattle.read_names.proofs.lefts.uses.Reads as uses-reads
 
 sweep-requires : tie.Need-sweep-requires
-sweep-requires c κs = (c .before .before .pre .0, c .before .before .pre .1, omega arith, knows-none (c .before .before .args .text .now) (c .before .before .args .a .now) _ _ _ 24576)
+sweep-requires c κs = (c .before .before .pre .0, c .before .before .pre .1, omega arith, knows-none (c .before .before .args .text .now) (c .before .before .args .a .now) _ _ _ 20480)
 
 returns : tie.Need-returns
 returns c = λ z. absurd (z refl)
@@ -20,7 +23,7 @@ uses-requires : tie.Need-uses-requires
 uses-requires c κs = (c .before .before .before .before .before .pre .0, c .before .before .before .before .before .pre .1, c .before .before .before .before .before .pre .2, c .before .before .sweep .ensures (λ z. omega (arith, z, c .before .if1 .left, c .before .before .before .before .before .pre .0)) .1 (c .before .if1 .left))
 
 returns-2 : tie.Need-returns-2
-returns-2 c = c .uses .ensures
+returns-2 c = λ z. (c .uses .ensures z, subst (λ (r : ℕ). Swept4 (c .before .before .before .before .before .before .args .mode) (c .before .before .before .before .before .before .args .text .now) (c .before .before .before .before .before .before .args .c .low) (c .before .before .before .before .before .before .args .c .high) (length (c .before .before .before .before .before .before .args .text .now)) r) (c .before .before .if1 .left) (c .before .before .before .sweep .ensures (λ z. omega (arith, z, c .before .before .if1 .left, c .before .before .before .before .before .before .pre .0)) .0))
 
 pub unruled-in-spec : {M : Type 1} → statement M
 unruled-in-spec = tie.close (tie.spec sweep-requires returns uses-requires returns-2)

@@ -2,10 +2,11 @@
 use Prim.Native.Nat.{ℕ, _+_, _-_, _/_, _≤_, _<_}
 use mathlib.Core.Path.{_≡_, refl, sym, ap, _∙_, subst}
 use native.Mathlib.Omega.{arith}
+use lib.ListN.{length}
 use Rattle.read_order.specs.steps.Order.{inText, Fits}
-use Rattle.read_names.specs.steps.Lefts.{lacks5}
+use Rattle.read_names.specs.steps.Lefts.{second4, lacks5}
 use Rattle.read_order.specs.laws.Order.{fits-none, fits-new}
-use Rattle.read_names.specs.laws.Sweeps.{Upto, upto-none, upto-next, upto-all, swept-low, unruled-says}
+use Rattle.read_names.specs.laws.Sweeps.{Upto, upto-none, upto-next, upto-all, swept-low, second-none, unruled-says}
 use borrow.Author.Needs.{needs}
 use Rattle.read_names.proofs.lefts.unruled_use.Statement.{statement}
 use Rattle.read_names.proofs.lefts.unruled_use.Tie as tie
@@ -14,16 +15,15 @@ use Rattle.read_names.proofs.lefts.unruled_use.Lts as lts
 use Rattle.read_order.proofs.gather.Reads as gather-reads
 use Rattle.read_names.proofs.lefts.place_of.Reads as place-of-reads
 use Rattle.read_names.proofs.lefts.unruled_in.Reads as unruled-in-reads
-use Rattle.read_walks.proofs.unruled_walked.Reads as unruled-walked-reads
 
 abbrev Inv-loop : tie.InvT-loop
-Inv-loop mode text a₀ low₀ limit₀ passed₀ a low limit passed = Fits text a × inText text low × Upto mode text (lacks5 mode text) low limit
+Inv-loop mode text a₀ low₀ limit₀ passed₀ a low limit passed = Fits text a × inText text low × Upto mode text (lacks5 mode text) low limit × Upto mode text (second4 mode text) low (length text)
 
 abbrev μ-loop : tie.MeasureT-loop
 μ-loop mode text a₀ low₀ limit₀ passed₀ a low limit passed = 64 - passed
 
 loop-holds : tie.Need-loop-holds Inv-loop μ-loop
-loop-holds c = (fits-new (c .before .args .text .now) 24576, fits-none (c .before .args .text .now), upto-none (c .before .args .mode) (c .before .args .text .now) (lacks5 (c .before .args .mode) (c .before .args .text .now)))
+loop-holds c = (fits-new (c .before .args .text .now) 20480, fits-none (c .before .args .text .now), upto-none (c .before .args .mode) (c .before .args .text .now) (lacks5 (c .before .args .mode) (c .before .args .text .now)), upto-none (c .before .args .mode) (c .before .args .text .now) (second4 (c .before .args .mode) (c .before .args .text .now)))
 
 gather-requires : tie.Need-gather-requires Inv-loop μ-loop
 gather-requires c κs = (c .before .before .before .before .pre, c .before .before .loop .inv .0, c .before .before .loop .inv .1)
@@ -31,17 +31,14 @@ gather-requires c κs = (c .before .before .before .before .pre, c .before .befo
 unruled-in-requires : tie.Need-unruled-in-requires Inv-loop μ-loop
 unruled-in-requires c κs = (c .before .before .before .before .before .before .pre, record { fits = c .before .gather .ensures .fits; from = subst (inText (c .before .before .before .before .before .before .args .text .now)) (sym (c .before .gather .ensures .above)) (c .before .before .before .before .loop .inv .1); bound = c .before .gather .ensures .bound; few = c .before .gather .ensures .few }, c .before .before .before .before .loop .inv .2 .less)
 
-unruled-walked-requires : tie.Need-unruled-walked-requires Inv-loop μ-loop
-unruled-walked-requires c κs = search needs
-
 returns : tie.Need-returns Inv-loop μ-loop
-returns c = search needs
+returns c = λ z. absurd (z refl)
 
 place-of-requires : tie.Need-place-of-requires Inv-loop μ-loop
 place-of-requires c κs = search needs
 
 returns-2 : tie.Need-returns-2 Inv-loop μ-loop
-returns-2 c = unruled-says (c .before .before .before .before .before .before .before .before .before .before .args .mode) (c .before .before .before .before .before .before .before .before .before .before .args .text .now) (c .before .before .before .unruled-in .result) (c .place-of .result) (upto-all (c .before .before .before .before .before .before .before .before .before .before .args .mode) (c .before .before .before .before .before .before .before .before .before .before .args .text .now) (lacks5 (c .before .before .before .before .before .before .before .before .before .before .args .mode) (c .before .before .before .before .before .before .before .before .before .before .args .text .now)) (c .before .before .before .before .before .before .before .before .loop .inv .2) (c .before .before .before .before .before .gather .result .high) (c .before .before .before .unruled-in .result) (swept-low (c .before .before .before .before .before .before .before .before .before .before .args .mode) (c .before .before .before .before .before .before .before .before .before .before .args .text .now) (lacks5 (c .before .before .before .before .before .before .before .before .before .before .args .mode) (c .before .before .before .before .before .before .before .before .before .before .args .text .now)) (c .before .before .before .before .before .gather .result .low) (c .before .before .before .before .before .before .before .before .loop .low) (c .before .before .before .before .before .gather .result .high) (c .before .before .before .before .before .before .before .before .loop .limit) (c .before .before .before .unruled-in .result) (c .before .before .before .before .before .gather .ensures .above) (c .before .before .before .unruled-in .ensures (c .before .before .if1 .left))) (c .before .if2 .taken)) (c .place-of .ensures)
+returns-2 c = λ z. (second-none (c .before .before .before .before .before .before .before .before .before .before .args .mode) (c .before .before .before .before .before .before .before .before .before .before .args .text .now) (upto-all (c .before .before .before .before .before .before .before .before .before .before .args .mode) (c .before .before .before .before .before .before .before .before .before .before .args .text .now) (second4 (c .before .before .before .before .before .before .before .before .before .before .args .mode) (c .before .before .before .before .before .before .before .before .before .before .args .text .now)) (c .before .before .before .before .before .before .before .before .loop .inv .3) (c .before .before .before .before .before .gather .result .high) _ (swept-low (c .before .before .before .before .before .before .before .before .before .before .args .mode) (c .before .before .before .before .before .before .before .before .before .before .args .text .now) (second4 (c .before .before .before .before .before .before .before .before .before .before .args .mode) (c .before .before .before .before .before .before .before .before .before .before .args .text .now)) (c .before .before .before .before .before .gather .result .low) (c .before .before .before .before .before .before .before .before .loop .low) (c .before .before .before .before .before .gather .result .high) _ _ (c .before .before .before .before .before .gather .ensures .above) (c .before .before .before .unruled-in .ensures (c .before .before .if1 .left) .1)) (c .before .if2 .taken)), unruled-says (c .before .before .before .before .before .before .before .before .before .before .args .mode) (c .before .before .before .before .before .before .before .before .before .before .args .text .now) (c .before .before .before .unruled-in .result) (c .place-of .result) (upto-all (c .before .before .before .before .before .before .before .before .before .before .args .mode) (c .before .before .before .before .before .before .before .before .before .before .args .text .now) (lacks5 (c .before .before .before .before .before .before .before .before .before .before .args .mode) (c .before .before .before .before .before .before .before .before .before .before .args .text .now)) (c .before .before .before .before .before .before .before .before .loop .inv .2) (c .before .before .before .before .before .gather .result .high) (c .before .before .before .unruled-in .result) (swept-low (c .before .before .before .before .before .before .before .before .before .before .args .mode) (c .before .before .before .before .before .before .before .before .before .before .args .text .now) (lacks5 (c .before .before .before .before .before .before .before .before .before .before .args .mode) (c .before .before .before .before .before .before .before .before .before .before .args .text .now)) (c .before .before .before .before .before .gather .result .low) (c .before .before .before .before .before .before .before .before .loop .low) (c .before .before .before .before .before .gather .result .high) (c .before .before .before .before .before .before .before .before .loop .limit) (c .before .before .before .unruled-in .result) (c .before .before .before .before .before .gather .ensures .above) (c .before .before .before .unruled-in .ensures (c .before .before .if1 .left) .0)) (c .before .if2 .taken)) (c .place-of .ensures))
 
 add-passed : tie.Need-add-passed Inv-loop μ-loop
 add-passed c = search needs
@@ -50,13 +47,10 @@ loop-less : tie.Need-loop-less Inv-loop μ-loop
 loop-less c = omega (arith, c .before .before .before .before .before .before .loop-test .taken)
 
 loop-again : tie.Need-loop-again Inv-loop μ-loop
-loop-again c = (c .before .before .before .before .gather .ensures .fits, c .before .before .before .before .gather .ensures .bound, upto-next (c .before .before .before .before .before .before .before .before .before .args .mode) (c .before .before .before .before .before .before .before .before .before .args .text .now) (lacks5 (c .before .before .before .before .before .before .before .before .before .args .mode) (c .before .before .before .before .before .before .before .before .before .args .text .now)) (c .before .before .before .before .before .before .before .loop .inv .2) (c .before .before .before .before .gather .result .high) (c .before .before .unruled-in .result) (swept-low (c .before .before .before .before .before .before .before .before .before .args .mode) (c .before .before .before .before .before .before .before .before .before .args .text .now) (lacks5 (c .before .before .before .before .before .before .before .before .before .args .mode) (c .before .before .before .before .before .before .before .before .before .args .text .now)) (c .before .before .before .before .gather .result .low) (c .before .before .before .before .before .before .before .loop .low) (c .before .before .before .before .gather .result .high) (c .before .before .before .before .before .before .before .loop .limit) (c .before .before .unruled-in .result) (c .before .before .before .before .gather .ensures .above) (c .before .before .unruled-in .ensures (c .before .if1 .left))) (c .if2 .left))
-
-unruled-walked-requires-2 : tie.Need-unruled-walked-requires-2 Inv-loop μ-loop
-unruled-walked-requires-2 c κs = search needs
+loop-again c = (c .before .before .before .before .gather .ensures .fits, c .before .before .before .before .gather .ensures .bound, upto-next (c .before .before .before .before .before .before .before .before .before .args .mode) (c .before .before .before .before .before .before .before .before .before .args .text .now) (lacks5 (c .before .before .before .before .before .before .before .before .before .args .mode) (c .before .before .before .before .before .before .before .before .before .args .text .now)) (c .before .before .before .before .before .before .before .loop .inv .2) (c .before .before .before .before .gather .result .high) (c .before .before .unruled-in .result) (swept-low (c .before .before .before .before .before .before .before .before .before .args .mode) (c .before .before .before .before .before .before .before .before .before .args .text .now) (lacks5 (c .before .before .before .before .before .before .before .before .before .args .mode) (c .before .before .before .before .before .before .before .before .before .args .text .now)) (c .before .before .before .before .gather .result .low) (c .before .before .before .before .before .before .before .loop .low) (c .before .before .before .before .gather .result .high) (c .before .before .before .before .before .before .before .loop .limit) (c .before .before .unruled-in .result) (c .before .before .before .before .gather .ensures .above) (c .before .before .unruled-in .ensures (c .before .if1 .left) .0)) (c .if2 .left), upto-next (c .before .before .before .before .before .before .before .before .before .args .mode) (c .before .before .before .before .before .before .before .before .before .args .text .now) (second4 (c .before .before .before .before .before .before .before .before .before .args .mode) (c .before .before .before .before .before .before .before .before .before .args .text .now)) (c .before .before .before .before .before .before .before .loop .inv .3) (c .before .before .before .before .gather .result .high) _ (swept-low (c .before .before .before .before .before .before .before .before .before .args .mode) (c .before .before .before .before .before .before .before .before .before .args .text .now) (second4 (c .before .before .before .before .before .before .before .before .before .args .mode) (c .before .before .before .before .before .before .before .before .before .args .text .now)) (c .before .before .before .before .gather .result .low) (c .before .before .before .before .before .before .before .loop .low) (c .before .before .before .before .gather .result .high) _ _ (c .before .before .before .before .gather .ensures .above) (c .before .before .unruled-in .ensures (c .before .if1 .left) .1)) (c .if2 .left))
 
 returns-3 : tie.Need-returns-3 Inv-loop μ-loop
-returns-3 c = search needs
+returns-3 c = λ z. absurd (z refl)
 
 pub unruled-use-spec : {M : Type 1} → statement M
 unruled-use-spec =
@@ -67,12 +61,10 @@ unruled-use-spec =
     loop-holds
     gather-requires
     unruled-in-requires
-    unruled-walked-requires
     returns
     place-of-requires
     returns-2
     add-passed
     loop-less
     loop-again
-    unruled-walked-requires-2
     returns-3)

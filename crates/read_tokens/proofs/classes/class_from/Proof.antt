@@ -46,6 +46,9 @@ settled-requires c κs = search needs
 returns-3 : tie.Need-returns-3
 returns-3 c = c .settled .ensures ∙ ap (λ (l : List Bool). classIs (marked (someFrom 0 256 l) l 0 (c .before .before .before .before .before .set-items .result))) (c .before .turn .ensures) ∙ turned-is _ _ (c .before .before .before .before .before .before .before .before .before .before .args .text .now) (c .before .before .before .before .before .before .before .before .before .before .args .at) (λ x. c .before .before .before .before .before .before .before .if1 .left (c .before .before .before .before .before .before .before .before .byte-at .ensures .0 ∙ x)) (c .before .before .before .before .before .set-items .ensures) (c .before .before .before .before .if2 .left) ∙ ap (λ (x : Bool). classIs (classBy x 0 (from 93 listed (c .before .before .before .before .before .before .before .before .before .before .args .text .now) (c .before .before .before .before .before .before .before .before .before .before .args .at)))) (sym (c .before .before .before .if3 .taken))
 
+cast-settled : tie.Need-cast-settled
+cast-settled c = search needs
+
 settled-requires-2 : tie.Need-settled-requires-2
 settled-requires-2 c κs = search needs
 
@@ -65,5 +68,6 @@ class-from-spec =
     turn-requires
     settled-requires
     returns-3
+    cast-settled
     settled-requires-2
     returns-4)
