@@ -240,21 +240,9 @@ pub fn lake_at(
     let mut t: Table = [0; grammar_table::WORDS];
     let mut mid: Table = [0; grammar_table::WORDS];
     let mut plain: Table = [0; grammar_table::WORDS];
-    let mut marks = [false; 64];
-    let mut sets: [[u64; 2]; 1024] = [[0, 0]; 1024];
-    let mut eps = [false; 1024];
-    let mut succ: [[u64; 2]; 1024] = [[0, 0]; 1024];
     let mut alts: [[u64; 2]; 1024] = [[0, 0]; 1024];
     let r = prepare::load(mode, text, &mut t);
-    let made = prepare::analyse(
-        &t,
-        &mut mid,
-        &mut marks,
-        &mut sets,
-        &mut eps,
-        &mut succ,
-        &mut alts,
-    );
+    let made = prepare::alternatives(&t, &mut mid, &mut alts);
     let p = prepare::finish(r, made, &mid, &alts, &mut plain);
     let c = p.counted;
     let v = c.verdict;

@@ -8,7 +8,7 @@ ghost use Rattle.read_tokens.specs.Bounds.{expressionBound};
 ghost use Rattle.prepare.specs.Reads.{isRefused};
 ghost use Rattle.read_syntax.specs.steps.Found.{found};
 ghost use Rattle.prepare.specs.steps.Scanned.{scanned};
-ghost use Rattle.prepare.specs.steps.Loads.{Loads, Between, Follows, Finished, Plainly, PlainOnly};
+ghost use Rattle.prepare.specs.steps.Loads.{Loads, Between, WithAlts, Follows, Finished, Plainly, PlainOnly};
 ghost use Rattle.prepare.specs.declared.Verdict.the-variants.{Refused as VerdictRefused};
 
 pub mod refusals;
@@ -122,6 +122,17 @@ pub fn analyse(
     }
 }
 
+// The same for ALT alone: the other sets are needed no longer.
+pub fn alternatives(t: &Table, mid: &mut Table, alts: &mut [[u64; 2]; 1024]) -> Intermediate
+    ensures { λ r. ⌜ WithAlts (now (t .entry)) (now (mid .exit)) (now (alts .exit)) (r .expressions) (r .rounds) ⌝ }
+{
+    let mut marks = [false; 64];
+    let mut sets: [[u64; 2]; 1024] = [[0, 0]; 1024];
+    let mut eps = [false; 1024];
+    let mut succ: [[u64; 2]; 1024] = [[0, 0]; 1024];
+    analyse(t, mid, &mut marks, &mut sets, &mut eps, &mut succ, alts)
+}
+
 // The plain grammar of an intermediate one with n expressions: how many it has, more than 1,024 where it is refused.
 fn translate(n: usize, mid: &Table, alts: &[[u64; 2]; 1024], out: &mut Table) -> usize
     ensures { λ k. ⌜ Follows n (now (mid .entry)) (now (alts .entry)) (now (out .exit)) k ⌝ }
@@ -233,20 +244,8 @@ pub fn plainly(mode: Mode, text: &[u8], t: &mut Table, out: &mut Table) -> Count
         return r;
     }
     let mut mid: Table = [0; grammar_table::WORDS];
-    let mut marks = [false; 64];
-    let mut sets: [[u64; 2]; 1024] = [[0, 0]; 1024];
-    let mut eps = [false; 1024];
-    let mut succ: [[u64; 2]; 1024] = [[0, 0]; 1024];
     let mut alts: [[u64; 2]; 1024] = [[0, 0]; 1024];
-    let made = analyse(
-        t,
-        &mut mid,
-        &mut marks,
-        &mut sets,
-        &mut eps,
-        &mut succ,
-        &mut alts,
-    );
+    let made = alternatives(t, &mut mid, &mut alts);
     let p = finish(r, made, &mid, &alts, out);
     p.counted
 }

@@ -10,7 +10,7 @@ use Rattle.prepare.proofs.plainly.Statement.{statement}
 use Rattle.prepare.proofs.plainly.Tie as tie
 use Rattle.prepare.proofs.plainly.Reads as reads
 use Rattle.prepare.proofs.plainly.Lts as lts
-use Rattle.prepare.proofs.analyse.Reads as analyse-reads
+use Rattle.prepare.proofs.alternatives.Reads as alternatives-reads
 use Rattle.prepare.proofs.finish.Reads as finish-reads
 use Rattle.prepare.proofs.gather.Reads as gather-reads
 use Rattle.prepare.proofs.is_refused.Reads as is-refused-reads
@@ -35,14 +35,14 @@ is-refused-requires c κs = search needs
 returns-2 : tie.Need-returns-2
 returns-2 c = refused-plainly (c .before .before .before .before .before .before .before .before .args .mode) (c .before .before .before .before .before .before .before .before .args .text .now) _ _ (c .before .before .gather .result) (sym (c .before .is-refused .ensures) ∙ c .if2 .taken) (first-six (c .before .before .before .before .before .before .before .before .args .mode) (c .before .before .before .before .before .before .before .before .args .text .now) _ (c .before .before .gather .result) (c .before .before .gather .ensures) (sym (c .before .is-refused .ensures) ∙ c .if2 .taken))
 
-analyse-requires : tie.Need-analyse-requires
-analyse-requires c κs = search needs
+alternatives-requires : tie.Need-alternatives-requires
+alternatives-requires c κs = search needs
 
 finish-requires : tie.Need-finish-requires
 finish-requires c κs = search needs
 
 returns-3 : tie.Need-returns-3
-returns-3 c = as-plainly (c .before .finish .ensures .ready (c .before .before .before .before .before .before .before .before .before .before .before .before .before .before .before .before .before .before .before .before .before .args .mode) (c .before .before .before .before .before .before .before .before .before .before .before .before .before .before .before .before .before .before .before .before .before .args .text .now) _ _ _ _ _ (c .before .before .before .before .before .before .before .before .before .before .before .before .before .before .before .gather .ensures) (c .before .before .before .before .before .analyse .ensures))
+returns-3 c = as-plainly (c .before .finish .ensures .ready (c .before .before .before .before .before .before .before .before .before .before .before .before .before .before .before .before .before .args .mode) (c .before .before .before .before .before .before .before .before .before .before .before .before .before .before .before .before .before .args .text .now) _ _ _ _ _ (c .before .before .before .before .before .before .before .before .before .before .before .gather .ensures) (c .before .before .before .before .before .alternatives .ensures .between))
 
 pub plainly-spec : {M : Type 1} → statement M
 plainly-spec =
@@ -54,6 +54,6 @@ plainly-spec =
     gather-requires
     is-refused-requires
     returns-2
-    analyse-requires
+    alternatives-requires
     finish-requires
     returns-3)

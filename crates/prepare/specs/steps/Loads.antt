@@ -54,6 +54,14 @@ pub record Between (t mid : List ℕ) (ms : List Bool) (sets : List (List ℕ)) 
   pub stepped : SteppedOne t mid n
   pub fronted : n ≤ 1024 → Fronted mid ms sets eps succ alts rounds
 
+-- the same with ALT alone lent: there are the others beside it
+pub record WithAlts (t mid : List ℕ) (alts : List (List ℕ)) (n rounds : ℕ) : Type 0 where
+  pub ms : List Bool
+  pub sets : List (List ℕ)
+  pub eps : List Bool
+  pub succ : List (List ℕ)
+  pub between : Between t mid ms sets eps succ alts n rounds
+
 -- step 1, the sets and step 2: refusal 7, or all that
 pub record Translated (t mid : List ℕ) (ms : List Bool) (sets : List (List ℕ)) (eps : List Bool) (succ alts : List (List ℕ)) (out : List ℕ)
     (k rounds : ℕ) : Type 0 where
