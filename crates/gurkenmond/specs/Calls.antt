@@ -15,7 +15,8 @@ use Rattle.grammar.specs.Numbers.{isLake}
 use Rattle.grammar.specs.Refusal.{Refusal, refusal, refuseIf, _▸_}
 use Rattle.base_words.specs.Set.{empty}
 use Rattle.lake_sets.specs.declared.Sets.{Sets}
-use Rattle.lake_sets.specs.Analysis.{Analysis, setsAt, isExpression, bodyAlt, cannotSkip}
+use Rattle.lake_rules.specs.Analysis.{Analysis, isExpression, bodyAlt, cannotSkip}
+use Rattle.lake_sets.specs.SetsAt.{setsAt}
 use Rattle.lake_step_two.specs.Plain.{plainRules}
 use Rattle.lake_calls.specs.Calls.{order}
 use Rattle.match_lake.specs.Asking.{wayIn}

@@ -13,7 +13,7 @@ use Rattle.grammar_table.specs.Table.{upTo}
 use Rattle.base_words.specs.Set.{bit, ones}
 use Rattle.base_rounds.specs.Rounds.{iter}
 use Rattle.grammar.specs.Empty.{hasEmpty}
-use Rattle.lake_sets.specs.Beginning.{marked, marksOf}
+use Rattle.lake_rules.specs.Beginning.{marked, marksOf}
 
 -- "both sides of a choice, the right of a sequence whose left has ε, and under `&`, `!`, `?`, `*`, `+`"
 unfoldable pub firstCalls : (ℕ → Bool) → Exp ℕ → ℕ

@@ -10,7 +10,7 @@ use lib.ListN.{length, getD}
 use Rattle.read_tokens.specs.Token.{any}
 use Rattle.grammar.specs.Exp.{Exp, sym, ter, seq, alt, opt, star, plus, ahead, never}
 use Rattle.grammar.specs.Empty.{hasEmpty}
-use Rattle.lake_sets.specs.Beginning.{marked, marksOf}
+use Rattle.lake_rules.specs.Beginning.{marked, marksOf}
 
 -- "both sides of a choice, the right of a sequence whose left has ε, and under `&`, `!`, `?`, `*`, `+`"; m marks the symbols whose body has ε
 abbrev pub Calls : (ℕ → Bool) → Exp ℕ → ℕ → Type 0

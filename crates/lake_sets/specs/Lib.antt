@@ -1,5 +1,3 @@
-pub mod Beginning
-pub mod Flows
-pub mod Analysis
+pub mod SetsAt
 pub mod steps
 pub mod laws

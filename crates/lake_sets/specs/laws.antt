@@ -2,6 +2,4 @@
 pub mod Begins
 pub mod Fills
 pub mod Edges
-pub mod Wholes
-pub mod Least
 pub mod Told

@@ -14,7 +14,7 @@ use Rattle.grammar.specs.Refusal.{Refusal, refuseIf}
 use Rattle.read_tokens.specs.Bounds.{plainBound}
 use Rattle.base_words.specs.Set.{memberOf}
 use Rattle.lake_step_one.specs.Intermediate.{intermediate}
-use Rattle.lake_sets.specs.Analysis.{Analysis, bodyAlt}
+use Rattle.lake_rules.specs.Analysis.{Analysis, bodyAlt}
 
 -- "the nonterminals of ALT(b) by number": those of the names, numbered from i on; "lakes in ALT(b) are dropped"
 unfoldable pub nonterminalsIn : List ℕ → ℕ → List Symbol → List (Exp ℕ)

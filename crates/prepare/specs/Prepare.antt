@@ -7,7 +7,7 @@ use Rattle.grammar.specs.Exp.{Exp, Rule}
 use Rattle.grammar.specs.Numbers.{Grammar, numbered}
 use Rattle.grammar.specs.Refusal.{Refusal, _▸_}
 use Rattle.read_syntax.specs.Reading.{refusesText, rulesOf}
-use Rattle.lake_sets.specs.Analysis.{Analysis, analysis}
+use Rattle.lake_rules.specs.Analysis.{Analysis, analysis}
 use Rattle.lake_step_two.specs.Plain.{plainBodies, tooLarge}
 use Rattle.lake_calls.specs.Calls.{looping}
 

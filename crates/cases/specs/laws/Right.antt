@@ -20,9 +20,10 @@ use Rattle.read_syntax.specs.Machine.{close, newRule, after, step, accepting, s
 use Rattle.read_syntax.specs.Reader.{closeBy, primBy, sufBy, prefBy, choiceBy, arrowBy, ruleBy, rulesR, rulesP, choiceP, choiceR, seqP, seqR, prefP, primP}
 use Rattle.read_syntax.specs.Reading.{startsWith, reserved, second, leftsIn, unruled, tooMany, rulesFrom, refusesText, rulesOf}
 use Rattle.base_rounds.specs.Rounds.{settle}
-use Rattle.lake_sets.specs.Analysis.{analysed, analysis, setsAt, blockedBy, cannotSkipBelow, cannotSkip}
-use Rattle.lake_sets.specs.Beginning.{markRound, marksOf as sets-marksOf, beginningsFrom, beginnings}
-use Rattle.lake_sets.specs.Flows.{overParts, given, leastBy}
+use Rattle.lake_rules.specs.Analysis.{analysed, analysis, blockedBy, cannotSkipBelow, cannotSkip}
+use Rattle.lake_sets.specs.SetsAt.{setsAt}
+use Rattle.lake_rules.specs.Beginning.{markRound, marksOf as sets-marksOf, beginningsFrom, beginnings}
+use Rattle.lake_rules.specs.Flows.{overParts, given, leastBy}
 use Rattle.lake_step_one.specs.Intermediate.{waterIn, bodiesBy, intermediate}
 use Rattle.lake_calls.specs.Calls.{firstCalls, callsOf, allCalled, reach, loopFrom, loop, ranksOf, ofRank, orderFrom, order}
 use Rattle.lake_step_two.specs.Plain.{nonterminalsIn, terminalsIn, alternatives, plainFrom, plainBodies, sizes, rulesBy, plainRules}

@@ -21,7 +21,7 @@ use Rattle.grammar.specs.Refusal.{Refusal, refusal, refuseIf, _▸_}
 use Rattle.read_syntax.specs.Reading.{tooMany, refusesText, rulesOf}
 use Rattle.prepare.specs.steps.Scanned.{scanned}
 use Rattle.prepare.specs.laws.Chain.{text-by-scan}
-use Rattle.lake_sets.specs.Analysis.{analysis}
+use Rattle.lake_rules.specs.Analysis.{analysis}
 use Rattle.grammar_table.specs.laws.Parts.{total}
 use Rattle.lake_step_two.specs.Plain.{plainRules, sizes, tooLarge}
 use Rattle.lake_calls.specs.Calls.{order, looping}

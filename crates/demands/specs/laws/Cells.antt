@@ -17,7 +17,7 @@ use Rattle.grammar.specs.Numbers.{Grammar, numbered}
 use Rattle.grammar.specs.Refusal.{Refusal, refuseIf, _▸_}
 use Rattle.read_syntax.specs.Reading.{rulesOf}
 use Rattle.grammar.specs.Numbers.{terminalIn}
-use Rattle.lake_sets.specs.Beginning.{marked, marksOf}
+use Rattle.lake_rules.specs.Beginning.{marked, marksOf}
 use Rattle.lake_step_one.specs.Proper.{SoundAll}
 use Rattle.lake_calls.specs.Calls.{order, loop}
 use Rattle.match_meaning.specs.Meaning.{Node, Derives}

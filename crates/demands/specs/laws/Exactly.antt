@@ -8,7 +8,7 @@ use lib.ListN.{length}
 use lib.Dec.{ltb, leb}
 use Rattle.read_tokens.specs.declared.Mode.{Mode}
 use Rattle.grammar.specs.Refusal.{Refusal, refusal, refuseIf, _▸_}
-use Rattle.lake_sets.specs.Analysis.{isExpression}
+use Rattle.lake_rules.specs.Analysis.{isExpression}
 use Rattle.prepare.specs.Prepare.{prepared, refuses}
 use Rattle.prepare.specs.Reads.{verdictOf, readBy, readOf}
 use Rattle.prepare.specs.laws.Loads.{some-none}

@@ -15,7 +15,7 @@ use Rattle.grammar.specs.Exp.{Exp, Rule, ter}
 use Rattle.grammar.specs.Numbers.{Grammar, isLake, leftSides, looseLakes, symbolsOf, rightBy, numbered}
 use Rattle.read_syntax.specs.Reading.{rulesOf}
 use Rattle.lake_step_one.specs.Intermediate.{waterIn, intermediateBy, intermediate}
-use Rattle.lake_sets.specs.Analysis.{Analysis, analysis, bodyAlt}
+use Rattle.lake_rules.specs.Analysis.{Analysis, analysis, bodyAlt}
 use Rattle.grammar_table.specs.laws.Places.{getD-any}
 use Rattle.lake_step_one.specs.laws.Next.{bodies-at, bodies-long as middle-long}
 use Rattle.lake_step_two.specs.Plain.{alternatives, plainBy, plainBodies}

@@ -25,7 +25,7 @@ use Rattle.read_syntax.specs.Reading.{tooLong, offence, second, unruled, leftsI
 use Rattle.read_syntax.specs.steps.Found.{found}
 use Rattle.read_syntax.specs.laws.Bounds.{judged, one-answer}
 use Rattle.read_syntax.specs.laws.Grammars.{one-grammar}
-use Rattle.lake_sets.specs.Analysis.{isExpression}
+use Rattle.lake_rules.specs.Analysis.{isExpression}
 use Rattle.lake_step_two.specs.Plain.{sizes, tooLarge}
 use Rattle.lake_calls.specs.Calls.{loop, looping}
 use Rattle.lake_calls.specs.Loops.{SmallestLoop}

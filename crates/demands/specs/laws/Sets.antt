@@ -13,11 +13,12 @@ use Rattle.grammar.specs.Parts.{partsAll}
 use Rattle.grammar.specs.Refusal.{Refusal, refuseIf, _▸_}
 use Rattle.read_syntax.specs.Reading.{rulesOf}
 use Rattle.lake_step_one.specs.Intermediate.{waterIn, intermediate}
-use Rattle.lake_sets.specs.Analysis.{setsAt, isExpression, cannotSkip}
+use Rattle.lake_sets.specs.SetsAt.{setsAt}
+use Rattle.lake_rules.specs.Analysis.{isExpression, cannotSkip}
 use Rattle.grammar.specs.Numbers.{terminalIn}
 use Rattle.lake_step_one.specs.Proper.{Proper}
-use Rattle.lake_analysis.specs.Rules.{LeastMarks}
-use Rattle.lake_analysis.specs.laws.Least.{Lawful, partOf, lawful, marks-lawful}
+use Rattle.lake_rules.specs.Rules.{LeastMarks}
+use Rattle.lake_rules.specs.laws.Least.{Lawful, partOf, lawful, marks-lawful}
 use Rattle.lake_step_one.specs.laws.Next.{bodies-long as middle-long}
 use Rattle.prepare.specs.declared.Verdict.the-variants.{Accepted}
 use Rattle.prepare.specs.Prepare.{prepared, preparedBy, refuses}

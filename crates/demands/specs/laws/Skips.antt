@@ -15,8 +15,8 @@ use Rattle.read_tokens.specs.Token.{Symbol, name}
 use Rattle.grammar.specs.Numbers.{Grammar, isLake}
 use Rattle.base_words.specs.Set.{bit, memberOf}
 use Rattle.base_words.specs.laws.Members.{bit-step}
-use Rattle.lake_sets.specs.Beginning.{marked}
-use Rattle.lake_sets.specs.Analysis.{Analysis, bodyAlt, blockedBy, cannotSkipBelow, cannotSkip}
+use Rattle.lake_rules.specs.Beginning.{marked}
+use Rattle.lake_rules.specs.Analysis.{Analysis, bodyAlt, blockedBy, cannotSkipBelow, cannotSkip}
 use Rattle.prepare.specs.Prepare.{prepared, refuses}
 use Rattle.gurkenmond.specs.declared.Lakes.{Lakes}
 use Rattle.gurkenmond.specs.Calls.{cannotSkipOf}

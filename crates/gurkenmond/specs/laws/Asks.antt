@@ -8,7 +8,7 @@ use lib.ListN.{length}
 use lib.Dec.{leb}
 use Rattle.read_tokens.specs.declared.Mode.{Mode}
 use Rattle.grammar.specs.Refusal.{Refusal, refuseIf, _▸_}
-use Rattle.lake_sets.specs.Analysis.{bodyAlt}
+use Rattle.lake_rules.specs.Analysis.{bodyAlt}
 use Rattle.match_ask.specs.declared.LakeWay.{LakeWay}
 use Rattle.match_ask.specs.steps.Asks.{notAsked, Lent, lent, askedAfter, Asked}
 use Rattle.prepare.specs.declared.Counted.{Counted}

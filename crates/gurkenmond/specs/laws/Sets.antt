@@ -17,11 +17,12 @@ use Rattle.grammar.specs.Refusal.{Refusal, refuseIf, _▸_}
 use Rattle.read_syntax.specs.Reading.{rulesOf}
 use Rattle.lake_sets.specs.declared.Sets.{Sets}
 use Rattle.lake_step_one.specs.Intermediate.{intermediate}
-use Rattle.lake_sets.specs.Beginning.{marked, marksOf, beginnings}
-use Rattle.lake_sets.specs.Analysis.{Analysis, analysis, analysed, setsAt, isExpression}
+use Rattle.lake_rules.specs.Beginning.{marked, marksOf, beginnings}
+use Rattle.lake_rules.specs.Analysis.{Analysis, analysis, analysed, isExpression}
+use Rattle.lake_sets.specs.SetsAt.{setsAt}
 use Rattle.grammar.specs.Numbers.{terminalIn}
 use Rattle.lake_step_one.specs.Proper.{middle}
-use Rattle.lake_sets.specs.laws.Begins.{begins-long}
+use Rattle.lake_rules.specs.laws.Begins.{begins-long}
 use Rattle.grammar_table.specs.laws.Parts.{present-some}
 use Rattle.lake_analysis.specs.steps.Lent.{SetsOf as SetsPromise, CannotSkip}
 use Rattle.prepare.specs.declared.Counted.{Counted}

@@ -11,7 +11,7 @@ use Rattle.grammar.specs.Numbers.{numbered}
 use Rattle.grammar_table.specs.Holds.{Holds}
 use Rattle.grammar.specs.Refusal.{Refusal, refusal, refuseIf}
 use Rattle.read_syntax.specs.Reading.{rulesOf}
-use Rattle.lake_sets.specs.Analysis.{analysis}
+use Rattle.lake_rules.specs.Analysis.{analysis}
 use Rattle.lake_step_one.specs.steps.Made.{withBodies}
 use Rattle.lake_step_two.specs.Plain.{plainRules}
 use Rattle.lake_step_two.specs.steps.Stepped.{plainOf}

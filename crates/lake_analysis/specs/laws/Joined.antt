@@ -9,14 +9,15 @@ use native.Mathlib.Omega.{arith}
 use Rattle.base_words.specs.Set.{empty}
 use Rattle.grammar_table.specs.Table.{symbolCount, expressionCount}
 use Rattle.grammar.specs.Numbers.{Grammar}
-use Rattle.lake_sets.specs.steps.Steps.{Tame, marksIn, BegunAll, Flowed, succeedGiven, altGiven, handed}
+use Rattle.lake_sets.specs.steps.Steps.{Tame, marksIn, BegunAll, succeedGiven, altGiven, handed}
+use Rattle.lake_rules.specs.laws.Reached.{Flowed}
 use Rattle.lake_sets.specs.laws.Told.{told, tame}
 use Rattle.lake_step_one.specs.Proper.{middle}
 use Rattle.lake_step_one.specs.laws.Held.{names-are}
 use Rattle.lake_analysis.specs.steps.Lent.{Begins, Parted, SetsOf}
 use Rattle.lake_sets.specs.declared.Sets.{Sets}
-use Rattle.lake_sets.specs.Beginning.{Beginning, begin, nothing}
-use Rattle.lake_sets.specs.Analysis.{setsAt}
+use Rattle.lake_rules.specs.Beginning.{Beginning, begin, nothing}
+use Rattle.lake_sets.specs.SetsAt.{setsAt}
 
 -- n, m, l: the lengths that the three steps were asked with
 pub joined : (t : List ℕ) (n m l r : ℕ) (ms : List Bool) (sets : List (List ℕ)) (eps : List Bool) (succ alts : List (List ℕ)) (j k : ℕ) → m ≡ n → l ≡ n

@@ -19,8 +19,8 @@ use Rattle.grammar.specs.Parts.{rootsOf}
 use Rattle.grammar_table.specs.Table.{symbolCount, expressionCount, symbolWord, symbolBy, nameIn, upTo}
 use Rattle.grammar_table.specs.Holds.{Holds}
 use Rattle.lake_step_one.specs.Intermediate.{intermediate}
-use Rattle.lake_sets.specs.Beginning.{marked}
-use Rattle.lake_sets.specs.Analysis.{Analysis, analysed, analysis, bodyAlt, blockedBy, cannotSkipBelow, cannotSkip}
+use Rattle.lake_rules.specs.Beginning.{marked}
+use Rattle.lake_rules.specs.Analysis.{Analysis, analysed, analysis, bodyAlt, blockedBy, cannotSkipBelow, cannotSkip}
 use Rattle.lake_sets.specs.steps.Steps.{rootIn}
 use Rattle.lake_step_one.specs.Proper.{Proper, middle}
 use Rattle.lake_sets.specs.steps.Analysed.{Analysed}

@@ -10,7 +10,8 @@ use Rattle.grammar.specs.Numbers.{Grammar}
 use Rattle.grammar_table.specs.Table.{symbolCount, expressionCount, symbolWord}
 use Rattle.grammar_table.specs.Holds.{Holds}
 use Rattle.lake_sets.specs.declared.Sets.{Sets}
-use Rattle.lake_sets.specs.Analysis.{Analysis, analysis, setsAt, cannotSkip}
+use Rattle.lake_rules.specs.Analysis.{Analysis, analysis, cannotSkip}
+use Rattle.lake_sets.specs.SetsAt.{setsAt}
 use Rattle.lake_sets.specs.steps.Steps.{Tame, marksIn, BegunAll, rootIn}
 use Rattle.lake_step_one.specs.Proper.{Proper, middle}
 use Rattle.lake_sets.specs.steps.Analysed.{Analysed}

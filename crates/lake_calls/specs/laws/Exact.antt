@@ -18,7 +18,7 @@ use Rattle.grammar.specs.Empty.{hasEmpty}
 use Rattle.base_words.specs.Set.{bit}
 use Rattle.base_words.specs.laws.Members.{bit-lt, bit-pow-same, bit-pow-other}
 use Rattle.base_words.specs.laws.Order.{sub-or-l, sub-or-r}
-use Rattle.lake_sets.specs.Beginning.{marked, marksOf}
+use Rattle.lake_rules.specs.Beginning.{marked, marksOf}
 use Rattle.lake_calls.specs.Calls.{firstCalls, callsOf, holds, reach, loopFrom, loop}
 use Rattle.lake_calls.specs.Loops.{Calls, FirstCalls, LeadsTo, at-once, and-on, OnLoop, SmallestLoop}
 use Rattle.lake_calls.specs.laws.Ranks.{member}

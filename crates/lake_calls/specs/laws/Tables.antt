@@ -6,7 +6,7 @@ use mathlib.Core.List.{List, [], _∷_, _++_, map}
 use lib.ListN.{length}
 use Rattle.grammar.specs.Exp.{Exp}
 use Rattle.grammar_table.specs.Table.{upTo, symbolWord, symbolCount}
-use Rattle.lake_sets.specs.Beginning.{marked, marksOf}
+use Rattle.lake_rules.specs.Beginning.{marked, marksOf}
 use Rattle.lake_calls.specs.Calls.{firstCalls, callsOf, loopFrom, loop, ranksOf, orderFrom, order}
 use Rattle.grammar_table.specs.Trees.{treeOf, bodiesOf}
 use Rattle.grammar_table.specs.laws.Places.{upTo-long}

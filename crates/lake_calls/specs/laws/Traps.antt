@@ -13,9 +13,9 @@ use Rattle.grammar.specs.Parts.{partsOf, partsAll, rootsOf}
 use Rattle.grammar.specs.Same.{sameBytes, sameMarks, sameSymbol, sameLeaf, indexOf}
 use Rattle.base_rounds.specs.Rounds.{settle}
 use Rattle.lake_step_one.specs.Intermediate.{waterIn, bodiesBy, intermediate}
-use Rattle.lake_sets.specs.Beginning.{markRound, marksOf, beginningsFrom, beginnings}
-use Rattle.lake_sets.specs.Flows.{overParts, given, leastBy}
-use Rattle.lake_sets.specs.Analysis.{analysed, analysis}
+use Rattle.lake_rules.specs.Beginning.{markRound, marksOf, beginningsFrom, beginnings}
+use Rattle.lake_rules.specs.Flows.{overParts, given, leastBy}
+use Rattle.lake_rules.specs.Analysis.{analysed, analysis}
 use Rattle.lake_step_two.specs.Plain.{nonterminalsIn, terminalsIn, alternatives, plainFrom, plainBodies}
 use Rattle.lake_calls.specs.Calls.{firstCalls, callsOf, allCalled, reach, loopFrom, loop}
 

@@ -14,7 +14,7 @@ use Rattle.grammar.specs.Empty.{hasEmpty}
 use Rattle.grammar_table.specs.Holds.{Holds}
 use Rattle.base_rounds.specs.Rounds.{iter}
 use Rattle.grammar.specs.Numbers.{terminalIn}
-use Rattle.lake_sets.specs.Beginning.{marked}
+use Rattle.lake_rules.specs.Beginning.{marked}
 use Rattle.lake_step_one.specs.Proper.{Sound, SoundAll}
 use Rattle.lake_step_one.specs.steps.Made.{withBodies}
 use Rattle.lake_calls.specs.Calls.{loop}

@@ -1,4 +1,4 @@
-use Rattle.lake_sets.specs.Beginning.{Beginning, marked}
+use Rattle.lake_rules.specs.Beginning.{Beginning, marked}
 use Rattle.lake_sets.specs.steps.Steps.{pairAt}
 use Rattle.lake_sets.specs.laws.Begins.{rest-eps}
 use mathlib.Core.Path.{_≡_, refl, sym, ap, ap₂, _∙_, subst}
@@ -8,7 +8,8 @@ use mathlib.Core.Bool.{Bool, true, false, cond, _&&_, _||_}
 use lib.ListN.{length, getD, set, length-set, List·getD-eq-default}
 use Rattle.base_words.specs.Set.{unionOf, empty}
 use Rattle.grammar_table.specs.Table.{partBy, partIn, upTo}
-use Rattle.lake_sets.specs.laws.Begins.{rest, set-any, eps-any, begin-agree, begins-rule, begins-long, small}
+use Rattle.lake_sets.specs.laws.Begins.{rest, small}
+use Rattle.lake_rules.specs.laws.Begins.{set-any, eps-any, begin-agree, begins-rule, begins-long}
 use borrow.Author.Needs.{needs}
 use Rattle.lake_sets.proofs.begin_eps.Statement.{statement}
 use Rattle.lake_sets.proofs.begin_eps.Tie as tie

@@ -1,5 +1,5 @@
 use borrow.Author.Needs.{needs}
-use Rattle.lake_sets.specs.Beginning.{Beginning}
+use Rattle.lake_rules.specs.Beginning.{Beginning}
 use Rattle.lake_sets.specs.steps.Steps.{pairAt}
 use mathlib.Core.Path.{_≡_, refl, sym, ap, ap₂, _∙_, subst}
 use mathlib.Core.List.{List, [], _∷_}
@@ -8,7 +8,8 @@ use mathlib.Core.Bool.{Bool, true, false, cond, _&&_, _||_}
 use lib.ListN.{length, getD, set, length-set, List·getD-eq-default}
 use Rattle.base_words.specs.Set.{unionOf, empty}
 use Rattle.grammar_table.specs.Table.{partBy, partIn, upTo}
-use Rattle.lake_sets.specs.laws.Begins.{rest, set-any, eps-any, begin-agree, begins-rule, begins-long, small}
+use Rattle.lake_sets.specs.laws.Begins.{rest, small}
+use Rattle.lake_rules.specs.laws.Begins.{set-any, eps-any, begin-agree, begins-rule, begins-long}
 use Rattle.lake_sets.proofs.begin_set.Statement.{statement}
 use Rattle.lake_sets.proofs.begin_set.Tie as tie
 use Rattle.lake_sets.proofs.begin_set.Reads as reads

@@ -6,7 +6,7 @@ use native.Mathlib.Omega.{arith}
 use lib.ListN.{length, getD, set, replicate, length-set, List·getD-eq-default, length-replicate}
 use Rattle.base_facts.specs.laws.Numbers.{lt-or-ge}
 use Rattle.grammar_table.specs.Table.{partBy, partIn, upTo}
-use Rattle.lake_sets.specs.Beginning.{Beginning, nothing, begin, marked, beginBy}
+use Rattle.lake_rules.specs.Beginning.{Beginning, nothing, begin, marked, beginBy}
 use Rattle.lake_sets.specs.steps.Steps.{pairAt, rootIn, Tame, beginsIn, markNext, marksIn, BegunAll, MarkedAll}
 use Rattle.base_rounds.specs.laws.Fill.{fill-more}
 use Rattle.grammar_table.specs.laws.Places.{getD-any, is-upTo, upTo-same}

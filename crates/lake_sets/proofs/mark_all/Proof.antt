@@ -7,7 +7,7 @@ use mathlib.Core.Bool.{Bool, true, false, cond, _&&_, _||_}
 use native.Mathlib.Omega.{arith}
 use lib.ListN.{length, getD, set, replicate, length-set, List·getD-eq-default, length-replicate}
 use Rattle.grammar_table.specs.Table.{partBy, partIn, upTo}
-use Rattle.lake_sets.specs.Beginning.{Beginning, nothing, begin, marked, beginBy}
+use Rattle.lake_rules.specs.Beginning.{Beginning, nothing, begin, marked, beginBy}
 use Rattle.lake_sets.specs.steps.Steps.{pairAt, rootIn, Tame, beginsIn, markNext, marksIn, BegunAll, MarkedAll}
 use Rattle.grammar_table.specs.laws.Places.{getD-any, is-upTo, upTo-same}
 use native.Mathlib.Numerals.{add-one}

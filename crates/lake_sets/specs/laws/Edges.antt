@@ -1,8 +1,8 @@
 -- Edges that are stored one behind the other, and gifts that are given one after the other. Assumes nothing.
-use Prim.Native.Nat.{ℕ, zero, suc, _+_, _*_, _^_, _≤_, _<_}
+use Prim.Native.Nat.{ℕ, zero, suc, _+_, _≤_, _<_}
 use mathlib.Core.Path.{_≡_, refl, sym, ap, ap₂, _∙_, subst}
-use mathlib.Core.Logic.{_⊎_, inl, inr, ⊎-elim}
-use mathlib.Core.Bool.{Bool, true, false, true≢false}
+use mathlib.Core.Logic.{⊎-elim}
+use mathlib.Core.Bool.{Bool, true, false}
 use mathlib.Core.List.{List, [], _∷_, _++_, append-assoc, append-nil}
 use native.Mathlib.Omega.{arith}
 use native.Mathlib.Numerals.{add-one}
@@ -10,38 +10,22 @@ use lib.ListN.{length, getD, set, take, replicate, length-append, length-set, le
 use lib.Seq.{getD-set-same, getD-set-other, getD-take, length-take-le, set-out}
 use lib.Dec.{ltb}
 use lib.Pow.{pow-pos}
-use lib.Bits.{or-lt}
 use borrow.Author.Tests.{lt-ltb, le-ltb, ltb-true}
 use Rattle.base_facts.specs.laws.Numbers.{lt-or-ge, same?}
 use Rattle.base_words.specs.Set.{unionOf, empty}
 use Rattle.base_rounds.specs.Flow.{Edge, flow}
 use Rattle.base_rounds.specs.Rounds.{First, iter}
-use Rattle.base_rounds.specs.laws.Cells.{Every}
 use Rattle.base_rounds.specs.laws.Pair.{Set2}
 use Rattle.base_rounds.specs.laws.Flow.{Inside}
 use Rattle.base_rounds.specs.laws.Sys.{edges, Shaped, Solved, roundOf, empties}
 use Rattle.grammar.specs.Parts.{Part, terminal, occurs, sequence, choice, option, repeat, repeat1, affirms, denies}
 use Rattle.grammar_table.specs.Table.{upTo, partIn, partBy}
-use Rattle.lake_sets.specs.Beginning.{Beginning}
-use Rattle.lake_sets.specs.Flows.{edge, Gift, gift, when, overParts, given, roundBy, succeedGifts, altGifts}
-use Rattle.lake_sets.specs.steps.Steps.{pairAt, rootIn, keptBy, kept, edgesBy, handed, Grown, Gave, Fine, Flowed, RoundsAsk}
+use Rattle.lake_rules.specs.Beginning.{Beginning}
+use Rattle.lake_rules.specs.Flows.{edge, Gift, gift, when, overParts, given, roundBy, succeedGifts, altGifts}
+use Rattle.lake_rules.specs.laws.Over.{over-next, inside-append}
+use Rattle.lake_sets.specs.steps.Steps.{pairAt, rootIn, keptBy, kept, edgesBy, handed, Grown, Gave, Fine, RoundsAsk}
+use Rattle.lake_rules.specs.laws.Reached.{Flowed}
 use Rattle.grammar_table.specs.laws.Places.{getD-any, upTo-long}
-
--- ---- over all expressions
-over-more : {A : Type 0} (f : ℕ → Part → List A) (i : ℕ) (ps : List Part) (p : Part) → overParts f i (ps ++ (p ∷ [])) ≡ overParts f i ps ++ f (i + length ps) p
-unfolding overParts
-over-more f i [] p = append-nil (f i p) ∙ ap (λ (j : ℕ). f j p) (let q : i ≡ i + 0 = omega arith in q)
-over-more f i (q ∷ ps) p =
-    ap (λ l. f i q ++ l) (over-more f (suc i) ps p ∙ ap (λ (j : ℕ). overParts f (suc i) ps ++ f j p) (let e : suc i + length ps ≡ i + suc (length ps) = omega arith in e))
-    ∙ sym (append-assoc (f i q) (overParts f (suc i) ps) (f (i + suc (length ps)) p))
-
-pub over-next : {A : Type 0} (f : ℕ → Part → List A) (part : ℕ → Part) (n : ℕ) → overParts f 0 (upTo part (n + 1)) ≡ overParts f 0 (upTo part n) ++ f n (part n)
-unfolding upTo
-over-next f part n = rw add-one (over-more f 0 (upTo part n) (part n) ∙ ap (λ (j : ℕ). overParts f 0 (upTo part n) ++ f j (part n)) (let e : length (upTo part n) ≡ n = upTo-long part n in let q : 0 + length (upTo part n) ≡ n = omega arith in q))
-
-pub over-none : {A : Type 0} (f : ℕ → Part → List A) (part : ℕ → Part) → overParts f 0 (upTo part 0) ≡ []
-unfolding upTo overParts
-over-none f part = refl
 
 -- ---- the edges
 keptBy-append : (b : Bool) (e : Edge) (l k : List Edge) → keptBy b e (l ++ k) ≡ keptBy b e l ++ k
@@ -105,10 +89,6 @@ pub kept-inside : (n : ℕ) (es : List Edge) → From n es → Inside n (kept n 
 unfolding kept
 kept-inside n [] h = tt
 kept-inside n (e ∷ es) h = keptBy-inside n e (kept n es) (ltb (e .to) n) refl (h .0) (kept-inside n es (h .1))
-
-pub inside-append : (n : ℕ) (xs ys : List Edge) → Inside n xs → Inside n ys → Inside n (xs ++ ys)
-inside-append n [] ys h k = k
-inside-append n (x ∷ xs) ys h k = (h .0, h .1, inside-append n xs ys (h .2) k)
 
 pub inside-over : (n : ℕ) (f : ℕ → Part → List Edge) (ps : List Part) (i : ℕ) → i + length ps ≤ n → ((j : ℕ) (p : Part) → j < n → Inside n (f j p)) → Inside n (overParts f i ps)
 unfolding overParts

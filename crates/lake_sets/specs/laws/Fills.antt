@@ -10,10 +10,11 @@ use lib.Seq.{ext-getD, getD-set-same, getD-set-other}
 use Rattle.base_facts.specs.laws.Numbers.{lt-or-ge, same?}
 use Rattle.base_words.specs.Set.{empty}
 use Rattle.grammar_table.specs.Table.{partIn, upTo}
-use Rattle.lake_sets.specs.Beginning.{Beginning, nothing, begin, marked, beginBy, beginnings}
+use Rattle.lake_rules.specs.Beginning.{Beginning, nothing, begin, marked, beginBy, beginnings}
 use Rattle.lake_sets.specs.steps.Steps.{pairAt, Tame, Small, Begun, beginsIn, markNext, marksIn}
 use native.Mathlib.Numerals.{add-one}
-use Rattle.lake_sets.specs.laws.Begins.{begin-agree, begins-rule, begins-long, small}
+use Rattle.lake_rules.specs.laws.Begins.{begin-agree, begins-rule, begins-long}
+use Rattle.lake_sets.specs.laws.Begins.{small}
 
 pub is-replicate : {A : Type 0} (d a : A) (l : List A) (n : ℕ) → length l ≡ n → ((i : ℕ) → i < n → getD l i d ≡ a) → l ≡ replicate n a
 is-replicate d a l n e h =

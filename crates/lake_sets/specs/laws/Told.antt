@@ -22,20 +22,23 @@ use Rattle.grammar.specs.Parts.{Part, terminal, occurs, sequence, choice, optio
 use Rattle.grammar_table.specs.Table.{upTo, partIn, rootsIn, symbolWord, symbolCount, terminalCount, expressionCount}
 use Rattle.grammar_table.specs.Holds.{Holds, rootsFrom}
 use Rattle.lake_step_one.specs.Intermediate.{intermediate}
-use Rattle.lake_sets.specs.Beginning.{Beginning, nothing, begin, marked, markRound, marksOf, beginnings}
-use Rattle.lake_sets.specs.Flows.{edge, Gift, gift, when, overParts, leastBy, succeedGifts, succeedEdges, altGifts, altEdges}
-use Rattle.lake_sets.specs.Analysis.{Analysis, analysed, analysis}
+use Rattle.lake_rules.specs.Beginning.{Beginning, nothing, begin, marked, markRound, marksOf, beginnings}
+use Rattle.lake_rules.specs.Flows.{edge, Gift, gift, when, overParts, leastBy, succeedGifts, succeedEdges, altGifts, altEdges}
+use Rattle.lake_rules.specs.Analysis.{Analysis, analysed, analysis}
 use Rattle.grammar.specs.Numbers.{terminalIn}
-use Rattle.lake_sets.specs.steps.Steps.{pairAt, rootIn, Ok, Tame, beginsIn, markNext, marksIn, kept, edgesBy, handed, succeedGiven, altGiven, Flowed}
+use Rattle.lake_sets.specs.steps.Steps.{pairAt, rootIn, Tame, beginsIn, markNext, marksIn, kept, edgesBy, handed, succeedGiven, altGiven}
+use Rattle.lake_rules.specs.laws.Wholes.{Ok}
+use Rattle.lake_rules.specs.laws.Reached.{Flowed}
 use Rattle.lake_step_one.specs.Proper.{Sound, SoundAll, Proper, middle}
 use Rattle.lake_sets.specs.steps.Analysed.{Analysed}
 use Rattle.grammar_table.specs.laws.Places.{getD-any, upTo-long, upTo-at, is-upTo}
-use Rattle.lake_sets.specs.laws.Begins.{begins-rule, begins-long}
-use Rattle.lake_sets.specs.laws.Edges.{over-next, over-none, handed-inside}
+use Rattle.lake_rules.specs.laws.Begins.{begins-rule, begins-long}
+use Rattle.lake_rules.specs.laws.Over.{over-next, over-none}
+use Rattle.lake_sets.specs.laws.Edges.{handed-inside}
 use Rattle.grammar_table.specs.laws.Parts.{total, all-long, roots-in, from-roots}
 use Rattle.lake_step_one.specs.laws.Held.{part-of, names-are, terminals-are, parts-are, bodies-total, bodies-count}
-use Rattle.lake_sets.specs.laws.Wholes.{OkAll, ok-at, all-ok, eps-body}
-use Rattle.lake_sets.specs.laws.Least.{begins-good, over-good, succeed-good, alt-good, least-is, state-at}
+use Rattle.lake_rules.specs.laws.Wholes.{OkAll, ok-at, all-ok, eps-body}
+use Rattle.lake_rules.specs.laws.Reached.{begins-good, over-good, succeed-good, alt-good, least-is, state-at}
 
 -- ---- lists that agree expression by expression
 over-same : {A : Type 0} (f g : ℕ → Part → List A) (part : ℕ → Part) (n : ℕ) → ((i : ℕ) → i < n → f i (part i) ≡ g i (part i)) → overParts f 0 (upTo part n) ≡ overParts g 0 (upTo part n)
@@ -157,7 +160,7 @@ module _ (t : List ℕ) (g : Grammar) (h : Holds t (middle g)) (proper : Proper 
 
   -- ---- ε marks
   module _ (ms : List Bool) where
-    rule : (i : ℕ) → i < n → getD (beginsIn t ms n) i nothing ≡ Rattle.lake_sets.specs.Beginning.beginBy (marked ms) (λ j. getD (beginsIn t ms n) j nothing) (partIn t i)
+    rule : (i : ℕ) → i < n → getD (beginsIn t ms n) i nothing ≡ Rattle.lake_rules.specs.Beginning.beginBy (marked ms) (λ j. getD (beginsIn t ms n) j nothing) (partIn t i)
     rule i l = begins-rule (marked ms) (partIn t) R X n i l (part-ok i l)
 
     mark-at : (s : ℕ) → s < R → getD (beginsIn t ms n) (rootIn t s) nothing .eps ≡ hasEmpty (marked ms) (getD bodies s (ter any))
@@ -214,7 +217,7 @@ module _ (t : List ℕ) (g : Grammar) (h : Holds t (middle g)) (proper : Proper 
         over-same (altGifts (pairAt sets eps) (rootIn t) (λ i. getD succ i empty)) (altGifts bs root (λ i. getD succ i empty)) (partIn t) n
         (λ i l. ap (λ (b : ℕ → Beginning). altGifts b (rootIn t) (λ a. getD succ a empty) i (partIn t i)) bs-is ∙ alt-same bs (rootIn t) root (λ a. getD succ a empty) i (partIn t i))
 
-    sets-good : (i : ℕ) → Rattle.lake_sets.specs.laws.Least.Good R X (bs i .set)
+    sets-good : (i : ℕ) → Rattle.lake_rules.specs.laws.Reached.Good R X (bs i .set)
     sets-good = begins-good R X (marked ms) (partIn t) n part-ok
 
     abbrev SG : List Gift
@@ -229,13 +232,13 @@ module _ (t : List ℕ) (g : Grammar) (h : Holds t (middle g)) (proper : Proper 
     pub alt-flowed : Flowed n AG (overParts (edgesBy false bs root) 0 (upTo (partIn t) n)) k alts
     alt-flowed = flowed-as ha alt-is (edges-is false)
 
-    sg-good : Rattle.lake_sets.specs.laws.Least.GoodGifts R X SG
+    sg-good : Rattle.lake_rules.specs.laws.Reached.GoodGifts R X SG
     sg-good = over-good R X (succeedGifts bs root) (succeed-good R X bs root sets-good) 0 (upTo (partIn t) n)
 
     succeed-least : leastBy (n * (R + X)) n SG (overParts (edgesBy true bs root) 0 (upTo (partIn t) n)) ≡ settled j succ
     succeed-least = least-is R X n SG (overParts (edgesBy true bs root) 0 (upTo (partIn t) n)) j succ succeed-flowed (inside true) sg-good
 
-    succ-at : (i : ℕ) → Rattle.lake_sets.specs.laws.Least.Good R X (getD succ i empty)
+    succ-at : (i : ℕ) → Rattle.lake_rules.specs.laws.Reached.Good R X (getD succ i empty)
     succ-at = state-at R X n SG (overParts (edgesBy true bs root) 0 (upTo (partIn t) n)) j succ succeed-flowed (inside true) sg-good
 
     alt-least : leastBy (n * (R + X)) n AG (overParts (edgesBy false bs root) 0 (upTo (partIn t) n)) ≡ settled k alts

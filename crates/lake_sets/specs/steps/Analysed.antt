@@ -5,8 +5,8 @@ use mathlib.Core.Bool.{Bool, false}
 use mathlib.Core.List.{List}
 use lib.ListN.{getD}
 use Rattle.base_words.specs.Set.{empty}
-use Rattle.lake_sets.specs.Beginning.{begin, nothing}
-use Rattle.lake_sets.specs.Analysis.{Analysis}
+use Rattle.lake_rules.specs.Beginning.{begin, nothing}
+use Rattle.lake_rules.specs.Analysis.{Analysis}
 
 -- what lent memory holds of an analysis, each run as long as there are expressions, and of the marks as there are symbols
 pub record Analysed (a : Analysis) (marks : List Bool) (sets : List (List ℕ)) (eps : List Bool) (succ alts : List (List ℕ)) (rounds : ℕ) : Type 0 where

@@ -1,12 +1,12 @@
 -- What the code has in lent memory at each step, over the words of a table: every reading is total. Assumes nothing: these are definitions.
-use Prim.Native.Nat.{ℕ, zero, suc, _+_, _-_, _<_, _≤_}
+use Prim.Native.Nat.{ℕ, _+_, _-_, _<_, _≤_}
 use mathlib.Core.Path.{_≡_}
-use mathlib.Core.Bool.{Bool, true, false, cond}
+use mathlib.Core.Bool.{Bool, true, false}
 use mathlib.Core.List.{List, [], _∷_, _++_}
 use lib.ListN.{length, getD, set, replicate}
 use lib.Dec.{ltb}
 use Rattle.base_words.specs.Set.{empty}
-use Rattle.base_rounds.specs.Rounds.{iter, First}
+use Rattle.base_rounds.specs.Rounds.{iter}
 use Rattle.base_rounds.specs.Flow.{Edge}
 use Rattle.grammar.specs.Parts.{Part, terminal, occurs, sequence, choice, option, repeat, repeat1, affirms, denies}
 use Rattle.grammar_table.specs.Table.{symbolWord, partIn, upTo}
@@ -14,8 +14,10 @@ use Rattle.base_rounds.specs.laws.Cells.{Every}
 use Rattle.base_rounds.specs.laws.Pair.{Set2}
 use Rattle.base_rounds.specs.laws.Flow.{Inside}
 use Rattle.base_rounds.specs.laws.Sys.{edges, empties}
-use Rattle.lake_sets.specs.Beginning.{Beginning, begin, nothing, marked, beginBy, beginnings}
-use Rattle.lake_sets.specs.Flows.{Gift, overParts, given, roundBy, succeedGifts, succeedEdges, altGifts, altEdges}
+use Rattle.lake_rules.specs.Beginning.{Beginning, begin, nothing, marked, beginBy, beginnings}
+use Rattle.lake_rules.specs.Flows.{Gift, overParts, given, succeedGifts, succeedEdges, altGifts, altEdges}
+use Rattle.lake_rules.specs.laws.Reached.{Flowed}
+use Rattle.lake_rules.specs.laws.Wholes.{Ok}
 
 -- BEGINNING of expression i as two lent runs have it
 abbrev pub pairAt : List (List ℕ) → List Bool → ℕ → Beginning
@@ -36,18 +38,6 @@ Small (repeat a) = Unit {0}
 Small (repeat1 a) = Unit {0}
 Small (affirms a) = Unit {0}
 Small (denies a) = Unit {0}
-
--- of r symbols and x terminals, and parts before wholes
-abbrev pub Ok : ℕ → ℕ → ℕ → Part → Type 0
-Ok r x i (terminal y) = y < x
-Ok r x i (occurs s) = s < r
-Ok r x i (sequence a b) = (a < i) × (b < i)
-Ok r x i (choice a b) = (a < i) × (b < i)
-Ok r x i (option a) = a < i
-Ok r x i (repeat a) = a < i
-Ok r x i (repeat1 a) = a < i
-Ok r x i (affirms a) = a < i
-Ok r x i (denies a) = a < i
 
 -- a table of n expressions, r symbols and x terminals in which each part comes before its whole and each symbol has a body
 pub record Tame (t : List ℕ) (n r x : ℕ) : Type 0 where
@@ -120,11 +110,6 @@ Fine base = Every (Set2 64 64) [] (length base) base
 pub record Gave (gifts : List Gift) (base base′ : List (List ℕ)) : Type 0 where
   pub is : base′ ≡ given gifts base
   pub fine : Fine base → Fine base′
-
--- k is the first round whose next is equal, and s its state
-pub record Flowed (n : ℕ) (gifts : List Gift) (es : List Edge) (k : ℕ) (s : List (List ℕ)) : Type 0 where
-  pub first : First (roundBy n gifts es) (replicate n empty) k
-  pub is : s ≡ iter (roundBy n gifts es) (replicate n empty) k
 
 -- rounds along the first m edges, from what the gifts give at once
 abbrev pub FlowedAlong : List ℕ → List ℕ → ℕ → List (List ℕ) → ℕ → List (List ℕ) → Type 0

@@ -12,7 +12,7 @@ use Rattle.grammar.specs.Lakes.{choiceOf, skipOf, stepTwo}
 use Rattle.grammar.specs.Numbers.{Grammar, isLake}
 use Rattle.base_words.specs.Set.{memberOf}
 use Rattle.lake_step_one.specs.Intermediate.{intermediate}
-use Rattle.lake_sets.specs.Analysis.{Analysis, analysis, bodyAlt}
+use Rattle.lake_rules.specs.Analysis.{Analysis, analysis, bodyAlt}
 use Rattle.grammar.specs.Numbers.{terminalIn}
 use Rattle.lake_step_one.specs.Proper.{Sound, SoundAll, Proper}
 use Rattle.lake_step_two.specs.Plain.{nonterminalsIn, terminalsIn, alternatives, plainBy, plainFrom, plainBodies}

@@ -12,7 +12,7 @@ use Rattle.grammar.specs.Exp.{Exp}
 use Rattle.grammar.specs.Numbers.{Grammar}
 use Rattle.grammar.specs.Refusal.{refusal}
 use Rattle.lake_step_one.specs.Intermediate.{intermediate}
-use Rattle.lake_sets.specs.Analysis.{Analysis}
+use Rattle.lake_rules.specs.Analysis.{Analysis}
 use Rattle.grammar_table.specs.laws.Parts.{total}
 use Rattle.lake_step_two.specs.Plain.{sizes, plainBodies, tooLarge}
 use Rattle.lake_step_two.specs.laws.Bodies.{sizes-total, plain-larger}

@@ -15,7 +15,7 @@ use Rattle.grammar_table.specs.Table.{tableWords, expressionsAt, symbolsAt, sym
 use Rattle.grammar_table.specs.Holds.{Holds, present}
 use Rattle.base_words.specs.Set.{memberOf, empty}
 use Rattle.lake_step_one.specs.Intermediate.{intermediate}
-use Rattle.lake_sets.specs.Analysis.{analysed, analysis, bodyAlt}
+use Rattle.lake_rules.specs.Analysis.{analysed, analysis, bodyAlt}
 use Rattle.grammar.specs.Numbers.{terminalIn}
 use Rattle.lake_sets.specs.steps.Steps.{rootIn}
 use Rattle.lake_step_one.specs.Proper.{Proper, middle}

@@ -8,7 +8,7 @@ use Rattle.grammar.specs.Exp.{Exp}
 use Rattle.grammar.specs.Numbers.{Grammar}
 use Rattle.grammar_table.specs.Table.{symbolCount, terminalCount, expressionCount}
 use Rattle.grammar_table.specs.Holds.{Holds}
-use Rattle.lake_sets.specs.Analysis.{analysis}
+use Rattle.lake_rules.specs.Analysis.{analysis}
 use Rattle.grammar.specs.Numbers.{terminalIn}
 use Rattle.lake_step_one.specs.Proper.{Proper, middle}
 use Rattle.grammar_table.specs.laws.Parts.{total}

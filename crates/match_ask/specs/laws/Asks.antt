@@ -17,7 +17,7 @@ use Rattle.grammar_table.specs.Holds.{Holds}
 use Rattle.grammar_table.specs.laws.Lists.{up-length}
 use Rattle.read_syntax.specs.Reading.{rulesOf}
 use Rattle.base_words.specs.Set.{empty}
-use Rattle.lake_sets.specs.Analysis.{analysis, bodyAlt}
+use Rattle.lake_rules.specs.Analysis.{analysis, bodyAlt}
 use Rattle.lake_sets.specs.steps.Steps.{rootIn}
 use Rattle.lake_analysis.specs.steps.Lent.{lakeIn}
 use Rattle.lake_analysis.specs.laws.Skip.{lake-is, alt-is}

@@ -10,7 +10,7 @@ use Rattle.read_tokens.specs.declared.Mode.{Mode}
 use Rattle.read_tokens.specs.Token.{name}
 use Rattle.grammar.specs.Numbers.{isLake}
 use Rattle.grammar.specs.Refusal.{Refusal, refuseIf, _▸_}
-use Rattle.lake_sets.specs.Analysis.{bodyAlt}
+use Rattle.lake_rules.specs.Analysis.{bodyAlt}
 use Rattle.match_lake.specs.Asking.{wayIn}
 use Rattle.match_run.specs.steps.Runs.{refusesRoom, filledBy}
 use Rattle.prepare.specs.declared.Verdict.{Verdict}

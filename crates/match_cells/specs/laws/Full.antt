@@ -19,9 +19,9 @@ use Rattle.grammar.specs.Empty.{emptyLeaf, hasEmpty}
 use Rattle.grammar_table.specs.laws.Lists.{up-length, up-at}
 use Rattle.grammar_table.specs.laws.Places.{getD-any}
 use Rattle.base_words.specs.Set.{ones}
-use Rattle.lake_sets.specs.Beginning.{marked, marksOf}
+use Rattle.lake_rules.specs.Beginning.{marked, marksOf}
 use Rattle.lake_step_one.specs.Proper.{Sound, SoundAll}
-use Rattle.lake_analysis.specs.laws.Marks.{marks-least}
+use Rattle.lake_rules.specs.laws.Marks.{marks-least}
 use Rattle.lake_calls.specs.Calls.{firstCalls, callsOf, reach, loop, ranksOf, ofRank, orderFrom, order}
 use Rattle.lake_calls.specs.laws.Reaches.{pow-below}
 use Rattle.lake_calls.specs.laws.Exact.{calls-long}

@@ -19,7 +19,7 @@ use Rattle.grammar_table.specs.laws.Lists.{up-length, up-at}
 use Rattle.base_words.specs.Set.{bit, ones}
 use Rattle.base_words.specs.laws.Members.{bit-pow-same}
 use Rattle.base_words.specs.laws.Order.{ones-le, ones-strict, sub-or-l}
-use Rattle.lake_sets.specs.Beginning.{marked, marksOf}
+use Rattle.lake_rules.specs.Beginning.{marked, marksOf}
 use Rattle.lake_calls.specs.Calls.{firstCalls, callsOf, holds, reach, loopFrom, loop, ranksOf, ofRank, orderFrom, order}
 use Rattle.lake_calls.specs.laws.Ranks.{falls, reach-small}
 use Rattle.lake_calls.specs.Loops.{Calls}

@@ -11,7 +11,7 @@ use Rattle.grammar.specs.Exp.{Exp, ter}
 use Rattle.grammar.specs.Numbers.{Grammar}
 use Rattle.grammar_table.specs.Table.{wordsFrom, symbolCount, symbolWord, nameIn}
 use Rattle.grammar.specs.Numbers.{terminalIn}
-use Rattle.lake_sets.specs.Beginning.{marked, marksOf}
+use Rattle.lake_rules.specs.Beginning.{marked, marksOf}
 use Rattle.lake_step_one.specs.Proper.{SoundAll}
 use Rattle.grammar_table.specs.laws.Places.{is-upTo, upTo-long}
 use Rattle.lake_calls.specs.Calls.{loop, order}

@@ -29,7 +29,7 @@ use Rattle.prepare.specs.steps.Scanned.{scanned}
 use Rattle.prepare.specs.laws.Chain.{text-by-scan}
 use Rattle.lake_step_two.specs.Plain.{tooLarge}
 use Rattle.lake_calls.specs.Calls.{loop, looping, callsOf, firstCalls}
-use Rattle.lake_sets.specs.Beginning.{marked, marksOf}
+use Rattle.lake_rules.specs.Beginning.{marked, marksOf}
 use Rattle.lake_calls.specs.steps.Place.{placed}
 use Rattle.lake_calls.specs.laws.Reaches.{Found, found as loop-found}
 use Rattle.lake_step_two.specs.steps.Stepped.{plainOf}

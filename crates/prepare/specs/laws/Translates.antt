@@ -11,7 +11,7 @@ use Rattle.grammar.specs.Numbers.{Grammar, numbered}
 use Rattle.grammar_table.specs.Holds.{Holds}
 use Rattle.grammar.specs.Refusal.{refusal}
 use Rattle.read_grammar.specs.steps.Promises.{Sound}
-use Rattle.lake_sets.specs.Analysis.{analysis}
+use Rattle.lake_rules.specs.Analysis.{analysis}
 use Rattle.lake_step_one.specs.Proper.{middle}
 use Rattle.grammar_table.specs.laws.Parts.{total}
 use Rattle.lake_step_one.specs.steps.Made.{withBodies}

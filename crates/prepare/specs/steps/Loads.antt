@@ -12,7 +12,7 @@ use Rattle.grammar.specs.Refusal.{refusal}
 use Rattle.grammar_table.specs.Holds.{Holds}
 use Rattle.grammar_table.specs.Table.{symbolCount, expressionCount}
 use Rattle.read_syntax.specs.Reading.{refusesText, rulesOf}
-use Rattle.lake_sets.specs.Analysis.{analysis}
+use Rattle.lake_rules.specs.Analysis.{analysis}
 use Rattle.lake_step_one.specs.Proper.{Proper, middle}
 use Rattle.lake_sets.specs.steps.Analysed.{Analysed}
 use Rattle.lake_analysis.specs.steps.Lent.{Fronted}

@@ -21,7 +21,7 @@ use Rattle.grammar.specs.Numbers.{Grammar, leftSides, usesOf, looseLakes, symbo
 use Rattle.read_syntax.specs.Machine.{over}
 use Rattle.read_syntax.specs.Reading.{reserved, refusesText, rulesOf}
 use Rattle.lake_step_one.specs.Intermediate.{waterIn, intermediate}
-use Rattle.lake_sets.specs.Analysis.{analysis}
+use Rattle.lake_rules.specs.Analysis.{analysis}
 use Rattle.grammar.specs.Numbers.{terminalIn}
 use Rattle.grammar_table.specs.laws.Parts.{total}
 use Rattle.lake_step_two.specs.Plain.{plainBodies, rulesBy, plainRules}

@@ -17,7 +17,7 @@ use Rattle.grammar.specs.Syntax.{Rules}
 use Rattle.grammar.specs.Trees.{trees}
 use Rattle.grammar.specs.Numbers.{Grammar, isLake, leftSides, symbolsOf, rightBy, numbered}
 use Rattle.lake_step_one.specs.Intermediate.{waterIn, intermediateBy, bodiesBy, intermediate}
-use Rattle.lake_sets.specs.Analysis.{Analysis, analysis, bodyAlt}
+use Rattle.lake_rules.specs.Analysis.{Analysis, analysis, bodyAlt}
 use Rattle.grammar.specs.Numbers.{terminalIn}
 use Rattle.lake_step_one.specs.Proper.{Sound as SoundExp, SoundAll}
 use Rattle.lake_step_two.specs.Plain.{alternatives, plainBy, plainFrom, plainBodies, rulesBy, plainRules}

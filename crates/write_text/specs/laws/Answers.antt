@@ -14,7 +14,7 @@ use Rattle.grammar.specs.Syntax.{Rules}
 use Rattle.grammar.specs.Trees.{trees}
 use Rattle.grammar.specs.Numbers.{numbered}
 use Rattle.grammar_table.specs.Holds.{Holds}
-use Rattle.lake_sets.specs.Analysis.{analysis}
+use Rattle.lake_rules.specs.Analysis.{analysis}
 use Rattle.lake_step_one.specs.steps.Made.{withBodies}
 use Rattle.lake_step_two.specs.Plain.{plainRules}
 use Rattle.lake_step_two.specs.steps.Stepped.{plainOf}

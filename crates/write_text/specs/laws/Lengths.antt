@@ -18,7 +18,7 @@ use Rattle.grammar.specs.Trees.{trees}
 use Rattle.grammar.specs.Numbers.{Grammar, leftSides, looseLakes, symbolsOf, expressionsOf, rightBy, numbered}
 use Rattle.grammar_table.specs.Holds.{Holds, present}
 use Rattle.read_syntax.specs.Machine.{over}
-use Rattle.lake_sets.specs.Analysis.{analysis}
+use Rattle.lake_rules.specs.Analysis.{analysis}
 use Rattle.grammar.specs.Numbers.{terminalIn}
 use Rattle.lake_step_one.specs.Proper.{Sound as SoundExp, SoundAll}
 use Rattle.grammar_table.specs.laws.Parts.{total, present-some}

@@ -15,7 +15,7 @@ use Rattle.grammar.specs.Syntax.{Rules}
 use Rattle.grammar.specs.Trees.{trees}
 use Rattle.grammar.specs.Numbers.{Grammar, leftSides, looseLakes, symbolsOf, rightBy, numbered}
 use Rattle.grammar_table.specs.Holds.{Holds, present}
-use Rattle.lake_sets.specs.Analysis.{analysis}
+use Rattle.lake_rules.specs.Analysis.{analysis}
 use Rattle.grammar.specs.Numbers.{terminalIn}
 use Rattle.lake_step_one.specs.Proper.{SoundAll}
 use Rattle.lake_step_one.specs.Intermediate.{waterIn, bodiesBy, intermediate}

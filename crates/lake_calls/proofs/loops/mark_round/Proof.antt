@@ -8,7 +8,7 @@ use lib.ListN.{length, getD, set, replicate, length-set, length-replicate}
 use Rattle.read_tokens.specs.Token.{Leaf}
 use Rattle.grammar_table.specs.Table.{symbolWord}
 use Rattle.grammar.specs.Empty.{hasEmpty}
-use Rattle.lake_sets.specs.Beginning.{marked}
+use Rattle.lake_rules.specs.Beginning.{marked}
 use Rattle.grammar_table.specs.Trees.{treeOf}
 use Rattle.base_rounds.specs.laws.Fill.{fill-more}
 use Rattle.grammar_table.specs.laws.Places.{is-upTo}

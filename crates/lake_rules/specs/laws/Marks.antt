@@ -1,7 +1,7 @@
 -- The ε marks are the least (01: "All are least"), and as many rounds as there are symbols reach them. Assumes nothing.
-use Prim.Native.Nat.{ℕ, zero, suc, _+_, _*_, _≤_, _<_}
-use mathlib.Core.Path.{_≡_, refl, sym, ap, ap₂, _∙_, subst}
-use mathlib.Core.Logic.{_⊎_, inl, inr, ⊎-elim}
+use Prim.Native.Nat.{ℕ, zero, suc, _*_, _≤_, _<_}
+use mathlib.Core.Path.{_≡_, refl, sym, ap, ap₂, _∙_}
+use mathlib.Core.Logic.{⊎-elim}
 use mathlib.Core.Bool.{Bool, true, false, _&&_, _||_, false≢true, true≢false}
 use mathlib.Core.List.{List, [], _∷_, map}
 use native.Mathlib.Omega.{arith}
@@ -13,9 +13,9 @@ use Rattle.grammar.specs.Empty.{hasEmpty}
 use Rattle.base_rounds.specs.Rounds.{iter, First}
 use Rattle.base_rounds.specs.laws.Fix.{Lattice, first-exists, rounds-bound, iter-below}
 use Rattle.base_rounds.specs.laws.Cells.{Joins, Every, Below, cells}
-use Rattle.lake_sets.specs.Beginning.{marked, markRound, marksOf}
+use Rattle.lake_rules.specs.Beginning.{marked, markRound, marksOf}
 use Rattle.grammar_table.specs.laws.Places.{getD-any}
-use Rattle.lake_analysis.specs.Rules.{EmptyMarks, LeastMarks}
+use Rattle.lake_rules.specs.Rules.{LeastMarks}
 
 abbrev pub Imp : Bool → Bool → Type 0
 Imp a b = a ≡ true → b ≡ true

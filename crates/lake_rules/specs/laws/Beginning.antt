@@ -1,21 +1,21 @@
 -- BEGINNING, ε included, is the least that satisfies 01's rules (01, Lakes made plain: "Symbol X: {X}, and ε if X's body has ε"; "All are least").
 -- Assumes nothing.
-use Prim.Native.Nat.{ℕ, zero, suc, _+_, _≤_, _<_}
+use Prim.Native.Nat.{ℕ, zero, suc, _<_}
 use mathlib.Core.Path.{_≡_, refl, sym, ap, _∙_, subst}
-use mathlib.Core.Bool.{Bool, true, false, cond, _&&_, _||_, false≢true}
+use mathlib.Core.Bool.{Bool, true, false, cond, _&&_, false≢true}
 use mathlib.Core.List.{List}
 use native.Mathlib.Omega.{arith}
-use lib.ListN.{length, getD}
+use lib.ListN.{getD}
 use Rattle.base_facts.specs.laws.Bools.{and-parts}
-use Rattle.base_words.specs.Set.{unionOf, empty, symbolSet, terminalSet}
+use Rattle.base_words.specs.Set.{unionOf, symbolSet, terminalSet}
 use Rattle.base_rounds.specs.laws.Pair.{Set2, In2, pair, pair-joins}
 use Rattle.grammar.specs.Parts.{Part, terminal, occurs, sequence, choice, option, repeat, repeat1, affirms, denies}
-use Rattle.lake_sets.specs.Beginning.{Beginning, begin, nothing, marked, beginBy}
-use Rattle.lake_sets.specs.steps.Steps.{Ok}
-use Rattle.lake_sets.specs.laws.Begins.{upBegins, begins-rule, begins-long}
-use Rattle.lake_sets.specs.laws.Least.{begins-good}
-use Rattle.lake_analysis.specs.Rules.{InB, BeginRule, Solves, LeastBegin}
-use Rattle.lake_analysis.specs.laws.Marks.{Imp, or-least, or-l, or-r}
+use Rattle.lake_rules.specs.Beginning.{Beginning, begin, nothing, beginBy}
+use Rattle.lake_rules.specs.laws.Wholes.{Ok}
+use Rattle.lake_rules.specs.laws.Begins.{upBegins, begins-rule, begins-long}
+use Rattle.lake_rules.specs.laws.Reached.{begins-good}
+use Rattle.lake_rules.specs.Rules.{InB, BeginRule, Solves, LeastBegin}
+use Rattle.lake_rules.specs.laws.Marks.{Imp, or-least, or-l, or-r}
 
 module _ (r x : ℕ) where
   abbrev Good : List ℕ → Type 0

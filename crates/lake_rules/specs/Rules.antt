@@ -1,8 +1,8 @@
 -- The rules of 01, "Lakes made plain", as what sets must satisfy: y gives the set of the expression with a number. Assumes nothing: these are definitions.
 use Prim.Native.Nat.{ℕ, _<_}
 use mathlib.Core.Path.{_≡_}
-use mathlib.Core.Bool.{Bool, true, false}
-use mathlib.Core.List.{List, [], _∷_}
+use mathlib.Core.Bool.{Bool, true}
+use mathlib.Core.List.{List, []}
 use lib.ListN.{length, getD}
 use Rattle.base_words.specs.Set.{symbolSet, terminalSet}
 use Rattle.base_rounds.specs.Sets.{Set2, In2, Every}
@@ -10,7 +10,7 @@ use Rattle.grammar.specs.Exp.{Exp, ter}
 use Rattle.grammar.specs.Empty.{hasEmpty}
 use Rattle.grammar.specs.Parts.{Part, terminal, occurs, sequence, choice, option, repeat, repeat1, affirms, denies}
 use Rattle.read_tokens.specs.Token.{any}
-use Rattle.lake_sets.specs.Beginning.{Beginning, nothing, marked}
+use Rattle.lake_rules.specs.Beginning.{Beginning, nothing, marked}
 
 -- contained, ε too
 abbrev pub InB : Beginning → Beginning → Type 0

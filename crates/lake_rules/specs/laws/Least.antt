@@ -1,19 +1,19 @@
 -- The analysis of a grammar: BEGINNING with ε, SUCCEED and ALT are the least that satisfy 01's rules, and the round count is the
 -- first k whose next round is equal, "at most expressions times (symbols + terminals)". Assumes nothing.
 use Prim.Native.Nat.{ℕ, zero, suc, _+_, _*_, _≤_, _<_}
-use mathlib.Core.Path.{_≡_, refl, sym, ap, ap₂, _∙_, subst}
-use mathlib.Core.Bool.{Bool, true, false, true≢false}
-use mathlib.Core.List.{List, [], _∷_, _++_}
+use mathlib.Core.Path.{_≡_, refl, sym, ap, _∙_, subst}
+use mathlib.Core.Bool.{Bool, true, false}
+use mathlib.Core.List.{List, []}
 use native.Mathlib.Omega.{arith}
 use native.Mathlib.Numerals.{add-one}
 use lib.ListN.{length, getD, replicate}
 use lib.Dec.{T}
 use Rattle.base_facts.specs.laws.Bools.{to-T}
 use Rattle.base_words.specs.Set.{unionOf, empty}
-use Rattle.base_rounds.specs.Flow.{Edge, flow, sameSets}
-use Rattle.base_rounds.specs.Rounds.{First, iter, Settled, settled}
+use Rattle.base_rounds.specs.Flow.{Edge, sameSets}
+use Rattle.base_rounds.specs.Rounds.{First, iter, Settled}
 use Rattle.base_rounds.specs.laws.Fix.{first-exists}
-use Rattle.base_rounds.specs.laws.Cells.{Every, Below, cells}
+use Rattle.base_rounds.specs.laws.Cells.{Every, cells}
 use Rattle.base_rounds.specs.laws.Pair.{Set2, pair, pair-joins}
 use Rattle.base_rounds.specs.laws.Flow.{Inside, flow-fine, flow-mono}
 use Rattle.base_rounds.specs.laws.Run.{sets-sound, sets-whole}
@@ -24,23 +24,23 @@ use Rattle.grammar.specs.Numbers.{Grammar}
 use Rattle.grammar.specs.Parts.{Part, terminal, occurs, sequence, choice, option, repeat, repeat1, affirms, denies, partsAll, rootsOf}
 use Rattle.grammar_table.specs.Table.{upTo}
 use Rattle.lake_step_one.specs.Intermediate.{intermediate}
-use Rattle.lake_sets.specs.Beginning.{Beginning, nothing, marked, marksOf, beginnings}
-use Rattle.lake_sets.specs.Flows.{edge, Gift, gift, when, overParts, given, roundBy, leastBy, succeedGifts, succeedEdges, altGifts, altEdges}
-use Rattle.lake_sets.specs.Analysis.{Analysis, analysed, analysis}
+use Rattle.lake_rules.specs.Beginning.{Beginning, nothing, marked, marksOf, beginnings}
+use Rattle.lake_rules.specs.Flows.{edge, Gift, gift, when, overParts, given, roundBy, leastBy, succeedGifts, succeedEdges, altGifts, altEdges}
+use Rattle.lake_rules.specs.Analysis.{Analysis, analysed, analysis}
 use Rattle.grammar.specs.Numbers.{terminalIn}
-use Rattle.lake_sets.specs.steps.Steps.{Ok, Flowed, edgesBy, kept}
-use Rattle.lake_step_one.specs.Proper.{SoundAll, Proper}
+use Rattle.lake_rules.specs.laws.Wholes.{Ok}
+use Rattle.lake_rules.specs.laws.Reached.{Flowed}
+use Rattle.lake_step_one.specs.Proper.{Proper}
 use Rattle.grammar_table.specs.laws.Places.{is-upTo, upTo-long, upTo-at}
-use Rattle.lake_sets.specs.laws.Begins.{upBegins, begins-rule}
-use Rattle.lake_sets.specs.laws.Edges.{kept-inside, edges-from, inside-append, over-next, over-none}
-use Rattle.grammar_table.specs.laws.Parts.{total, all-long, roots-in}
-use Rattle.lake_sets.specs.laws.Wholes.{ok-at, all-ok, eps-body}
-use Rattle.lake_sets.specs.laws.Least.{Good, GoodGifts, given-good, none-good, begins-good, over-good, succeed-good, alt-good, least-is, few, state-at}
-use Rattle.lake_sets.specs.laws.Told.{edges-same}
-use Rattle.lake_analysis.specs.Rules.{BeginRule, SucceedRule, AltRule, Solves, Least, LeastBegin, LeastMarks}
-use Rattle.lake_analysis.specs.laws.Rules.{In, in-over, least-solves, none-below, succeed-to, succeed-from, alt-to, alt-from}
-use Rattle.lake_analysis.specs.laws.Marks.{marks-least}
-use Rattle.lake_analysis.specs.laws.Beginning.{begins-within, least-by-marks}
+use Rattle.lake_rules.specs.laws.Begins.{upBegins, begins-rule}
+use Rattle.lake_rules.specs.laws.Over.{inside-append, over-next, over-none}
+use Rattle.grammar_table.specs.laws.Parts.{all-long, roots-in}
+use Rattle.lake_rules.specs.laws.Wholes.{ok-at, all-ok, eps-body}
+use Rattle.lake_rules.specs.laws.Reached.{Good, GoodGifts, given-good, none-good, begins-good, over-good, succeed-good, alt-good, least-is, few, state-at}
+use Rattle.lake_rules.specs.Rules.{BeginRule, SucceedRule, AltRule, Solves, Least, LeastBegin, LeastMarks}
+use Rattle.lake_rules.specs.laws.Rules.{In, in-over, least-solves, none-below, succeed-to, succeed-from, alt-to, alt-from}
+use Rattle.lake_rules.specs.laws.Marks.{marks-least}
+use Rattle.lake_rules.specs.laws.Beginning.{begins-within, least-by-marks}
 
 decide : (s t : List (List ℕ)) (b : Bool) → sameSets s t ≡ b → Dec (s ≡ t)
 decide s t true e = yes (sets-sound s t (to-T (sameSets s t) e))
@@ -67,6 +67,34 @@ module _ (r x n : ℕ) (gifts : List Gift) (es : List Edge) (ins : Inside n es) 
 inside-over : (m : ℕ) (f : ℕ → Part → List Edge) (part : ℕ → Part) (n : ℕ) → ((i : ℕ) → i < n → Inside m (f i (part i))) → Inside m (overParts f 0 (upTo part n))
 inside-over m f part zero h = rw (over-none f part) tt
 inside-over m f part (suc n) h = rw (← add-one n, over-next f part n) (inside-append m (overParts f 0 (upTo part n)) (f n (part n)) (inside-over m f part n (λ i l. h i (omega arith))) (h n (omega arith)))
+
+when-inside : (n : ℕ) (b : Bool) (i j : ℕ) → i < n → j < n → Inside n (when b (edge i j))
+when-inside n true i j p q = (p, q, tt)
+when-inside n false i j p q = tt
+
+-- parts come before wholes and each symbol has a body
+module _ (bs : ℕ → Beginning) (root : ℕ → ℕ) (r x n i : ℕ) (rin : (s : ℕ) → s < r → root s < n) (l : i < n) where
+  succeed-inside : (p : Part) → Ok r x i p → Inside n (succeedEdges bs root i p)
+  succeed-inside (terminal t) k = tt
+  succeed-inside (occurs s) k = (l, rin s k, tt)
+  succeed-inside (sequence a b) k = (l, omega arith, when-inside n (bs b .eps) i a l (omega arith))
+  succeed-inside (choice a b) k = (l, omega arith, (l, omega arith, tt))
+  succeed-inside (option a) k = (l, omega arith, tt)
+  succeed-inside (repeat a) k = (l, omega arith, tt)
+  succeed-inside (repeat1 a) k = (l, omega arith, tt)
+  succeed-inside (affirms a) k = tt
+  succeed-inside (denies a) k = tt
+
+  alt-inside : (p : Part) → Ok r x i p → Inside n (altEdges bs root i p)
+  alt-inside (terminal t) k = tt
+  alt-inside (occurs s) k = (l, rin s k, tt)
+  alt-inside (sequence a b) k = (l, omega arith, when-inside n (bs a .eps) i b l (omega arith))
+  alt-inside (choice a b) k = (l, omega arith, (l, omega arith, tt))
+  alt-inside (option a) k = (l, omega arith, tt)
+  alt-inside (repeat a) k = (l, omega arith, tt)
+  alt-inside (repeat1 a) k = (l, omega arith, tt)
+  alt-inside (affirms a) k = tt
+  alt-inside (denies a) k = tt
 
 succeed-in : (bs : ℕ → Beginning) (root : ℕ → ℕ) (r x n i : ℕ) (p : Part) → i < n → Ok r x i p → In r x n (succeedGifts bs root i p)
 succeed-in bs root r x n i (terminal t) l k = tt
@@ -119,15 +147,11 @@ module _ (r x n : ℕ) (part : ℕ → Part) (ok : (i : ℕ) → i < n → Ok r 
   bs-good : (i : ℕ) → Good r x (bs i .set)
   bs-good = begins-good r x (marked ms) part n ok
 
-  edge-inside : (back : Bool) (i : ℕ) → i < n → Inside n (edgesBy back bs root i (part i))
-  edge-inside back i l =
-      subst (Inside n) (edges-same n r x bs bs root root (λ j. refl) (λ s p. refl) rin i l back (part i) (ok i l)) (kept-inside n (edgesBy back bs root i (part i)) (edges-from bs root i n l back (part i)))
-
   SE-in : Inside n (overParts (succeedEdges bs root) 0 P)
-  SE-in = inside-over n (succeedEdges bs root) part n (edge-inside true)
+  SE-in = inside-over n (succeedEdges bs root) part n (λ i l. succeed-inside bs root r x n i rin l (part i) (ok i l))
 
   AE-in : Inside n (overParts (altEdges bs root) 0 P)
-  AE-in = inside-over n (altEdges bs root) part n (edge-inside false)
+  AE-in = inside-over n (altEdges bs root) part n (λ i l. alt-inside bs root r x n i rin l (part i) (ok i l))
 
   abbrev SG : List Gift
   SG = overParts (succeedGifts bs root) 0 P

@@ -1,29 +1,28 @@
 -- Rounds along the edges of the definitions, from the gifts, reach the least sets that satisfy the rules. Assumes nothing.
-use Prim.Native.Nat.{ℕ, zero, suc, _+_, _*_, _≤_, _<_}
-use mathlib.Core.Path.{_≡_, refl, sym, ap, ap₂, _∙_, subst}
-use mathlib.Core.Logic.{_⊎_, inl, inr, ⊎-elim}
+use Prim.Native.Nat.{ℕ, zero, suc, _<_}
+use mathlib.Core.Path.{_≡_, refl, sym, _∙_, subst}
+use mathlib.Core.Logic.{⊎-elim}
 use mathlib.Core.Bool.{Bool, true, false, false≢true}
 use mathlib.Core.List.{List, [], _∷_, _++_}
 use native.Mathlib.Omega.{arith}
 use native.Mathlib.Numerals.{add-one}
-use lib.ListN.{length, getD, set, replicate, length-set, length-replicate, getD-replicate}
-use lib.Seq.{getD-set-same, getD-set-other, set-out}
+use lib.ListN.{length, getD, set, replicate, length-set, getD-replicate}
+use lib.Seq.{getD-set-same, getD-set-other}
 use Rattle.base_facts.specs.laws.Numbers.{lt-or-ge, same?}
 use Rattle.base_words.specs.Set.{unionOf, empty}
 use Rattle.base_rounds.specs.Flow.{Edge}
-use Rattle.base_rounds.specs.Rounds.{First, iter}
 use Rattle.base_rounds.specs.laws.Cells.{Every, Below}
 use Rattle.base_rounds.specs.laws.Pair.{Set2, In2, pair, pair-joins}
 use Rattle.base_rounds.specs.laws.Flow.{Inside, Flows, Solution, solves, least, round-fine}
 use Rattle.grammar.specs.Parts.{Part, terminal, occurs, sequence, choice, option, repeat, repeat1, affirms, denies}
 use Rattle.grammar_table.specs.Table.{upTo}
-use Rattle.lake_sets.specs.Beginning.{Beginning}
-use Rattle.lake_sets.specs.Flows.{edge, Gift, gift, when, overParts, given, roundBy, succeedGifts, succeedEdges, altGifts, altEdges}
-use Rattle.lake_sets.specs.steps.Steps.{Flowed}
+use Rattle.lake_rules.specs.Beginning.{Beginning}
+use Rattle.lake_rules.specs.Flows.{edge, Gift, gift, when, overParts, given, roundBy, succeedGifts, succeedEdges, altGifts, altEdges}
+use Rattle.lake_rules.specs.laws.Reached.{Flowed}
 use Rattle.grammar_table.specs.laws.Places.{getD-any}
-use Rattle.lake_sets.specs.laws.Edges.{over-next, over-none, given-long}
-use Rattle.lake_sets.specs.laws.Least.{GoodGifts, given-good, none-good, empty-good, union-good}
-use Rattle.lake_analysis.specs.Rules.{SucceedRule, AltRule, Least}
+use Rattle.lake_rules.specs.laws.Over.{over-next, over-none}
+use Rattle.lake_rules.specs.laws.Reached.{GoodGifts, given-good, none-good, union-good}
+use Rattle.lake_rules.specs.Rules.{SucceedRule, AltRule, Least}
 
 module _ (r x : ℕ) where
   abbrev pub L : Rattle.base_rounds.specs.laws.Fix.Lattice (List ℕ)

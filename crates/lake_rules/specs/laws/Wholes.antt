@@ -1,22 +1,29 @@
 -- Expressions by number: parts come before wholes, and ε of a body. Assumes nothing.
 use Prim.Native.Nat.{ℕ, zero, suc, _+_, _-_, _≤_, _<_}
-use mathlib.Core.Path.{_≡_, refl, sym, ap, ap₂, _∙_, subst}
-use mathlib.Core.Logic.{_⊎_, inl, inr, ⊎-elim}
-use mathlib.Core.Bool.{Bool, true, false, _&&_, _||_}
-use mathlib.Core.List.{List, [], _∷_, _++_, map}
-use mathlib.Core.Option.{Option, none, some}
+use mathlib.Core.Path.{_≡_, ap, ap₂, _∙_, subst}
+use mathlib.Core.Bool.{Bool, _&&_, _||_}
+use mathlib.Core.List.{List, [], _∷_, _++_}
 use native.Mathlib.Omega.{arith}
-use lib.ListN.{length, getD, length-append, List·getD-append}
-use lib.Seq.{getD-append-add}
+use lib.ListN.{length, getD}
 use Rattle.read_tokens.specs.Token.{Leaf}
 use Rattle.grammar.specs.Exp.{Exp, sym as uses, ter, seq, alt, opt, star, plus, ahead, never, size}
 use Rattle.grammar.specs.Empty.{hasEmpty}
 use Rattle.grammar.specs.Parts.{Part, terminal, occurs, sequence, choice, option, repeat, repeat1, affirms, denies, last, partsOf, partsAll, rootsOf}
-use Rattle.grammar_table.specs.Holds.{present, rootsFrom}
-use Rattle.lake_sets.specs.Beginning.{Beginning, beginBy}
-use Rattle.lake_sets.specs.steps.Steps.{Ok}
+use Rattle.lake_rules.specs.Beginning.{Beginning, beginBy}
 use Rattle.lake_step_one.specs.Proper.{Sound, SoundAll}
 use Rattle.grammar_table.specs.laws.Parts.{size-pos, total, parts-long, Seg, seg-left, seg-right, seg-one}
+
+-- of r symbols and x terminals, and parts before wholes
+abbrev pub Ok : ℕ → ℕ → ℕ → Part → Type 0
+Ok r x i (terminal y) = y < x
+Ok r x i (occurs s) = s < r
+Ok r x i (sequence a b) = (a < i) × (b < i)
+Ok r x i (choice a b) = (a < i) × (b < i)
+Ok r x i (option a) = a < i
+Ok r x i (repeat a) = a < i
+Ok r x i (repeat1 a) = a < i
+Ok r x i (affirms a) = a < i
+Ok r x i (denies a) = a < i
 
 module _ (t : Leaf → ℕ) where
   -- ---- parts before wholes

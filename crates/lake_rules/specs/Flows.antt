@@ -1,14 +1,14 @@
 -- SUCCEED and ALT (01, Lakes made plain): what each expression gives its parts at once, and what it hands on of its own set.
 -- A body "gets the set of each occurrence". Assumes nothing: these are definitions.
-use Prim.Native.Nat.{ℕ, zero, suc, _+_, _*_}
-use mathlib.Core.Bool.{Bool, true, false, cond}
+use Prim.Native.Nat.{ℕ, suc}
+use mathlib.Core.Bool.{Bool, true, false}
 use mathlib.Core.List.{List, [], _∷_, _++_}
-use lib.ListN.{length, getD, set, replicate}
+use lib.ListN.{getD, set, replicate}
 use Rattle.base_words.specs.Set.{unionOf, empty}
 use Rattle.base_rounds.specs.Rounds.{Settled, settle}
 use Rattle.base_rounds.specs.Flow.{Edge, flow, sameSets}
 use Rattle.grammar.specs.Parts.{Part, terminal, occurs, sequence, choice, option, repeat, repeat1, affirms, denies}
-use Rattle.lake_sets.specs.Beginning.{Beginning, nothing}
+use Rattle.lake_rules.specs.Beginning.{Beginning}
 
 -- what expression `to` gets whatever the sets are
 pub record Gift : Type 0 where

@@ -1,7 +1,7 @@
 -- What the rounds reach is what the definitions compute: sets within their caps, so that the count is at most "expressions times
 -- (symbols + terminals)" (01), and `settle` finds it. Assumes nothing.
-use Prim.Native.Nat.{ℕ, zero, suc, _+_, _*_, _^_, _≤_, _<_}
-use mathlib.Core.Path.{_≡_, refl, sym, ap, ap₂, _∙_, subst}
+use Prim.Native.Nat.{ℕ, zero, suc, _+_, _*_, _≤_, _<_}
+use mathlib.Core.Path.{_≡_, refl, sym, ap, _∙_, subst}
 use mathlib.Core.Logic.{_⊎_, inl, inr, ⊎-elim}
 use mathlib.Core.Bool.{Bool, true, false, cond}
 use mathlib.Core.List.{List, [], _∷_, _++_}
@@ -13,21 +13,24 @@ use lib.Pow.{pow-pos, pow-lt}
 use Rattle.base_facts.specs.laws.Numbers.{lt-or-ge, same?}
 use Rattle.base_facts.specs.laws.Bools.{to-T}
 use Rattle.base_words.specs.Set.{unionOf, empty}
-use Rattle.base_rounds.specs.Flow.{Edge, flow, sameSets}
-use Rattle.base_rounds.specs.Rounds.{First, iter, Settled, settled, settle}
+use Rattle.base_rounds.specs.Flow.{Edge, sameSets}
+use Rattle.base_rounds.specs.Rounds.{First, iter, settled}
 use Rattle.base_rounds.specs.laws.Cells.{Every}
 use Rattle.base_rounds.specs.laws.Pair.{Set2, pair, pair-joins}
 use Rattle.base_rounds.specs.laws.Flow.{Inside, bound, round-fine}
 use Rattle.base_rounds.specs.laws.Run.{sets-sound, sets-whole}
 use Rattle.base_rounds.specs.laws.Settle.{settle-first}
 use Rattle.grammar.specs.Parts.{Part, terminal, occurs, sequence, choice, option, repeat, repeat1, affirms, denies}
-use Rattle.grammar_table.specs.Table.{upTo}
-use Rattle.lake_sets.specs.Beginning.{Beginning, begin, nothing, beginBy}
-use Rattle.lake_sets.specs.Flows.{edge, Gift, gift, when, overParts, given, roundBy, leastBy, succeedGifts, succeedEdges, altGifts, altEdges}
-use Rattle.lake_sets.specs.steps.Steps.{Ok, Flowed, kept, edgesBy}
-use Rattle.grammar_table.specs.laws.Places.{getD-any, upTo-long}
-use Rattle.lake_sets.specs.laws.Begins.{upBegins, begins-next, begins-long}
-use Rattle.lake_sets.specs.laws.Edges.{over-next, over-none}
+use Rattle.lake_rules.specs.Beginning.{Beginning, nothing, beginBy}
+use Rattle.lake_rules.specs.Flows.{Gift, gift, when, overParts, given, roundBy, leastBy, succeedGifts, altGifts}
+use Rattle.lake_rules.specs.laws.Wholes.{Ok}
+use Rattle.grammar_table.specs.laws.Places.{getD-any}
+use Rattle.lake_rules.specs.laws.Begins.{upBegins, begins-next, begins-long}
+
+-- k is the first round whose next is equal, and s its state
+pub record Flowed (n : ℕ) (gifts : List Gift) (es : List Edge) (k : ℕ) (s : List (List ℕ)) : Type 0 where
+  pub first : First (roundBy n gifts es) (replicate n empty) k
+  pub is : s ≡ iter (roundBy n gifts es) (replicate n empty) k
 
 of-T : (b : Bool) → T b → b ≡ true
 of-T true h = refl

@@ -1,21 +1,19 @@
 -- The three sets of every intermediate expression, and the round count (01, Lakes made plain; 01, Meaning of a match, "Other calls").
 -- Assumes nothing: these are definitions.
-use Prim.Native.Nat.{ℕ, zero, suc, _+_, _*_, _^_, _-_}
-use mathlib.Core.Bool.{Bool, true, false, cond, not, _&&_, _||_}
-use mathlib.Core.List.{List, [], _∷_}
+use Prim.Native.Nat.{ℕ, zero, suc, _+_, _*_, _^_}
+use mathlib.Core.Bool.{Bool, false, cond, not, _&&_, _||_}
+use mathlib.Core.List.{List, []}
 use lib.ListN.{length, getD}
 use lib.Dec.{leb}
-use Rattle.read_tokens.specs.Token.{Symbol, Leaf, name, any}
+use Rattle.read_tokens.specs.Token.{Symbol, name}
 use Rattle.grammar.specs.Exp.{Exp}
-use Rattle.grammar.specs.Same.{sameLeaf, indexOf}
 use Rattle.grammar.specs.Numbers.{Grammar, isLake}
 use Rattle.base_words.specs.Set.{empty, memberOf}
 use Rattle.base_rounds.specs.Rounds.{Settled}
-use Rattle.lake_sets.specs.declared.Sets.{Sets}
 use Rattle.lake_step_one.specs.Intermediate.{intermediate}
 use Rattle.grammar.specs.Parts.{Part, partsAll, rootsOf}
-use Rattle.lake_sets.specs.Beginning.{Beginning, nothing, marksOf, marked, beginnings}
-use Rattle.lake_sets.specs.Flows.{overParts, succeedGifts, succeedEdges, altGifts, altEdges, leastBy}
+use Rattle.lake_rules.specs.Beginning.{Beginning, nothing, marksOf, marked, beginnings}
+use Rattle.lake_rules.specs.Flows.{overParts, succeedGifts, succeedEdges, altGifts, altEdges, leastBy}
 use Rattle.grammar.specs.Numbers.{terminalIn}
 
 -- ε marks by symbol, the number of each symbol's body, and by expression BEGINNING, SUCCEED and ALT
@@ -42,16 +40,6 @@ analysis g =
     let bodies : List (Exp ℕ) = intermediate g in
     let parts : List Part = partsAll (terminalIn g) 0 bodies in
     analysed (marksOf bodies) (rootsOf 0 bodies) parts (length parts * (length (g .names) + length (g .terminals)))
-
--- the sets of the expression with number e from 1
-unfoldable pub setsAt : Analysis → ℕ → Sets
-setsAt a e =
-    record {
-      begin = getD (a .begins) (e - 1) nothing .set;
-      succeed = getD (a .succeeds) (e - 1) empty;
-      alt = getD (a .alts) (e - 1) empty;
-      eps = getD (a .begins) (e - 1) nothing .eps;
-    }
 
 -- "no such expression"
 abbrev pub isExpression : Analysis → ℕ → Bool
