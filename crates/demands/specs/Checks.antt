@@ -8,7 +8,7 @@ use lib.ListN.{length, getD}
 use Rattle.read_tokens.specs.declared.Mode.{Mode}
 use Rattle.read_tokens.specs.Token.{Symbol, name}
 use Rattle.lake_rules.specs.Analysis.{isExpression}
-use Rattle.lake_step_two.specs.Plain.{plainRules}
+use Rattle.lake_plain.specs.Plain.{plainRules}
 use Rattle.write_rules.specs.Writing.{symbolText, text}
 use Rattle.prepare.specs.Prepare.{prepared}
 use Rattle.gurkenmond.specs.Calls.{isLakeAt}

@@ -12,7 +12,7 @@ use Rattle.grammar.specs.Exp.{Exp}
 use Rattle.grammar.specs.Numbers.{Grammar, isLake}
 use Rattle.lake_step_one.specs.Intermediate.{waterIn, rightOr}
 use Rattle.lake_rules.specs.Analysis.{Analysis, bodyAlt}
-use Rattle.lake_step_two.specs.Plain.{alternatives}
+use Rattle.lake_plain.specs.Plain.{alternatives}
 use Rattle.match_meaning.specs.Meaning.{Body, rule, lake, Meant}
 use Rattle.match_eval.specs.Eval.{nowhere}
 use Rattle.prepare.specs.Prepare.{prepared}

@@ -15,8 +15,8 @@ use Rattle.read_syntax.specs.Machine.{syntax, wide, placeOf}
 use Rattle.read_syntax.specs.Offence.{Judges}
 use Rattle.read_syntax.specs.Grammar.{GrammarOf}
 use Rattle.read_syntax.specs.Reading.{before, reserved}
-use Rattle.lake_step_two.specs.Plain.{sizes}
-use Rattle.lake_calls.specs.Loops.{SmallestLoop}
+use Rattle.lake_plain.specs.Plain.{sizes}
+use Rattle.lake_plain.specs.Loops.{SmallestLoop}
 use Rattle.match_meaning.specs.Meaning.{Node, Derives}
 use Rattle.match_list.specs.Nodes.{roomOf}
 use Rattle.prepare.specs.Prepare.{prepared, preparedBy}

@@ -17,8 +17,8 @@ use Rattle.base_words.specs.Set.{empty}
 use Rattle.lake_sets.specs.declared.Sets.{Sets}
 use Rattle.lake_rules.specs.Analysis.{Analysis, isExpression, bodyAlt, cannotSkip}
 use Rattle.lake_sets.specs.SetsAt.{setsAt}
-use Rattle.lake_step_two.specs.Plain.{plainRules}
-use Rattle.lake_calls.specs.Calls.{order}
+use Rattle.lake_plain.specs.Plain.{plainRules}
+use Rattle.lake_plain.specs.Calls.{order}
 use Rattle.match_lake.specs.Asking.{wayIn}
 use Rattle.match_cells.specs.Cells.{cells}
 use Rattle.match_list.specs.Nodes.{Listing, all, deep, full, listOf, listingOf, wordsOf, roomOf}

@@ -1,4 +1,2 @@
-pub mod Calls
-pub mod Loops
 pub mod steps
 pub mod laws

@@ -3,10 +3,6 @@ pub mod First
 pub mod Loops
 pub mod Order
 pub mod Tables
-pub mod Ranks
-pub mod Reaches
-pub mod Exact
-pub mod Traps
 pub mod Trees
 pub mod Rights
 pub mod Marks

@@ -1,3 +1,2 @@
 pub mod steps
 pub mod laws
-pub mod Plain

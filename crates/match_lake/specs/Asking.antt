@@ -11,7 +11,7 @@ use Rattle.grammar.specs.Lakes.{waterOf}
 use Rattle.grammar.specs.Numbers.{Grammar, isLake}
 use Rattle.base_words.specs.Set.{memberOf}
 use Rattle.lake_step_one.specs.Intermediate.{waterIn}
-use Rattle.lake_step_two.specs.Plain.{alternatives}
+use Rattle.lake_plain.specs.Plain.{alternatives}
 use Rattle.match_eval.specs.Eval.{ev}
 
 -- none of the alternative symbols matches at p

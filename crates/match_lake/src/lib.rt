@@ -10,7 +10,7 @@ ghost use Rattle.grammar.specs.Same.{sameSymbol, indexOf};
 ghost use Rattle.grammar.specs.Numbers.{isLake};
 ghost use Rattle.grammar_table.specs.Table.{upTo, symbolCount, terminalCount, nameIn, leafIn, bodyBy, grammarIn};
 ghost use Rattle.lake_step_one.specs.Intermediate.{waterName, waterIn};
-ghost use Rattle.lake_step_two.specs.Plain.{nonterminalsIn, terminalsIn};
+ghost use Rattle.lake_plain.specs.Plain.{nonterminalsIn, terminalsIn};
 ghost use Rattle.match_lake.specs.Asking.{noneMatches, ownTakes, symbolFails, terminalFails, wayIn};
 use grammar_table::records;
 

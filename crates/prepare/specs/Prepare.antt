@@ -8,8 +8,8 @@ use Rattle.grammar.specs.Numbers.{Grammar, numbered}
 use Rattle.grammar.specs.Refusal.{Refusal, _▸_}
 use Rattle.read_syntax.specs.Reading.{refusesText, rulesOf}
 use Rattle.lake_rules.specs.Analysis.{Analysis, analysis}
-use Rattle.lake_step_two.specs.Plain.{plainBodies, tooLarge}
-use Rattle.lake_calls.specs.Calls.{looping}
+use Rattle.lake_plain.specs.Plain.{plainBodies, tooLarge}
+use Rattle.lake_plain.specs.Calls.{looping}
 
 -- a grammar text worked out: its rules, by numbers, its sets, its plain bodies
 pub record Prepared : Type 0 where

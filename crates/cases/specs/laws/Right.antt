@@ -25,8 +25,8 @@ use Rattle.lake_sets.specs.SetsAt.{setsAt}
 use Rattle.lake_rules.specs.Beginning.{markRound, marksOf as sets-marksOf, beginningsFrom, beginnings}
 use Rattle.lake_rules.specs.Flows.{overParts, given, leastBy}
 use Rattle.lake_step_one.specs.Intermediate.{waterIn, bodiesBy, intermediate}
-use Rattle.lake_calls.specs.Calls.{firstCalls, callsOf, allCalled, reach, loopFrom, loop, ranksOf, ofRank, orderFrom, order}
-use Rattle.lake_step_two.specs.Plain.{nonterminalsIn, terminalsIn, alternatives, plainFrom, plainBodies, sizes, rulesBy, plainRules}
+use Rattle.lake_plain.specs.Calls.{firstCalls, callsOf, allCalled, reach, loopFrom, loop, ranksOf, ofRank, orderFrom, order}
+use Rattle.lake_plain.specs.Plain.{nonterminalsIn, terminalsIn, alternatives, plainFrom, plainBodies, sizes, rulesBy, plainRules}
 use Rattle.match_cells.specs.Cells.{bodyTakes, rowOf, fillOf, cells}
 use Rattle.match_eval.specs.Eval.{stands, leafAt, cellAt, joinOf, seqOf, altOf, stepOf, rep, plusOf, optOf, aheadOf, neverOf, ev}
 use Rattle.match_list.specs.Nodes.{seqN, altN, optN, stepN, repN, walkOf, nodeIf, nodesOf, levels, listOf, listingOf, inWords, putNode, written}

@@ -23,8 +23,8 @@ use Rattle.prepare.specs.steps.Scanned.{scanned}
 use Rattle.prepare.specs.laws.Chain.{text-by-scan}
 use Rattle.lake_rules.specs.Analysis.{analysis}
 use Rattle.grammar_table.specs.laws.Parts.{total}
-use Rattle.lake_step_two.specs.Plain.{plainRules, sizes, tooLarge}
-use Rattle.lake_calls.specs.Calls.{order, looping}
+use Rattle.lake_plain.specs.Plain.{plainRules, sizes, tooLarge}
+use Rattle.lake_plain.specs.Calls.{order, looping}
 use Rattle.lake_step_two.specs.steps.Stepped.{plainOf}
 use Rattle.lake_step_two.specs.laws.Bodies.{sizes-total}
 use Rattle.read_grammar.specs.steps.Promises.{Sound}

@@ -19,7 +19,7 @@ use Rattle.read_syntax.specs.Reading.{rulesOf}
 use Rattle.grammar.specs.Numbers.{terminalIn}
 use Rattle.lake_rules.specs.Beginning.{marked, marksOf}
 use Rattle.lake_step_one.specs.Proper.{SoundAll}
-use Rattle.lake_calls.specs.Calls.{order, loop}
+use Rattle.lake_plain.specs.Calls.{order, loop}
 use Rattle.match_meaning.specs.Meaning.{Node, Derives}
 use Rattle.match_meaning.specs.laws.One.{one}
 use Rattle.match_cells.specs.laws.First.{Markings, Ordered}

@@ -19,7 +19,7 @@ use Rattle.grammar.specs.SameGrammar.{SameGrammar}
 use Rattle.read_syntax.specs.Grammar.{GrammarOf}
 use Rattle.read_syntax.specs.laws.Grammars.{one-grammar}
 use Rattle.lake_rules.specs.Analysis.{isExpression}
-use Rattle.lake_step_two.specs.Plain.{plainRules}
+use Rattle.lake_plain.specs.Plain.{plainRules}
 use Rattle.write_rules.specs.Writing.{symbolText, text}
 use Rattle.prepare.specs.Prepare.{Prepared, prepared, refuses}
 use Rattle.prepare.specs.Reads.{readBy, readOf}

@@ -18,7 +18,7 @@ use Rattle.lake_step_one.specs.Intermediate.{waterIn, intermediateBy, intermedi
 use Rattle.lake_rules.specs.Analysis.{Analysis, analysis, bodyAlt}
 use Rattle.grammar_table.specs.laws.Places.{getD-any}
 use Rattle.lake_step_one.specs.laws.Next.{bodies-at, bodies-long as middle-long}
-use Rattle.lake_step_two.specs.Plain.{alternatives, plainBy, plainBodies}
+use Rattle.lake_plain.specs.Plain.{alternatives, plainBy, plainBodies}
 use Rattle.lake_step_two.specs.laws.Bodies.{plain-at}
 use Rattle.write_text.specs.laws.Own.{lefts-long}
 use Rattle.write_text.specs.laws.Plain.{bodies-long}

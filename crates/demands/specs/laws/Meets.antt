@@ -19,7 +19,7 @@ use Rattle.grammar.specs.Exp.{sym}
 use Rattle.grammar.specs.Refusal.{Refusal, _▸_}
 use Rattle.match_meaning.specs.Meaning.{Node, Derives}
 use Rattle.match_meaning.specs.laws.One.{one}
-use Rattle.lake_calls.specs.Calls.{order}
+use Rattle.lake_plain.specs.Calls.{order}
 use Rattle.match_list.specs.Nodes.{roomOf, wordsOf, nodeAt, nodesAt}
 use Rattle.match_cells.specs.laws.Filled.{filled-length}
 use Rattle.prepare.specs.Prepare.{prepared, refuses}

@@ -26,10 +26,10 @@ use Rattle.read_syntax.specs.steps.Found.{found}
 use Rattle.read_syntax.specs.laws.Bounds.{judged, one-answer}
 use Rattle.read_syntax.specs.laws.Grammars.{one-grammar}
 use Rattle.lake_rules.specs.Analysis.{isExpression}
-use Rattle.lake_step_two.specs.Plain.{sizes, tooLarge}
-use Rattle.lake_calls.specs.Calls.{loop, looping}
-use Rattle.lake_calls.specs.Loops.{SmallestLoop}
-use Rattle.lake_calls.specs.laws.Exact.{loop-exact}
+use Rattle.lake_plain.specs.Plain.{sizes, tooLarge}
+use Rattle.lake_plain.specs.Calls.{loop, looping}
+use Rattle.lake_plain.specs.Loops.{SmallestLoop}
+use Rattle.lake_plain.specs.laws.Exact.{loop-exact}
 use Rattle.prepare.specs.Prepare.{prepared, preparedBy, refuses}
 use Rattle.prepare.specs.steps.Scanned.{scanned}
 use Rattle.prepare.specs.laws.Chain.{assoc, text-by-scan}

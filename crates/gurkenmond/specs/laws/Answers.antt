@@ -11,7 +11,7 @@ use Rattle.grammar.specs.Lakes.{waterOf}
 use Rattle.grammar.specs.Numbers.{Grammar}
 use Rattle.grammar.specs.Refusal.{Refusal}
 use Rattle.lake_step_one.specs.Intermediate.{waterIn}
-use Rattle.lake_step_two.specs.Plain.{alternatives}
+use Rattle.lake_plain.specs.Plain.{alternatives}
 use Rattle.match_lake.specs.Asking.{noneMatches, ownTakes, wayNumber, wayIn}
 use Rattle.prepare.specs.declared.Counted.{Counted}
 use Rattle.prepare.specs.declared.Verdict.{Verdict}

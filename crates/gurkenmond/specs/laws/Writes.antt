@@ -13,7 +13,7 @@ use Rattle.grammar.specs.Refusal.{Refusal, refusal, refuseIf}
 use Rattle.read_syntax.specs.Reading.{rulesOf}
 use Rattle.lake_rules.specs.Analysis.{analysis}
 use Rattle.lake_step_one.specs.steps.Made.{withBodies}
-use Rattle.lake_step_two.specs.Plain.{plainRules}
+use Rattle.lake_plain.specs.Plain.{plainRules}
 use Rattle.lake_step_two.specs.steps.Stepped.{plainOf}
 use Rattle.write_rules.specs.Writing.{text}
 use Rattle.write_text.specs.steps.Texts.{textOf, Paged}

@@ -17,12 +17,12 @@ use Rattle.lake_rules.specs.Beginning.{marked, markRound, marksOf}
 use Rattle.lake_step_one.specs.Proper.{Sound, SoundAll}
 use Rattle.grammar_table.specs.laws.Places.{upTo-long, is-upTo}
 use Rattle.lake_step_one.specs.steps.Made.{withBodies}
-use Rattle.lake_calls.specs.Calls.{firstCalls, callsOf, loopFrom, loop}
+use Rattle.lake_plain.specs.Calls.{firstCalls, callsOf, loopFrom, loop}
 use Rattle.grammar_table.specs.Trees.{treeOf}
 use Rattle.lake_calls.specs.steps.Firsts.{AllFirsts}
 use Rattle.lake_calls.specs.steps.Place.{placed}
 use Rattle.lake_calls.specs.steps.Marks.{emptyRound, SoundIn, AllMarks, Looped, LoopedAll}
-use Rattle.lake_calls.specs.laws.Exact.{calls-long}
+use Rattle.lake_plain.specs.laws.Exact.{calls-long}
 use Rattle.lake_calls.specs.laws.Trees.{bodies-are, trees-are}
 
 sound-at : (number : Leaf → ℕ) (r x : ℕ) (es : List (Exp ℕ)) (d : Exp ℕ) → SoundAll number r x es → (i : ℕ) → i < length es → Sound number r x (getD es i d)

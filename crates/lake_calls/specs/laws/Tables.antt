@@ -7,7 +7,7 @@ use lib.ListN.{length}
 use Rattle.grammar.specs.Exp.{Exp}
 use Rattle.grammar_table.specs.Table.{upTo, symbolWord, symbolCount}
 use Rattle.lake_rules.specs.Beginning.{marked, marksOf}
-use Rattle.lake_calls.specs.Calls.{firstCalls, callsOf, loopFrom, loop, ranksOf, orderFrom, order}
+use Rattle.lake_plain.specs.Calls.{firstCalls, callsOf, loopFrom, loop, ranksOf, orderFrom, order}
 use Rattle.grammar_table.specs.Trees.{treeOf, bodiesOf}
 use Rattle.grammar_table.specs.laws.Places.{upTo-long}
 

@@ -9,7 +9,7 @@ use Rattle.grammar.specs.Exp.{Exp}
 use Rattle.grammar_table.specs.Table.{symbolWord, upTo}
 use Rattle.grammar.specs.Empty.{hasEmpty}
 use Rattle.lake_step_one.specs.Proper.{Sound}
-use Rattle.lake_calls.specs.Calls.{firstCalls}
+use Rattle.lake_plain.specs.Calls.{firstCalls}
 use Rattle.grammar_table.specs.Trees.{treeOf}
 
 pub record Firsts (m : ℕ → Bool) (e : Exp ℕ) (calls : ℕ) (empty : Bool) : Type 0 where

@@ -17,7 +17,7 @@ use Rattle.grammar.specs.Numbers.{terminalIn}
 use Rattle.lake_rules.specs.Beginning.{marked}
 use Rattle.lake_step_one.specs.Proper.{Sound, SoundAll}
 use Rattle.lake_step_one.specs.steps.Made.{withBodies}
-use Rattle.lake_calls.specs.Calls.{loop}
+use Rattle.lake_plain.specs.Calls.{loop}
 use Rattle.grammar_table.specs.Trees.{treeOf}
 use Rattle.lake_calls.specs.steps.Place.{placed}
 

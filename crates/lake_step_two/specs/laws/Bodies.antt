@@ -14,7 +14,7 @@ use Rattle.base_words.specs.Set.{memberOf}
 use Rattle.lake_step_one.specs.Intermediate.{intermediate, bodiesBy, intermediateBy, waterIn}
 use Rattle.lake_rules.specs.Analysis.{Analysis, bodyAlt}
 use Rattle.grammar_table.specs.laws.Parts.{total}
-use Rattle.lake_step_two.specs.Plain.{nonterminalsIn, terminalsIn, alternatives, plainBy, plainFrom, plainBodies, sizes}
+use Rattle.lake_plain.specs.Plain.{nonterminalsIn, terminalsIn, alternatives, plainBy, plainFrom, plainBodies, sizes}
 use Rattle.lake_step_two.specs.steps.Skips.{onlyIf, each}
 use Rattle.lake_step_two.specs.laws.Skips.{append-assoc}
 

@@ -15,7 +15,7 @@ use Rattle.lake_step_one.specs.Intermediate.{intermediate}
 use Rattle.lake_rules.specs.Analysis.{Analysis, analysis, bodyAlt}
 use Rattle.grammar.specs.Numbers.{terminalIn}
 use Rattle.lake_step_one.specs.Proper.{Sound, SoundAll, Proper}
-use Rattle.lake_step_two.specs.Plain.{nonterminalsIn, terminalsIn, alternatives, plainBy, plainFrom, plainBodies}
+use Rattle.lake_plain.specs.Plain.{nonterminalsIn, terminalsIn, alternatives, plainBy, plainFrom, plainBodies}
 use Rattle.lake_step_two.specs.steps.Stepped.{Once, plainOf}
 
 module _ (number : Leaf → ℕ) (r x : ℕ) (dot : number any < x) where

@@ -14,7 +14,7 @@ use Rattle.grammar.specs.Refusal.{refusal}
 use Rattle.lake_step_one.specs.Intermediate.{intermediate}
 use Rattle.lake_rules.specs.Analysis.{Analysis}
 use Rattle.grammar_table.specs.laws.Parts.{total}
-use Rattle.lake_step_two.specs.Plain.{sizes, plainBodies, tooLarge}
+use Rattle.lake_plain.specs.Plain.{sizes, plainBodies, tooLarge}
 use Rattle.lake_step_two.specs.laws.Bodies.{sizes-total, plain-larger}
 
 module _ (bodies : List (Exp ℕ)) (k : ℕ) (count : k ≡ min 1025 (total bodies)) where

@@ -17,7 +17,7 @@ use Rattle.lake_step_one.specs.steps.Runs.{stored, Grew, nil, PartsRun, CopiedR
 use Rattle.lake_step_one.specs.steps.Made.{lakeAt}
 use Rattle.lake_step_one.specs.laws.Stores.{grew-one, grew-none, grew-two, grew-as}
 use Rattle.lake_step_one.specs.laws.Bodies.{dot, run, both}
-use Rattle.lake_step_two.specs.Plain.{plainBy}
+use Rattle.lake_plain.specs.Plain.{plainBy}
 use Rattle.lake_step_two.specs.steps.Skips.{choiceParts, onlyIf, each, symbolIn, terminalOf, chosenIn, Adds, Added, AddedSymbol, AddedTerminal, AddedSymbols, AddedTerminals, Numbered, ChoiceTo, SkipTo, PlainTo}
 
 append-none : {A : Type 0} (l : List A) → l ++ [] ≡ l

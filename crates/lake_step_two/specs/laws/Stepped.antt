@@ -26,7 +26,7 @@ use Rattle.lake_step_one.specs.steps.Runs.{Grew, BodyAt}
 use Rattle.lake_step_one.specs.steps.Made.{nextBy, lakeAt, MadeOf, withBodies, Short}
 use Rattle.lake_step_one.specs.laws.Next.{lake-at, body-at, made-more}
 use Rattle.lake_step_one.specs.laws.Final.{made-start, count-is, finished}
-use Rattle.lake_step_two.specs.Plain.{alternatives, plainBy, plainBodies}
+use Rattle.lake_plain.specs.Plain.{alternatives, plainBy, plainBodies}
 use Rattle.lake_step_two.specs.steps.Skips.{onlyIf, each, symbolIn, terminalOf, chosenIn, Numbered, PlainTo}
 use Rattle.lake_step_two.specs.steps.Stepped.{Once, Ready, plainOf, PlainMade, PlainNext, PlainAll, SteppedTwo}
 use Rattle.lake_step_two.specs.laws.Bodies.{nonterminals-each, terminals-each, plain-at, plain-long}

@@ -13,7 +13,7 @@ use Rattle.grammar_table.specs.Table.{tableWords, partBy}
 use Rattle.base_words.specs.Set.{memberOf}
 use Rattle.lake_step_one.specs.steps.Runs.{Grew, PartsRun}
 use Rattle.lake_step_one.specs.steps.Made.{lakeAt}
-use Rattle.lake_step_two.specs.Plain.{plainBy}
+use Rattle.lake_plain.specs.Plain.{plainBy}
 
 -- the expressions of `s1 / .. / sn`; none for no s
 abbrev pub choiceParts : (Leaf → ℕ) → ℕ → List (Exp ℕ) → List Part

@@ -13,7 +13,7 @@ use Rattle.grammar.specs.Numbers.{terminalIn}
 use Rattle.lake_step_one.specs.Proper.{Proper, middle}
 use Rattle.grammar_table.specs.laws.Parts.{total}
 use Rattle.lake_step_one.specs.steps.Made.{MadeOf, withBodies, Short}
-use Rattle.lake_step_two.specs.Plain.{plainBodies}
+use Rattle.lake_plain.specs.Plain.{plainBodies}
 
 -- each terminal stands once, `.` first
 pub record Once (g : Grammar) : Type 0 where

@@ -19,7 +19,7 @@ use Rattle.match_meaning.specs.laws.One.{one}
 use Rattle.match_meaning.specs.laws.Shape.{within}
 use Rattle.match_eval.specs.Eval.{nowhere, bodyOf, rep, ev}
 use Rattle.grammar.specs.Empty.{emptyLeaf, hasEmpty}
-use Rattle.lake_calls.specs.Loops.{Calls}
+use Rattle.lake_plain.specs.Loops.{Calls}
 use Rattle.match_cells.specs.laws.First.{Terse, Markings}
 use Rattle.match_cells.specs.laws.Sound.{plainly, Means, leaf-sound, seq-sound, alt-sound, rep-sound, plus-sound, opt-sound, ahead-sound, never-sound, cell-sound}
 

@@ -8,7 +8,7 @@ use mathlib.Core.Logic.{_⊎_}
 use lib.ListN.{length}
 use Rattle.grammar.specs.Exp.{Exp, sym, ter, seq, alt, opt, star, plus, ahead, never}
 use Rattle.grammar.specs.Empty.{emptyLeaf, hasEmpty}
-use Rattle.lake_calls.specs.Loops.{Calls}
+use Rattle.lake_plain.specs.Loops.{Calls}
 use Rattle.match_eval.specs.Eval.{bodyOf}
 
 -- no literal in it is empty, so that a terminal that matches takes something

@@ -22,9 +22,9 @@ use Rattle.base_words.specs.Set.{ones}
 use Rattle.lake_rules.specs.Beginning.{marked, marksOf}
 use Rattle.lake_step_one.specs.Proper.{Sound, SoundAll}
 use Rattle.lake_rules.specs.laws.Marks.{marks-least}
-use Rattle.lake_calls.specs.Calls.{firstCalls, callsOf, reach, loop, ranksOf, ofRank, orderFrom, order}
-use Rattle.lake_calls.specs.laws.Reaches.{pow-below}
-use Rattle.lake_calls.specs.laws.Exact.{calls-long}
+use Rattle.lake_plain.specs.Calls.{firstCalls, callsOf, reach, loop, ranksOf, ofRank, orderFrom, order}
+use Rattle.lake_plain.specs.laws.Reaches.{pow-below}
+use Rattle.lake_plain.specs.laws.Exact.{calls-long}
 use Rattle.match_eval.specs.Eval.{nowhere, bodyOf}
 use Rattle.match_cells.specs.laws.First.{Terse, Markings}
 use Rattle.match_cells.specs.laws.Order.{rank-small}

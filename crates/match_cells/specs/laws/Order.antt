@@ -20,11 +20,11 @@ use Rattle.base_words.specs.Set.{bit, ones}
 use Rattle.base_words.specs.laws.Members.{bit-pow-same}
 use Rattle.base_words.specs.laws.Order.{ones-le, ones-strict, sub-or-l}
 use Rattle.lake_rules.specs.Beginning.{marked, marksOf}
-use Rattle.lake_calls.specs.Calls.{firstCalls, callsOf, holds, reach, loopFrom, loop, ranksOf, ofRank, orderFrom, order}
-use Rattle.lake_calls.specs.laws.Ranks.{falls, reach-small}
-use Rattle.lake_calls.specs.Loops.{Calls}
-use Rattle.lake_calls.specs.laws.Reaches.{pow-below, Found, found}
-use Rattle.lake_calls.specs.laws.Exact.{up-r, called, called-at}
+use Rattle.lake_plain.specs.Calls.{firstCalls, callsOf, holds, reach, loopFrom, loop, ranksOf, ofRank, orderFrom, order}
+use Rattle.lake_plain.specs.laws.Ranks.{falls, reach-small}
+use Rattle.lake_plain.specs.Loops.{Calls}
+use Rattle.lake_plain.specs.laws.Reaches.{pow-below, Found, found}
+use Rattle.lake_plain.specs.laws.Exact.{up-r, called, called-at}
 use Rattle.match_eval.specs.Eval.{nowhere, bodyOf}
 use Rattle.match_cells.specs.laws.First.{In, Ordered}
 

@@ -29,8 +29,8 @@ use Rattle.match_cells.specs.laws.Rows.{stored}
 use Rattle.match_eval.specs.steps.Firsts.{byteAt, wordOf, Heard, Silent, putSaid, presetOf}
 use Rattle.match_eval.specs.steps.Memory.{Ready, Knows, Roomy, Front}
 use Rattle.match_cells.specs.steps.Runs.{Open, fillBy, FilledBy}
-use Rattle.lake_calls.specs.Calls.{holds}
-use Rattle.lake_calls.specs.laws.Exact.{up-l, up-r}
+use Rattle.lake_plain.specs.Calls.{holds}
+use Rattle.lake_plain.specs.laws.Exact.{up-l, up-r}
 use Rattle.base_words.specs.laws.Members.{bit-pow-same}
 
 -- a cell at a later place stands further on

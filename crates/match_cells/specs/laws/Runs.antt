@@ -14,7 +14,7 @@ use Rattle.grammar.specs.Numbers.{terminalIn}
 use Rattle.lake_rules.specs.Beginning.{marked, marksOf}
 use Rattle.lake_step_one.specs.Proper.{SoundAll}
 use Rattle.grammar_table.specs.laws.Places.{is-upTo, upTo-long}
-use Rattle.lake_calls.specs.Calls.{loop, order}
+use Rattle.lake_plain.specs.Calls.{loop, order}
 use Rattle.grammar_table.specs.Trees.{treeOf, bodiesOf}
 use Rattle.lake_calls.specs.laws.Trees.{bodies-are, trees-are}
 use Rattle.match_eval.specs.steps.Memory.{Knows}

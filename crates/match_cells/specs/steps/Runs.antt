@@ -11,7 +11,7 @@ use Rattle.grammar_table.specs.Holds.{Holds}
 use Rattle.grammar.specs.Numbers.{terminalIn}
 use Rattle.lake_step_one.specs.Proper.{SoundAll}
 use Rattle.lake_step_one.specs.steps.Made.{withBodies}
-use Rattle.lake_calls.specs.Calls.{holds, loop, order}
+use Rattle.lake_plain.specs.Calls.{holds, loop, order}
 use Rattle.match_cells.specs.Cells.{rowOf, cells}
 use Rattle.match_eval.specs.steps.Firsts.{byteAt, wordOf, presetOf}
 use Rattle.match_eval.specs.steps.Memory.{Roomy}

@@ -4,7 +4,7 @@ use Prim.Native.Nat.{ℕ}
 use mathlib.Core.Path.{ap, _∙_}
 use lib.ListN.{drop}
 use Rattle.grammar_table.specs.Table.{upTo, leafIn}
-use Rattle.lake_step_two.specs.Plain.{terminalsIn}
+use Rattle.lake_plain.specs.Plain.{terminalsIn}
 use Rattle.match_lake.specs.Asking.{noneMatches}
 use borrow.Author.Tests.{not-true, not-false}
 use Rattle.match_lake.specs.laws.Asks.{way-own, way-water, way-end, way-symbol, way-terminal, way-skip}

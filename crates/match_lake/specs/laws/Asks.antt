@@ -20,7 +20,7 @@ use Rattle.grammar_table.specs.Table.{upTo, symbolCount, terminalCount, symbolW
 use Rattle.grammar_table.specs.laws.Lists.{up-length, up-at}
 use Rattle.base_words.specs.Set.{memberOf}
 use Rattle.lake_step_one.specs.Intermediate.{waterName, waterIn}
-use Rattle.lake_step_two.specs.Plain.{nonterminalsIn, terminalsIn, alternatives}
+use Rattle.lake_plain.specs.Plain.{nonterminalsIn, terminalsIn, alternatives}
 use Rattle.lake_step_one.specs.laws.Water.{index-at, index-none}
 use Rattle.match_eval.specs.Eval.{leafAt, cellAt, neverOf, ev}
 use Rattle.match_eval.specs.laws.EvalSteps.{any-takes, any-fails}

@@ -17,7 +17,7 @@ use Rattle.match_meaning.specs.Meaning.{nd}
 use Rattle.match_eval.specs.Eval.{bodyOf, stands, leafAt, cellAt, joinOf, seqOf, altOf, stepOf, rep, plusOf, optOf, aheadOf, neverOf, ev}
 use Rattle.match_cells.specs.Cells.{bodyTakes, rowOf, fillOf, cells}
 use Rattle.grammar.specs.Empty.{emptyLeaf, hasEmpty}
-use Rattle.lake_calls.specs.Loops.{Calls}
+use Rattle.lake_plain.specs.Loops.{Calls}
 use Rattle.match_cells.specs.laws.First.{Terse, Markings, In, Ordered}
 use Rattle.match_list.specs.Nodes.{seqN, altN, optN, stepN, repN, walkOf, nodeIf, nodesOf, levels, listOf, listingOf, inWords, putNode, written, wordsOf, nodeAt, soundAt, nodeText}
 use Rattle.match_cells.specs.laws.Agrees.{Right}

@@ -16,7 +16,7 @@ use Rattle.grammar.specs.Refusal.{Refusal, refusal, refuseIf, _▸_}
 use Rattle.grammar_table.specs.Table.{symbolCount}
 use Rattle.grammar_table.specs.Trees.{bodiesOf}
 use Rattle.lake_step_one.specs.steps.Made.{withBodies}
-use Rattle.lake_calls.specs.Calls.{loop}
+use Rattle.lake_plain.specs.Calls.{loop}
 use Rattle.lake_calls.specs.laws.Trees.{bodies-are}
 use Rattle.match_list.specs.Nodes.{Listing, listOf, listingOf, wordsOf, roomOf}
 use Rattle.match_cells.specs.laws.Agrees.{Right}

@@ -9,7 +9,7 @@ use Rattle.read_tokens.specs.Bounds.{inputBound}
 use Rattle.grammar.specs.Exp.{Exp}
 use Rattle.grammar.specs.Numbers.{Grammar}
 use Rattle.grammar.specs.Refusal.{Refusal, refuseIf, _▸_}
-use Rattle.lake_calls.specs.Calls.{loop, order}
+use Rattle.lake_plain.specs.Calls.{loop, order}
 use Rattle.match_nodes.specs.declared.Listed.{Listed}
 use Rattle.match_nodes.specs.declared.Listed.the-variants.{All, Deep, Full}
 use Rattle.match_cells.specs.Cells.{cells}

@@ -27,11 +27,11 @@ use Rattle.read_syntax.specs.Reading.{refusesText, rulesOf, tooMany}
 use Rattle.read_syntax.specs.steps.Found.{found}
 use Rattle.prepare.specs.steps.Scanned.{scanned}
 use Rattle.prepare.specs.laws.Chain.{text-by-scan}
-use Rattle.lake_step_two.specs.Plain.{tooLarge}
-use Rattle.lake_calls.specs.Calls.{loop, looping, callsOf, firstCalls}
+use Rattle.lake_plain.specs.Plain.{tooLarge}
+use Rattle.lake_plain.specs.Calls.{loop, looping, callsOf, firstCalls}
 use Rattle.lake_rules.specs.Beginning.{marked, marksOf}
 use Rattle.lake_calls.specs.steps.Place.{placed}
-use Rattle.lake_calls.specs.laws.Reaches.{Found, found as loop-found}
+use Rattle.lake_plain.specs.laws.Reaches.{Found, found as loop-found}
 use Rattle.lake_step_two.specs.steps.Stepped.{plainOf}
 use Rattle.prepare.specs.declared.Counted.{Counted}
 use Rattle.prepare.specs.declared.Prepared.{Prepared as Worth}

@@ -17,7 +17,7 @@ use Rattle.lake_step_one.specs.Proper.{Proper, middle}
 use Rattle.lake_sets.specs.steps.Analysed.{Analysed}
 use Rattle.lake_analysis.specs.steps.Lent.{Fronted}
 use Rattle.lake_step_one.specs.steps.Made.{Short, SteppedOne, withBodies}
-use Rattle.lake_step_two.specs.Plain.{tooLarge}
+use Rattle.lake_plain.specs.Plain.{tooLarge}
 use Rattle.lake_step_two.specs.steps.Stepped.{Once, plainOf}
 use Rattle.lake_step_two.specs.laws.Proper.{NoneEmpty}
 use Rattle.prepare.specs.declared.Counted.{Counted}

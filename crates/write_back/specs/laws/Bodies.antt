@@ -13,7 +13,7 @@ use Rattle.grammar.specs.Same.{sameSymbol, newIn}
 use Rattle.grammar.specs.Numbers.{isLake, leftSides, usesOf, onlyLakes, looseLakes, leavesOf}
 use Rattle.read_syntax.specs.Machine.{over}
 use Rattle.lake_step_one.specs.Proper.{Sound, SoundAll}
-use Rattle.lake_step_two.specs.Plain.{rulesBy}
+use Rattle.lake_plain.specs.Plain.{rulesBy}
 use Rattle.grammar_table.specs.laws.Rows.{All}
 use Rattle.write_rules.specs.laws.Trip.{FineExpr, FineRules}
 use Rattle.write_rules.specs.laws.Kept.{yield, yields}

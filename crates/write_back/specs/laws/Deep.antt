@@ -17,7 +17,7 @@ use Rattle.grammar.specs.Numbers.{Grammar, isLake, rightBy}
 use Rattle.base_words.specs.Set.{memberOf}
 use Rattle.lake_step_one.specs.Intermediate.{rightOr, intermediateBy, bodiesBy}
 use Rattle.lake_rules.specs.Analysis.{Analysis, bodyAlt}
-use Rattle.lake_step_two.specs.Plain.{nonterminalsIn, terminalsIn, alternatives, plainBy, plainFrom, rulesBy}
+use Rattle.lake_plain.specs.Plain.{nonterminalsIn, terminalsIn, alternatives, plainBy, plainFrom, rulesBy}
 use Rattle.grammar_table.specs.laws.Rows.{All}
 use Rattle.write_rules.specs.laws.Pairs.{Levels, conc, written}
 use Rattle.write_rules.specs.laws.Depth.{peak, deepC, deepS, deepP, deepF, deepQ, peak-c, shallow}

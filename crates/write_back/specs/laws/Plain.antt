@@ -24,7 +24,7 @@ use Rattle.lake_step_one.specs.Intermediate.{waterIn, intermediate}
 use Rattle.lake_rules.specs.Analysis.{analysis}
 use Rattle.grammar.specs.Numbers.{terminalIn}
 use Rattle.grammar_table.specs.laws.Parts.{total}
-use Rattle.lake_step_two.specs.Plain.{plainBodies, rulesBy, plainRules}
+use Rattle.lake_plain.specs.Plain.{plainBodies, rulesBy, plainRules}
 use Rattle.lake_step_two.specs.steps.Stepped.{plainOf}
 use Rattle.grammar_table.specs.laws.Rows.{All}
 use Rattle.read_grammar.specs.steps.Promises.{Sound}

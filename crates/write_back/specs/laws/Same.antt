@@ -20,7 +20,7 @@ use Rattle.lake_step_one.specs.Intermediate.{waterIn, intermediateBy, bodiesBy,
 use Rattle.lake_rules.specs.Analysis.{Analysis, analysis, bodyAlt}
 use Rattle.grammar.specs.Numbers.{terminalIn}
 use Rattle.lake_step_one.specs.Proper.{Sound as SoundExp, SoundAll}
-use Rattle.lake_step_two.specs.Plain.{alternatives, plainBy, plainFrom, plainBodies, rulesBy, plainRules}
+use Rattle.lake_plain.specs.Plain.{alternatives, plainBy, plainFrom, plainBodies, rulesBy, plainRules}
 use Rattle.lake_step_two.specs.steps.Stepped.{plainOf}
 use Rattle.grammar_table.specs.laws.Rows.{All}
 use Rattle.read_grammar.specs.steps.Promises.{Sound}

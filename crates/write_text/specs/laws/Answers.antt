@@ -16,7 +16,7 @@ use Rattle.grammar.specs.Numbers.{numbered}
 use Rattle.grammar_table.specs.Holds.{Holds}
 use Rattle.lake_rules.specs.Analysis.{analysis}
 use Rattle.lake_step_one.specs.steps.Made.{withBodies}
-use Rattle.lake_step_two.specs.Plain.{plainRules}
+use Rattle.lake_plain.specs.Plain.{plainRules}
 use Rattle.lake_step_two.specs.steps.Stepped.{plainOf}
 use Rattle.read_grammar.specs.steps.Promises.{Sound}
 use Rattle.write_rules.specs.Writing.{text}

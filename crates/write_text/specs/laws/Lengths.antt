@@ -24,7 +24,7 @@ use Rattle.lake_step_one.specs.Proper.{Sound as SoundExp, SoundAll}
 use Rattle.grammar_table.specs.laws.Parts.{total, present-some}
 use Rattle.lake_step_one.specs.steps.Made.{withBodies}
 use Rattle.lake_calls.specs.laws.Trees.{leaf-at}
-use Rattle.lake_step_two.specs.Plain.{rulesBy, plainRules}
+use Rattle.lake_plain.specs.Plain.{rulesBy, plainRules}
 use Rattle.lake_step_two.specs.steps.Stepped.{plainOf}
 use Rattle.read_grammar.specs.steps.Promises.{Sound}
 use Rattle.write_rules.specs.Writing.{text}

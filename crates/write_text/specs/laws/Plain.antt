@@ -22,7 +22,7 @@ use Rattle.lake_step_one.specs.Intermediate.{waterIn, bodiesBy, intermediate}
 use Rattle.grammar_table.specs.laws.Parts.{present-some}
 use Rattle.lake_step_one.specs.steps.Made.{withBodies}
 use Rattle.lake_step_one.specs.laws.Next.{bodies-long as middle-bodies}
-use Rattle.lake_step_two.specs.Plain.{plainBodies, rulesBy, plainRules}
+use Rattle.lake_plain.specs.Plain.{plainBodies, rulesBy, plainRules}
 use Rattle.lake_step_two.specs.steps.Stepped.{plainOf}
 use Rattle.lake_step_two.specs.laws.Bodies.{plain-long}
 use Rattle.lake_step_two.specs.laws.Once.{once-numbered}

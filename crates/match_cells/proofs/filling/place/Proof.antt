@@ -8,7 +8,7 @@ use native.Mathlib.Nat.{mul-le-mul}
 use lib.ListN.{length, getD, set}
 use Rattle.grammar_table.specs.Table.{wordsFrom}
 use Rattle.grammar_table.specs.Trees.{bodiesOf}
-use Rattle.lake_calls.specs.Calls.{holds}
+use Rattle.lake_plain.specs.Calls.{holds}
 use Rattle.match_cells.specs.Cells.{bodyTakes, rowOf}
 use Rattle.match_eval.specs.steps.Firsts.{byteAt, wordOf, presetOf}
 use Rattle.match_eval.specs.steps.Memory.{Knows}

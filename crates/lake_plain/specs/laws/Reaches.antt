@@ -19,9 +19,9 @@ use Rattle.base_words.specs.Set.{bit}
 use Rattle.base_words.specs.laws.Members.{bit-or, bit-lt, bit-pow-same, bit-pow-other}
 use Rattle.base_words.specs.laws.Order.{Sub, sub-or-r, bit-none}
 use Rattle.base_rounds.specs.Rounds.{iter}
-use Rattle.lake_calls.specs.Calls.{holds, allCalled, reach, loopFrom}
-use Rattle.lake_calls.specs.Loops.{LeadsTo, at-once, and-on}
-use Rattle.lake_calls.specs.laws.Ranks.{member, called-has, closed, reach-has, holds-up, falls}
+use Rattle.lake_plain.specs.Calls.{holds, allCalled, reach, loopFrom}
+use Rattle.lake_plain.specs.Loops.{LeadsTo, at-once, and-on}
+use Rattle.lake_plain.specs.laws.Ranks.{member, called-has, closed, reach-has, holds-up, falls}
 
 -- y calls x; calls are the first calls of each symbol, a word each
 abbrev pub Called : List ℕ → ℕ → ℕ → Type 0

@@ -20,7 +20,7 @@ use Rattle.base_words.specs.laws.Order.{Sub, ones-le, ones-mono, ones-strict, s
 use Rattle.base_rounds.specs.Rounds.{iter}
 use Rattle.base_rounds.specs.laws.Fix.{Lattice, iter-below, iter-good}
 use Rattle.base_rounds.specs.laws.Stable.{stable}
-use Rattle.lake_calls.specs.Calls.{holds, allCalled, reach, loopFrom}
+use Rattle.lake_plain.specs.Calls.{holds, allCalled, reach, loopFrom}
 
 sub-rfl : (x : ℕ) → Sub x x
 sub-rfl x k = le-refl (bit x k)

@@ -16,8 +16,8 @@ use Rattle.lake_step_one.specs.Intermediate.{waterIn, bodiesBy, intermediate}
 use Rattle.lake_rules.specs.Beginning.{markRound, marksOf, beginningsFrom, beginnings}
 use Rattle.lake_rules.specs.Flows.{overParts, given, leastBy}
 use Rattle.lake_rules.specs.Analysis.{analysed, analysis}
-use Rattle.lake_step_two.specs.Plain.{nonterminalsIn, terminalsIn, alternatives, plainFrom, plainBodies}
-use Rattle.lake_calls.specs.Calls.{firstCalls, callsOf, allCalled, reach, loopFrom, loop}
+use Rattle.lake_plain.specs.Plain.{nonterminalsIn, terminalsIn, alternatives, plainFrom, plainBodies}
+use Rattle.lake_plain.specs.Calls.{firstCalls, callsOf, allCalled, reach, loopFrom, loop}
 
 abbrev guarded : Grammar
 guarded =

@@ -19,10 +19,10 @@ use Rattle.base_words.specs.Set.{bit}
 use Rattle.base_words.specs.laws.Members.{bit-lt, bit-pow-same, bit-pow-other}
 use Rattle.base_words.specs.laws.Order.{sub-or-l, sub-or-r}
 use Rattle.lake_rules.specs.Beginning.{marked, marksOf}
-use Rattle.lake_calls.specs.Calls.{firstCalls, callsOf, holds, reach, loopFrom, loop}
-use Rattle.lake_calls.specs.Loops.{Calls, FirstCalls, LeadsTo, at-once, and-on, OnLoop, SmallestLoop}
-use Rattle.lake_calls.specs.laws.Ranks.{member}
-use Rattle.lake_calls.specs.laws.Reaches.{Called, either, none-in, reach-is, Found, found}
+use Rattle.lake_plain.specs.Calls.{firstCalls, callsOf, holds, reach, loopFrom, loop}
+use Rattle.lake_plain.specs.Loops.{Calls, FirstCalls, LeadsTo, at-once, and-on, OnLoop, SmallestLoop}
+use Rattle.lake_plain.specs.laws.Ranks.{member}
+use Rattle.lake_plain.specs.laws.Reaches.{Called, either, none-in, reach-is, Found, found}
 
 pub up-l : (u v x : ℕ) → holds u x ≡ true → holds (bitOr u v) x ≡ true
 up-l u v x h = let e : bit u x ≡ 1 = member u x h in eq-eqb (bit (bitOr u v) x) 1 (omega (arith, sub-or-l u v x, e, bit-lt (bitOr u v) x))

@@ -1,0 +1,4 @@
+pub mod Plain
+pub mod Calls
+pub mod Loops
+pub mod laws
