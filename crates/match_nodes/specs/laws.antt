@@ -1,8 +1,7 @@
 -- Laws of the definitions beside this file.
 pub mod Steps
 pub mod Walks
-pub mod Desks
-pub mod Learns
+pub mod Waits
 pub mod Forests
 pub mod Picks
 pub mod Ups

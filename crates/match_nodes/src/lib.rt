@@ -1,6 +1,4 @@
 // The node list of a match (01, Meaning of a match): a walk over the cells in two passes, down the expressions and up their parents.
-pub mod desk;
-
 ghost use Prim.Native.Nat.{ℕ, _+_, _*_, _/_, _≤_, _<_};
 ghost use mathlib.Core.Path.{_≡_};
 ghost use mathlib.Core.Bool.{true};
@@ -16,8 +14,10 @@ ghost use Rattle.match_eval.specs.steps.Memory.{Knows};
 ghost use Rattle.match_list.specs.Nodes.{listOf, listingOf, wordsOf, roomOf};
 ghost use Rattle.match_nodes.specs.steps.Passes.{out, note as noted, run, decode};
 ghost use Rattle.match_nodes.specs.steps.Tasks.{enter as entering, takes, after, listed, AllAble};
-ghost use Rattle.match_nodes.specs.steps.Desk.{Desk, Silent, going, waiting, tasksOf, climb};
-ghost use Rattle.match_nodes.specs.steps.Parts.{Made, Picked, Chosen};
+ghost use Rattle.match_desk.specs.steps.Desk.{Desk, Silent};
+ghost use Rattle.match_nodes.specs.steps.Waits.{going, waiting, tasksOf, climb};
+ghost use Rattle.match_desk.specs.steps.Parts.{Made};
+ghost use Rattle.match_nodes.specs.steps.Picks.{Picked, Chosen};
 ghost use Rattle.match_nodes.specs.steps.Turns.{Ready, said, Walkable, Walked, Risen, Left, State, Turned};
 
 // All: how many nodes. Deep, Full: the number of the first node that is too deep, that has no room.
@@ -45,14 +45,6 @@ const WALK: usize = 2;
 const ENTER: usize = 3;
 // No expression: where the start symbol is used.
 const NOWHERE: usize = 2047;
-
-// An expression's kind, its left word and its parts.
-struct Seen {
-    op: usize,
-    left: usize,
-    y: usize,
-    z: usize,
-}
 
 // How a pass stands then, at which expression (or before which symbol) and where in the text.
 struct Next {
@@ -92,24 +84,6 @@ struct Entry {
     at: usize,
 }
 
-fn look(t: &[u32], x: usize) -> Seen
-    requires { ⌜ (0 < x) × (x < 2048) ⌝ }
-    ensures { λ r. ⌜ Made (now (t .entry)) x (r .op) (r .left) (r .y) (r .z) ⌝ }
-{
-    let e = x - 1;
-    let op = grammar_table::records::op(t, e);
-    let left = grammar_table::records::left(t, e);
-    let right = grammar_table::records::right(t, e);
-    let y = grammar_table::part(left, e);
-    let z = grammar_table::part(right, e);
-    Seen {
-        op: op,
-        left: left,
-        y: y,
-        z: z,
-    }
-}
-
 // x where it matches at p, 4,096 where it fails.
 fn whole(t: &[u32], s: &[u8], cells: &[u32], mem: &[u32], n: usize, x: usize, p: usize) -> usize
     requires { ⌜ ((n ≤ 64) × (x < 2048) × (length (now s) ≤ 65535) × (p ≤ length (now s))) × Knows (now t) (now s) (now cells) n (now mem) 0 0 ⌝ }
@@ -143,7 +117,7 @@ fn pick(t: &[u32], s: &[u8], cells: &[u32], mem: &[u32], n: usize, x: usize, p: 
     if x == 0 {
         return whole(t, s, cells, mem, n, x, p);
     }
-    let g = look(t, x);
+    let g = match_desk::look(t, x);
     let op = g.op;
     if op != grammar_table::CHOICE {
         return whole(t, s, cells, mem, n, x, p);
@@ -158,7 +132,15 @@ fn pick(t: &[u32], s: &[u8], cells: &[u32], mem: &[u32], n: usize, x: usize, p: 
 }
 
 // Of a choice, one of whose parts matches.
-fn choose(t: &[u32], s: &[u8], cells: &[u32], mem: &[u32], n: usize, g: Seen, p: usize) -> usize
+fn choose(
+    t: &[u32],
+    s: &[u8],
+    cells: &[u32],
+    mem: &[u32],
+    n: usize,
+    g: match_desk::Seen,
+    p: usize,
+) -> usize
     requires { ⌜ ((n ≤ 64) × (g .y < 2048) × (g .z < 2048) × (length (now s) ≤ 65535) × (p ≤ length (now s)))
         × Knows (now t) (now s) (now cells) n (now mem) 0 0 ⌝ }
     ensures { λ r. ⌜ Chosen (now (t .entry)) (now (s .entry)) (now (cells .entry)) n (g .y) (g .z) p r ⌝ }
@@ -209,7 +191,7 @@ fn skip(t: &[u32], s: &[u8], cells: &[u32], mem: &[u32], n: usize, desk: &[u32],
     if x == 0 {
         return across(t, s, cells, mem, n, desk, st);
     }
-    let g = look(t, x);
+    let g = match_desk::look(t, x);
     let op = g.op;
     if grammar_table::AHEAD <= op {
         return Next {
@@ -236,7 +218,7 @@ fn walk(t: &[u32], s: &[u8], cells: &[u32], mem: &[u32], n: usize, desk: &[u32],
     if x == 0 {
         return skip(t, s, cells, mem, n, desk, st);
     }
-    let g = look(t, x);
+    let g = match_desk::look(t, x);
     let op = g.op;
     let left = g.left;
     let y = g.y;
@@ -335,7 +317,7 @@ fn rise(t: &[u32], s: &[u8], cells: &[u32], mem: &[u32], n: usize, desk: &[u32],
 {
     let x = st.x;
     let p = st.place;
-    let e = base_words::word(desk, desk::PARENTS_AT + x);
+    let e = base_words::word(desk, match_desk::PARENTS_AT + x);
     if e == 0 {
         return Next {
             kind: OVER,
@@ -343,7 +325,7 @@ fn rise(t: &[u32], s: &[u8], cells: &[u32], mem: &[u32], n: usize, desk: &[u32],
             place: p,
         };
     }
-    let g = look(t, e);
+    let g = match_desk::look(t, e);
     let op = g.op;
     let y = g.y;
     let z = g.z;
@@ -429,7 +411,7 @@ fn enter(
             at: v,
         };
     }
-    base_words::put(desk, desk::RETURNS_AT + d, e.x);
+    base_words::put(desk, match_desk::RETURNS_AT + d, e.x);
     Stand {
         mode: WALK,
         level: d + 1,
@@ -455,7 +437,7 @@ fn leave(desk: &[u32], st: Stand) -> Stand
         };
     }
     let e = d - 1;
-    let x = base_words::word(desk, desk::RETURNS_AT + e);
+    let x = base_words::word(desk, match_desk::RETURNS_AT + e);
     Stand {
         mode: DONE,
         level: e,
@@ -643,8 +625,8 @@ pub fn list(t: &[u32], s: &[u8], cells: &[u32], mem: &[u32], n: usize, nodes: &m
         ≡ wordsOf (roomOf (now (nodes .entry))) (now (nodes .entry)) (listOf (bodiesOf (now (t .entry))) (now (s .entry)) (now (cells .entry)))) ⌝ }
 {
     let room = nodes.len() / match_list::NODE_WORDS;
-    let mut desk: [u32; desk::WORDS] = [0; desk::WORDS];
-    desk::learn_all(t, &mut desk);
+    let mut desk: [u32; match_desk::WORDS] = [0; match_desk::WORDS];
+    match_desk::learn_all(t, &mut desk);
     let look_only = Setting {
         n: n,
         room: room,

@@ -12,7 +12,7 @@ use Rattle.match_nodes.proofs.pick.Reads as pick
 use Rattle.match_nodes.proofs.pick.Kinds as pick-kinds
 use Rattle.match_nodes.proofs.+pick.Lts-pick as pick-lts
 use Rattle.match_nodes.proofs.barred.Reads as barred-reads
-use Rattle.match_nodes.proofs.look.Reads as look-reads
+use Rattle.match_desk.proofs.look.Reads as look-reads
 use Rattle.match_nodes.proofs.whole.Reads as whole-reads
 use Rattle.match_nodes.proofs.+pick.{statement}
 use Rattle.match_nodes.proofs.+pick.Tie.{close}

@@ -7,14 +7,14 @@ use Rattle.grammar_table.specs.Trees.{bodiesOf}
 use Rattle.match_list.specs.Nodes.{listOf, roomOf}
 use Rattle.match_nodes.specs.steps.Passes.{out, run}
 use Rattle.match_nodes.specs.laws.Passes.{pass-refused, pass-written}
-use Rattle.match_nodes.specs.laws.Learns.{desk-empty}
+use Rattle.match_desk.specs.laws.Learns.{desk-empty}
 use borrow.Author.Needs.{needs}
 use Rattle.match_nodes.proofs.list.Statement.{statement}
 use Rattle.match_nodes.proofs.list.Tie as tie
 use Rattle.match_nodes.proofs.list.Reads as reads
 use Rattle.match_nodes.proofs.list.Lts as lts
 use Rattle.match_nodes.proofs.answer.Reads as answer-reads
-use Rattle.match_nodes.proofs.desk.learn_all.Reads as learn-all-reads
+use Rattle.match_desk.proofs.learn_all.Reads as learn-all-reads
 use Rattle.match_nodes.proofs.pass.Reads as pass-reads
 
 small : (c : tie.Start) → length (c .args .nodes .now) / 4 < 4611686018427387904

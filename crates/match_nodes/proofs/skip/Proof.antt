@@ -5,7 +5,7 @@ use Rattle.match_nodes.proofs.skip.Tie as tie
 use Rattle.match_nodes.proofs.skip.Reads as reads
 use Rattle.match_nodes.proofs.skip.Lts as lts
 use Rattle.match_nodes.proofs.across.Reads as across-reads
-use Rattle.match_nodes.proofs.look.Reads as look-reads
+use Rattle.match_desk.proofs.look.Reads as look-reads
 
 across-requires : tie.Need-across-requires
 across-requires c κs = c .before .before .before .before .before .before .pre

@@ -1,6 +1,6 @@
 use native.Mathlib.Omega.{arith}
 use mathlib.Core.Path.{sym, _∙_}
-use Rattle.match_nodes.specs.laws.Learns.{silent-any, silent-other}
+use Rattle.match_desk.specs.laws.Learns.{silent-any, silent-other}
 use Rattle.match_nodes.specs.laws.Ups.{walk-symbol, walk-seq, walk-choice, walk-skip, walk-take, walk-ends, walk-more, walk-plus}
 use Rattle.match_eval.specs.laws.Memory.{knows-from}
 use borrow.Author.Needs.{needs}
@@ -11,7 +11,7 @@ use Rattle.match_nodes.proofs.walk.Lts as lts
 use Rattle.base_words.proofs.word.Reads as word-reads
 use Rattle.match_eval.proofs.round.Reads as round-reads
 use Rattle.match_nodes.proofs.choose.Reads as choose-reads
-use Rattle.match_nodes.proofs.look.Reads as look-reads
+use Rattle.match_desk.proofs.look.Reads as look-reads
 use Rattle.match_nodes.proofs.skip.Reads as skip-reads
 
 word-requires : tie.Need-word-requires

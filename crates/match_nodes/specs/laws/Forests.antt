@@ -21,7 +21,7 @@ use Rattle.grammar_table.specs.laws.Parts.{parts-long, size-pos, total, Seg, se
 use Rattle.grammar_table.specs.laws.Trees.{below-in}
 use Rattle.lake_step_one.specs.laws.Held.{rights-long, expressions-are}
 use Rattle.lake_calls.specs.laws.Rights.{root-at}
-use Rattle.match_nodes.specs.steps.Desk.{kindOf, leftPart, rightPart, Parted, Forest}
+use Rattle.match_desk.specs.steps.Desk.{kindOf, leftPart, rightPart, Parted, Forest}
 
 -- ── the parent of number i: 1 + its number, top for the root of the tree. The tree's numbers begin at o ──
 unfoldable parentIn : ℕ → Exp ℕ → ℕ → ℕ → ℕ

@@ -18,8 +18,9 @@ use Rattle.match_eval.specs.laws.EvalSteps.{seq-left, seq-right, seq-both, plus
 use Rattle.match_list.specs.laws.NodeSteps.{seq-both as list-both, opt-none as list-none, opt-some as list-some, rep-ends as list-ends}
 use Rattle.grammar_table.specs.Trees.{treeOf}
 use Rattle.match_nodes.specs.steps.Tasks.{Task, walk, again, enter, under, walked, takes, nodes, after, rank, cost, costOf, Step}
-use Rattle.match_nodes.specs.steps.Desk.{Silent}
-use Rattle.match_nodes.specs.steps.Parts.{shape, Made, Chosen}
+use Rattle.match_desk.specs.steps.Desk.{Silent}
+use Rattle.match_desk.specs.steps.Parts.{shape, Made}
+use Rattle.match_nodes.specs.steps.Picks.{Chosen}
 use Rattle.match_list.specs.laws.Rounds.{rounds-step, nodes-step}
 use Rattle.match_nodes.specs.laws.Steps.{cost-one, cost-less, cost-two, cost-rounds, cost-again, step-none, step-one, step-two, step-then}
 

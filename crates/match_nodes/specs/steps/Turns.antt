@@ -11,7 +11,8 @@ use Rattle.grammar_table.specs.Trees.{bodiesOf}
 use Rattle.match_nodes.specs.declared.Listed.{Listed}
 use Rattle.match_nodes.specs.declared.Listed.the-variants.{All, Deep, Full}
 use Rattle.match_nodes.specs.steps.Tasks.{Task, walk, enter, takes, listed, AllAble, toDo, Step, Moves}
-use Rattle.match_nodes.specs.steps.Desk.{Forest, Desk, returnOf, going, tasksOf, climb}
+use Rattle.match_desk.specs.steps.Desk.{Forest, Desk, returnOf}
+use Rattle.match_nodes.specs.steps.Waits.{going, tasksOf, climb}
 
 -- a table with n symbols and at most 1,024 expressions, among them each symbol's body, none of which is a part twice; a text; and cells in which every
 -- symbol's cell is its meaning

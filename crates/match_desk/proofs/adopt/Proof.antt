@@ -2,12 +2,12 @@ use Prim.Native.Nat.{ℕ, _+_}
 use mathlib.Core.List.{List}
 use lib.ListN.{set}
 use mathlib.Core.Path.{sym, ap, subst, _∙_}
-use Rattle.match_nodes.specs.steps.Desk.{parentsAt}
+use Rattle.match_desk.specs.steps.Desk.{parentsAt}
 use borrow.Author.Needs.{needs}
-use Rattle.match_nodes.proofs.desk.adopt.Statement.{statement}
-use Rattle.match_nodes.proofs.desk.adopt.Tie as tie
-use Rattle.match_nodes.proofs.desk.adopt.Reads as reads
-use Rattle.match_nodes.proofs.desk.adopt.Lts as lts
+use Rattle.match_desk.proofs.adopt.Statement.{statement}
+use Rattle.match_desk.proofs.adopt.Tie as tie
+use Rattle.match_desk.proofs.adopt.Reads as reads
+use Rattle.match_desk.proofs.adopt.Lts as lts
 use Rattle.base_words.proofs.put.Reads as put-reads
 use Rattle.base_words.proofs.word.Reads as word-reads
 

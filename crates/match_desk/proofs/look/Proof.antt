@@ -1,10 +1,10 @@
 use native.Mathlib.Omega.{arith}
-use Rattle.match_nodes.specs.laws.Picks.{made-of}
+use Rattle.match_desk.specs.laws.Parts.{made-of}
 use borrow.Author.Needs.{needs}
-use Rattle.match_nodes.proofs.look.Statement.{statement}
-use Rattle.match_nodes.proofs.look.Tie as tie
-use Rattle.match_nodes.proofs.look.Reads as reads
-use Rattle.match_nodes.proofs.look.Lts as lts
+use Rattle.match_desk.proofs.look.Statement.{statement}
+use Rattle.match_desk.proofs.look.Tie as tie
+use Rattle.match_desk.proofs.look.Reads as reads
+use Rattle.match_desk.proofs.look.Lts as lts
 use Rattle.grammar_table.proofs.part.Reads as part-reads
 use Rattle.grammar_table.proofs.records.left.Reads as left-reads
 use Rattle.grammar_table.proofs.records.op.Reads as op-reads

@@ -2,15 +2,15 @@ use Prim.Native.Nat.{ℕ, _+_}
 use mathlib.Core.List.{List}
 use lib.ListN.{set}
 use mathlib.Core.Path.{sym, ap, subst, _∙_}
-use Rattle.match_nodes.specs.steps.Desk.{parentsAt}
+use Rattle.match_desk.specs.steps.Desk.{parentsAt}
 use borrow.Author.Needs.{needs}
-use Rattle.match_nodes.proofs.desk.adopt_both.Statement.{statement}
-use Rattle.match_nodes.proofs.desk.adopt_both.Tie as tie
-use Rattle.match_nodes.proofs.desk.adopt_both.Reads as reads
-use Rattle.match_nodes.proofs.desk.adopt_both.Lts as lts
+use Rattle.match_desk.proofs.adopt_both.Statement.{statement}
+use Rattle.match_desk.proofs.adopt_both.Tie as tie
+use Rattle.match_desk.proofs.adopt_both.Reads as reads
+use Rattle.match_desk.proofs.adopt_both.Lts as lts
 use Rattle.base_words.proofs.put.Reads as put-reads
 use Rattle.base_words.proofs.word.Reads as word-reads
-use Rattle.match_nodes.proofs.desk.either.Reads as either-reads
+use Rattle.match_desk.proofs.either.Reads as either-reads
 
 word-requires : tie.Need-word-requires
 word-requires c κs = search needs

@@ -1,19 +1,19 @@
 -- The tasks that wait behind an expression, by its parents. Assumes nothing.
-use Prim.Native.Nat.{ℕ, zero, suc, _+_, _-_, _*_, _≤_, _<_}
+use Prim.Native.Nat.{ℕ, zero, suc, _+_, _≤_, _<_}
 use mathlib.Core.Path.{_≡_, refl, ap, _∙_, subst}
 use mathlib.Core.Path.{sym as flip}
-use mathlib.Core.Logic.{_⊎_, inl, inr}
 use mathlib.Core.Bool.{Bool, cond}
 use mathlib.Core.List.{List, [], _∷_, _++_}
 use native.Mathlib.Omega.{arith}
 use native.Mathlib.Numerals.{add-one}
-use lib.Dec.{eqb}
-use lib.ListN.{length, getD, set, length-set}
+use lib.ListN.{set}
 use lib.Seq.{getD-set-same, getD-set-other}
 use borrow.Author.Tests.{eq-eqb, ne-eqb}
+use Rattle.match_desk.specs.steps.Desk.{returnsAt, returnOf, parentOf, kindOf, leftPart, rightPart, Parted, Desk}
+use Rattle.match_desk.specs.steps.Parts.{Made}
+use Rattle.match_desk.specs.laws.Desks.{parent-above, no-parent, parents-stay}
 use Rattle.match_nodes.specs.steps.Tasks.{Task, walk, again}
-use Rattle.match_nodes.specs.steps.Desk.{returnsAt, parentsAt, markOf, returnOf, parentOf, kindOf, leftPart, rightPart, Parted, Desk, restBy, rest, ifSome, goingIn, going, waiting, tasksOf}
-use Rattle.match_nodes.specs.steps.Parts.{Made}
+use Rattle.match_nodes.specs.steps.Waits.{restBy, rest, ifSome, goingIn, going, waiting}
 
 by-some : (a : ℕ) (u v : ℕ → List Task) → ((e : ℕ) → a ≡ e → 0 < e → u e ≡ v e) → ifSome a u ≡ ifSome a v
 by-some zero u v h = refl
@@ -22,17 +22,6 @@ by-some (suc a) u v h = h (suc a) refl (omega arith)
 some-at : (a e : ℕ) (u : ℕ → List Task) → a ≡ e → 0 < e → ifSome a u ≡ u e
 some-at zero e u q l = absurd (omega (arith, q, l))
 some-at (suc a) e u q l = ap u q
-
--- ── parents that stay ──
-pub keep : (op x y z : ℕ) (p k k′ : ℕ → ℕ) → Parted op p x y z → Parted op k x y z → ((i : ℕ) → p i ≡ x → k′ i ≡ k i) → Parted op k′ x y z
-keep zero x y z p k k′ a b h = tt
-keep (suc zero) x y z p k k′ a b h = tt
-keep (suc (suc zero)) x y z p k k′ a b h = (h y (a .0) ∙ b .0, h z (a .1) ∙ b .1, b .2)
-keep (suc (suc (suc zero))) x y z p k k′ a b h = (h y (a .0) ∙ b .0, h z (a .1) ∙ b .1, b .2)
-keep (suc (suc (suc (suc zero)))) x y z p k k′ a b h = h y a ∙ b
-keep (suc (suc (suc (suc (suc zero))))) x y z p k k′ a b h = h y a ∙ b
-keep (suc (suc (suc (suc (suc (suc zero)))))) x y z p k k′ a b h = h y a ∙ b
-keep (suc (suc (suc (suc (suc (suc (suc op))))))) x y z p k k′ a b h = tt
 
 module _ (t k k′ : List ℕ) (same : (i : ℕ) → parentOf k′ i ≡ parentOf k i) where
   in-kept : (f d x : ℕ) → goingIn f t k′ d x ≡ goingIn f t k d x
@@ -50,31 +39,15 @@ module _ (t k k′ : List ℕ) (same : (i : ℕ) → parentOf k′ i ≡ parentO
       ∙ ap (λ (zs : List Task). going t k d (returnOf k d) ++ zs) (waiting-kept d (λ j l. h j (omega arith)))
 
 module _ (t k : List ℕ) (m : ℕ) (desk : Desk t k m) (few : m ≤ 1024) where
-  -- a parent comes behind its parts
-  by-range : (x e : ℕ) → (parentOf k x ≡ 0) ⊎ ((x < parentOf k x) × (parentOf k x ≤ m)) → parentOf k x ≡ e → 0 < e → (x < e) × (e ≤ m)
-  by-range x e (inl z) q l = absurd (omega (arith, z, q, l))
-  by-range x e (inr h) q l = (omega (arith, h .0, q), omega (arith, h .1, q))
-
-  pub parent-above : (x e : ℕ) → parentOf k x ≡ e → 0 < e → (x < e) × (e ≤ m)
-  parent-above x e q l = by-range x e (desk .range x) q l
-
-  by-past : (x : ℕ) → (parentOf k x ≡ 0) ⊎ ((x < parentOf k x) × (parentOf k x ≤ m)) → 1025 ≤ x → parentOf k x ≡ 0
-  by-past x (inl z) l = z
-  by-past x (inr h) l = absurd (omega (arith, h .0, h .1, few, l))
-
-  -- what is no expression has none
-  pub no-parent : (x : ℕ) → 1025 ≤ x → parentOf k x ≡ 0
-  no-parent x l = by-past x (desk .range x) l
-
   -- how many steps are looked at does not matter once they are enough
   in-same : (f g d x : ℕ) → 1025 ≤ f + x → 1025 ≤ g + x → goingIn f t k d x ≡ goingIn g t k d x
   unfolding goingIn
   in-same zero zero d x h i = refl
-  in-same zero (suc g) d x h i = flip (ap (λ (a : ℕ). ifSome a (λ e. rest t d x e ++ goingIn g t k d e)) (no-parent x (omega (arith, h))))
-  in-same (suc f) zero d x h i = ap (λ (a : ℕ). ifSome a (λ e. rest t d x e ++ goingIn f t k d e)) (no-parent x (omega (arith, i)))
+  in-same zero (suc g) d x h i = flip (ap (λ (a : ℕ). ifSome a (λ e. rest t d x e ++ goingIn g t k d e)) (no-parent t k m desk few x (omega (arith, h))))
+  in-same (suc f) zero d x h i = ap (λ (a : ℕ). ifSome a (λ e. rest t d x e ++ goingIn f t k d e)) (no-parent t k m desk few x (omega (arith, i)))
   in-same (suc f) (suc g) d x h i =
       by-some (parentOf k x) (λ e. rest t d x e ++ goingIn f t k d e) (λ e. rest t d x e ++ goingIn g t k d e)
-      (λ e q l. ap (λ (zs : List Task). rest t d x e ++ zs) (in-same f g d e (omega (arith, h, parent-above x e q l .0)) (omega (arith, i, parent-above x e q l .0))))
+      (λ e q l. ap (λ (zs : List Task). rest t d x e ++ zs) (in-same f g d e (omega (arith, h, parent-above t k m desk few x e q l .0)) (omega (arith, i, parent-above t k m desk few x e q l .0))))
 
   in-up : (f d x e : ℕ) → 1025 ≤ f + x → parentOf k x ≡ e → 0 < e → goingIn (suc f) t k d x ≡ rest t d x e ++ goingIn f t k d e
   unfolding goingIn
@@ -181,25 +154,15 @@ module _ (t k : List ℕ) (m : ℕ) (desk : Desk t k m) (few : m ≤ 1024) where
     abbrev desk′ : List ℕ
     desk′ = set k (returnsAt + d) x
 
-    parents-stay : (i : ℕ) → parentOf desk′ i ≡ parentOf k i
-    parents-stay i = getD-set-other k (returnsAt + d) (parentsAt + i) x 0 (λ e. omega (arith, e, level))
-
-    pub desk-stays : Desk t (set k (returnsAt + d) x) m
-    desk-stays =
-        record {
-          size = length-set k (returnsAt + d) x ∙ desk .size;
-          parts = λ e l h. keep (kindOf t e) e (leftPart t e) (rightPart t e) (λ i. parentOf k i) (λ i. parentOf k i) (λ i. parentOf desk′ i) (desk .parts e l h) (desk .parts e l h) (λ i q. parents-stay i);
-          roots = λ r l. parents-stay _ ∙ desk .roots r l;
-          range = λ i. subst (λ (a : ℕ). (a ≡ 0) ⊎ ((i < a) × (a ≤ m))) (flip (parents-stay i)) (desk .range i);
-          silent = λ e l h. desk .silent e l (flip (getD-set-other k (returnsAt + d) e x 0 (λ q. omega (arith, q, l, few))) ∙ h);
-        }
+    stays : (i : ℕ) → parentOf desk′ i ≡ parentOf k i
+    stays i = parents-stay t k m desk few d x level i
 
     pub waiting-entered : waiting t (set k (returnsAt + d) x) (d + 1) ≡ going t k d x ++ waiting t k d
     unfolding waiting
     waiting-entered =
         ap (waiting t desk′) (add-one d)
-        ∙ ap (λ (zs : List Task). zs ++ waiting t desk′ d) (in-kept t k desk′ parents-stay 1025 d (returnOf desk′ d) ∙ ap (λ (i : ℕ). going t k d i) (getD-set-same k (returnsAt + d) x 0 (omega (arith, desk .size, level))))
-        ∙ ap (λ (zs : List Task). going t k d x ++ zs) (waiting-kept t k desk′ parents-stay d (λ j l. getD-set-other k (returnsAt + d) (returnsAt + j) x 0 (λ e. omega (arith, e, l))))
+        ∙ ap (λ (zs : List Task). zs ++ waiting t desk′ d) (in-kept t k desk′ stays 1025 d (returnOf desk′ d) ∙ ap (λ (i : ℕ). going t k d i) (getD-set-same k (returnsAt + d) x 0 (omega (arith, desk .size, level))))
+        ∙ ap (λ (zs : List Task). going t k d x ++ zs) (waiting-kept t k desk′ stays d (λ j l. getD-set-other k (returnsAt + d) (returnsAt + j) x 0 (λ e. omega (arith, e, l))))
 
     pub going-entered : (j b : ℕ) → parentOf k b ≡ 0 → going t (set k (returnsAt + d) x) j b ≡ []
-    going-entered j b h = in-kept t k desk′ parents-stay 1025 j b ∙ going-top j b h
+    going-entered j b h = in-kept t k desk′ stays 1025 j b ∙ going-top j b h

@@ -3,14 +3,14 @@ use Prim.Native.Nat.{ℕ, _+_, _-_, _≤_}
 use mathlib.Core.Path.{_≡_, refl, subst, _∙_}
 use lib.ListN.{length}
 use Rattle.grammar_table.specs.Table.{expressionCount}
-use Rattle.match_nodes.specs.steps.Desk.{Desk}
+use Rattle.match_desk.specs.steps.Desk.{Desk}
 use borrow.Author.Needs.{needs}
-use Rattle.match_nodes.proofs.desk.learn_all.Statement.{statement}
-use Rattle.match_nodes.proofs.desk.learn_all.Tie as tie
-use Rattle.match_nodes.proofs.desk.learn_all.Reads as reads
-use Rattle.match_nodes.proofs.desk.learn_all.Lts as lts
+use Rattle.match_desk.proofs.learn_all.Statement.{statement}
+use Rattle.match_desk.proofs.learn_all.Tie as tie
+use Rattle.match_desk.proofs.learn_all.Reads as reads
+use Rattle.match_desk.proofs.learn_all.Lts as lts
 use Rattle.grammar_table.proofs.records.expressions.Reads as expressions-reads
-use Rattle.match_nodes.proofs.desk.learn.Reads as learn-reads
+use Rattle.match_desk.proofs.learn.Reads as learn-reads
 
 abbrev Inv-loop : tie.InvT-loop
 Inv-loop t desk₀ m e₀ desk e = (e ≤ m) × (length desk ≡ length desk₀) × Desk t desk e

@@ -16,9 +16,9 @@ use Rattle.grammar_table.specs.Table.{leafIn, symbolWord, expressionCount}
 use Rattle.grammar_table.specs.Trees.{treeOf}
 use Rattle.match_meaning.specs.Meaning.{Node}
 use Rattle.match_list.specs.Nodes.{seqN, altN, optN, stepN, repN, walkOf}
-use Rattle.match_nodes.specs.steps.Desk.{parentsAt, deskWords, markOf, parentOf, kindOf, leftPart, rightPart, Parted, Forest, Silent, Desk}
-use Rattle.match_nodes.specs.steps.Parts.{shape, Made}
-use Rattle.match_nodes.specs.laws.Desks.{keep}
+use Rattle.match_desk.specs.steps.Desk.{parentsAt, deskWords, markOf, parentOf, kindOf, leftPart, rightPart, Parted, Forest, Silent, Desk}
+use Rattle.match_desk.specs.steps.Parts.{shape, Made}
+use Rattle.match_desk.specs.laws.Desks.{keep}
 
 -- ── an expression that holds no symbol, but under `&` and `!`, lists no node ──
 none-both : (x : ℕ) (a : List Node) (k : ℕ → List Node) → a ≡ [] → ((m : ℕ) → k m ≡ []) → seqN x a k ≡ []

@@ -1,17 +1,17 @@
 use Prim.Native.Nat.{ℕ, _+_}
 use mathlib.Core.List.{List}
 use mathlib.Core.Path.{refl, sym, subst}
-use Rattle.match_nodes.specs.steps.Desk.{markOf, Desk}
-use Rattle.match_nodes.specs.laws.Learns.{learn-other, learn-symbol, learn-option, learn-star, learn-plus, learn-seq, learn-choice}
+use Rattle.match_desk.specs.steps.Desk.{markOf, Desk}
+use Rattle.match_desk.specs.laws.Learns.{learn-other, learn-symbol, learn-option, learn-star, learn-plus, learn-seq, learn-choice}
 use borrow.Author.Needs.{needs}
-use Rattle.match_nodes.proofs.desk.learn.Statement.{statement}
-use Rattle.match_nodes.proofs.desk.learn.Tie as tie
-use Rattle.match_nodes.proofs.desk.learn.Reads as reads
-use Rattle.match_nodes.proofs.desk.learn.Lts as lts
+use Rattle.match_desk.proofs.learn.Statement.{statement}
+use Rattle.match_desk.proofs.learn.Tie as tie
+use Rattle.match_desk.proofs.learn.Reads as reads
+use Rattle.match_desk.proofs.learn.Lts as lts
 use Rattle.base_words.proofs.put.Reads as put-reads
-use Rattle.match_nodes.proofs.desk.adopt.Reads as adopt-reads
-use Rattle.match_nodes.proofs.desk.adopt_both.Reads as adopt-both-reads
-use Rattle.match_nodes.proofs.look.Reads as look-reads
+use Rattle.match_desk.proofs.adopt.Reads as adopt-reads
+use Rattle.match_desk.proofs.adopt_both.Reads as adopt-both-reads
+use Rattle.match_desk.proofs.look.Reads as look-reads
 
 look-requires : tie.Need-look-requires
 look-requires c κs = search needs

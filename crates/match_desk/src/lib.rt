@@ -4,8 +4,8 @@ ghost use Prim.Native.Nat.{_+_, _-_, _≤_, _<_};
 ghost use mathlib.Core.Path.{_≡_};
 ghost use lib.ListN.{set};
 ghost use Rattle.grammar_table.specs.Table.{expressionCount};
-ghost use Rattle.match_nodes.specs.steps.Desk.{Forest, Desk, markOf, parentsAt};
-use crate::look;
+ghost use Rattle.match_desk.specs.steps.Desk.{Forest, Desk, markOf, parentsAt};
+ghost use Rattle.match_desk.specs.steps.Parts.{Made};
 use base_words::put;
 use base_words::word;
 
@@ -18,6 +18,33 @@ pub const WORDS: usize = 2307;
 
 // The mark of an expression that holds a symbol outside guards. 0: it lists no node.
 const HOLDS: usize = 1;
+
+// An expression's kind, its left word and its parts.
+pub struct Seen {
+    pub op: usize,
+    pub left: usize,
+    pub y: usize,
+    pub z: usize,
+}
+
+// Expression x - 1 of a table: its kind and its parts, as evaluation goes to them.
+pub fn look(t: &[u32], x: usize) -> Seen
+    requires { ⌜ (0 < x) × (x < 2048) ⌝ }
+    ensures { λ r. ⌜ Made (now (t .entry)) x (r .op) (r .left) (r .y) (r .z) ⌝ }
+{
+    let e = x - 1;
+    let op = grammar_table::records::op(t, e);
+    let left = grammar_table::records::left(t, e);
+    let right = grammar_table::records::right(t, e);
+    let y = grammar_table::part(left, e);
+    let z = grammar_table::part(right, e);
+    Seen {
+        op: op,
+        left: left,
+        y: y,
+        z: z,
+    }
+}
 
 // 0 where both are.
 fn either(a: usize, b: usize) -> usize

@@ -1,0 +1,4 @@
+-- Laws of the definitions beside this file.
+pub mod Parts
+pub mod Desks
+pub mod Learns
