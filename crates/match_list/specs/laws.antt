@@ -2,8 +2,5 @@
 pub mod NodeSteps
 pub mod Rounds
 pub mod Cut
-pub mod Lists
 pub mod Words
 pub mod Reading
-pub mod Met
-pub mod Whole

@@ -21,7 +21,7 @@ use Rattle.match_meaning.specs.Meaning.{lake, Meant, Node, own, wet, some-of, T
 use Rattle.match_meaning.specs.laws.One.{one}
 use Rattle.match_eval.specs.Eval.{leafAt, neverOf, ev}
 use Rattle.match_cells.specs.laws.Agrees.{Right}
-use Rattle.match_list.specs.laws.Whole.{Holds, evaluated}
+use Rattle.match_derived.specs.laws.Whole.{Holds, evaluated}
 use Rattle.match_lake.specs.Asking.{noneMatches, ownTakes, wayNumber, wayIn}
 use Rattle.prepare.specs.Prepare.{prepared, refuses}
 use Rattle.gurkenmond.specs.Calls.{LakeAnswer, cellsNeeded, refusesInput, filled, isLakeAt, lakeAfter, lakeOf, matchOf}

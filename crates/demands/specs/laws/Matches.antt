@@ -22,7 +22,7 @@ use Rattle.match_meaning.specs.laws.One.{one}
 use Rattle.match_list.specs.Nodes.{Listing, deep, full, listingOf, wordsOf, roomOf, nodesAt, soundAt, nodeText, partOf}
 use Rattle.match_list.specs.laws.Cut.{IsAll}
 use Rattle.match_list.specs.laws.Words.{words-length, words-behind, words-refused, words-back, match-sound, match-text}
-use Rattle.match_list.specs.laws.Whole.{listed}
+use Rattle.match_derived.specs.laws.Whole.{listed}
 use Rattle.prepare.specs.Prepare.{prepared, preparedBy, refuses}
 use Rattle.prepare.specs.laws.Reads.{grammar-read, clear-text}
 use Rattle.gurkenmond.specs.Answers.{Says as Outcome, value as Matched, nomatch as NoMatch, refused as OutcomeRefused}

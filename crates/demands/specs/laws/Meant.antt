@@ -26,7 +26,7 @@ use Rattle.match_meaning.specs.Meaning.{Body, rule, Meant, Node, Derives, plain
 use Rattle.match_meaning.specs.laws.LakesPlain.{lakes-are-plain}
 use Rattle.match_eval.specs.Eval.{nowhere, bodyOf}
 use Rattle.match_cells.specs.laws.Sound.{plainly}
-use Rattle.match_list.specs.laws.Whole.{Holds}
+use Rattle.match_derived.specs.laws.Whole.{Holds}
 use Rattle.prepare.specs.Prepare.{prepared, preparedBy}
 use Rattle.demands.specs.Meant.{standsFor, standsIn, meantOf, meant}
 

@@ -8,7 +8,7 @@ use native.Mathlib.Omega.{arith}
 use native.Mathlib.Numerals.{add-one}
 use lib.ListN.{length, set}
 use Rattle.read_tokens.specs.Bounds.{nodeWords}
-use Rattle.grammar.specs.Exp.{Exp}
+use Rattle.grammar.specs.Exp.{Exp, ahead, never}
 use Rattle.match_meaning.specs.Meaning.{Node, nd}
 use Rattle.match_eval.specs.Eval.{bodyOf, cellAt, ev}
 use Rattle.match_list.specs.Nodes.{seqN, altN, optN, stepN, repN, walkOf, nodeIf, nodesOf, inWords, putNode}
@@ -43,6 +43,16 @@ pub opt-some : (x : ℕ) (l : List Node) (a : ℕ) → a ≡ x → (a ≡ 0 → 
 unfolding optN
 opt-some x l zero h f = absurd (f refl)
 opt-some x l (suc a) h f = rw (← h)
+
+-- guards
+module _ (s : List ℕ) (f : Exp ℕ → ℕ → ℕ) (w : ℕ → ℕ → List Node) (a : Exp ℕ) (p : ℕ) where
+  pub ahead-none : [] ≡ walkOf s f w (ahead a) p
+  unfolding walkOf
+  ahead-none = refl
+
+  pub never-none : [] ≡ walkOf s f w (never a) p
+  unfolding walkOf
+  never-none = refl
 
 -- rounds: j of them are left at q
 pub rep-ends : (f : ℕ → ℕ) (w : ℕ → List Node) (j q a : ℕ) → a ≡ f q → a ≤ 1 → [] ≡ repN j f w q

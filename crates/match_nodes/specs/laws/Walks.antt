@@ -15,7 +15,7 @@ use Rattle.match_eval.specs.Eval.{leafAt, cellAt, seqOf, rep, plusOf, aheadOf, 
 use Rattle.match_list.specs.Nodes.{repN, walkOf}
 use Rattle.match_eval.specs.laws.Within.{ev-within}
 use Rattle.match_eval.specs.laws.EvalSteps.{seq-left, seq-right, seq-both, plus-fails, plus-takes, opt-fails, opt-takes, rep-ends, cell-past}
-use Rattle.match_list.specs.laws.NodeSteps.{seq-both as list-both, opt-none as list-none, opt-some as list-some, rep-ends as list-ends}
+use Rattle.match_list.specs.laws.NodeSteps.{seq-both as list-both, opt-none as list-none, opt-some as list-some, ahead-none, never-none, rep-ends as list-ends}
 use Rattle.grammar_table.specs.Trees.{treeOf}
 use Rattle.match_nodes.specs.steps.Tasks.{Task, walk, again, enter, under, walked, takes, nodes, after, rank, cost, costOf, Step}
 use Rattle.match_desk.specs.steps.Desk.{Silent}
@@ -186,13 +186,13 @@ module _ (t s cs : List ℕ) (n d p : ℕ) (inside : p ≤ length s) where
 
     pub step-ahead : k ≡ 7 → Step t s cs n (walk x d) p [] p
     unfolding ev walkOf shape
-    step-ahead e = stays (ahead (treeOf t y)) (tree-is 7 e) (one-ahead (takes t s cs n y p) (able-is (ahead (treeOf t y)) (tree-is 7 e))) refl
+    step-ahead e = stays (ahead (treeOf t y)) (tree-is 7 e) (one-ahead (takes t s cs n y p) (able-is (ahead (treeOf t y)) (tree-is 7 e))) (ahead-none s (λ e i. ev s cs n e i) (λ r i. under t s cs n d r i) (treeOf t y) p)
 
     pub step-never : (k ≡ 0 → ⊥) → (k ≡ 1 → ⊥) → (k ≡ 2 → ⊥) → (k ≡ 3 → ⊥) → (k ≡ 4 → ⊥) → (k ≡ 5 → ⊥) → (k ≡ 6 → ⊥) → (k ≡ 7 → ⊥) → Step t s cs n (walk x d) p [] p
     unfolding ev walkOf shape
     step-never a b c f g h i j =
         let e : never (treeOf t y) ≡ treeOf t x = is-never k a b c f g h i j ∙ made .tree in
-        stays (never (treeOf t y)) e (one-never (takes t s cs n y p) (able-is (never (treeOf t y)) e)) refl
+        stays (never (treeOf t y)) e (one-never (takes t s cs n y p) (able-is (never (treeOf t y)) e)) (never-none s (λ e i. ev s cs n e i) (λ r i. under t s cs n d r i) (treeOf t y) p)
       where
         is-never : (q : ℕ) → (q ≡ 0 → ⊥) → (q ≡ 1 → ⊥) → (q ≡ 2 → ⊥) → (q ≡ 3 → ⊥) → (q ≡ 4 → ⊥) → (q ≡ 5 → ⊥) → (q ≡ 6 → ⊥) → (q ≡ 7 → ⊥)
             → never (treeOf t y) ≡ shape q (leafIn t l) l (treeOf t y) (treeOf t z)

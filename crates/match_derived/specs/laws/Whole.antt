@@ -12,11 +12,11 @@ use Rattle.match_meaning.specs.Meaning.{Meant, Node, Body, rule, Derives, plain
 use Rattle.match_meaning.specs.laws.Shape.{Climb, shape}
 use Rattle.match_meaning.specs.laws.LakesPlain.{lakes-are-plain}
 use Rattle.match_eval.specs.Eval.{nowhere, bodyOf, ev}
 use Rattle.match_list.specs.Nodes.{levels, listOf, listingOf, wordsOf}
 use Rattle.match_cells.specs.laws.Sound.{plainly}
 use Rattle.match_cells.specs.laws.Agrees.{Right, ev-sound, ev-only}
 use Rattle.match_list.specs.laws.Cut.{cut, listing-cut, words-cut}
-use Rattle.match_list.specs.laws.Lists.{lists, lists-none}
+use Rattle.match_derived.specs.laws.Lists.{lists, lists-none}
 
 -- the list holds the plain bodies of the grammar g
 abbrev pub Holds : List (Exp ℕ) → Meant → Type 0

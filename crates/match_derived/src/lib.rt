@@ -1,0 +1,1 @@
+// No code: over right cells the node list is that of the one derivation. See specs/.
