@@ -1,6 +1,3 @@
 -- What one function of the code does to words: contracts shaped like the code. Laws tie them to the definitions.
-pub mod Tasks
-pub mod Waits
-pub mod Picks
 pub mod Passes
 pub mod Turns

@@ -3,8 +3,8 @@ use Prim.Native.Nat.{ℕ, _<_}
 use mathlib.Core.Path.{_≡_, refl, sym, _∙_}
 use lib.ListN.{length}
 use Rattle.match_nodes.specs.steps.Passes.{out, run}
-use Rattle.match_nodes.specs.steps.Tasks.{listed}
-use Rattle.match_nodes.specs.steps.Waits.{tasksOf}
+use Rattle.match_walks.specs.steps.Tasks.{listed}
+use Rattle.match_walks.specs.steps.Waits.{tasksOf}
 use Rattle.match_nodes.specs.steps.Turns.{State, turns}
 use Rattle.match_nodes.specs.laws.Passes.{run-stopped}
 use Rattle.match_nodes.specs.laws.Turns.{end-list}

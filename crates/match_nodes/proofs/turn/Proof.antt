@@ -1,7 +1,7 @@
 use Prim.Native.Nat.{ℕ}
 use mathlib.Core.Path.{refl, subst}
 use Rattle.match_nodes.specs.steps.Passes.{out}
-use Rattle.match_nodes.specs.steps.Turns.{Walked, Risen}
+use Rattle.match_walks.specs.steps.Walks.{Walked, Risen}
 use Rattle.match_nodes.specs.laws.Turns.{two-up, walkable, turned-walk, rest-able, turned-enter, turned-up, turned-left}
 use borrow.Author.Needs.{needs}
 use Rattle.match_nodes.proofs.turn.Statement.{statement}
@@ -10,8 +10,8 @@ use Rattle.match_nodes.proofs.turn.Reads as reads
 use Rattle.match_nodes.proofs.turn.Lts as lts
 use Rattle.match_nodes.proofs.enter.Reads as enter-reads
 use Rattle.match_nodes.proofs.leave.Reads as leave-reads
-use Rattle.match_nodes.proofs.rise.Reads as rise-reads
-use Rattle.match_nodes.proofs.walk.Reads as walk-reads
+use Rattle.match_walks.proofs.rise.Reads as rise-reads
+use Rattle.match_walks.proofs.walk.Reads as walk-reads
 
 rise-requires : tie.Need-rise-requires
 rise-requires c κs = (c .before .before .before .before .before .before .before .before .before .before .before .pre .3 .desk, c .before .before .before .before .before .before .before .before .before .before .before .pre .0 .fits, c .before .before .before .before .before .before .before .before .before .before .before .pre .0 .few, c .before .before .before .before .before .before .before .before .before .before .before .pre .3 .small, c .before .before .before .before .before .before .before .before .before .before .before .pre .0 .short, c .before .before .before .before .before .before .before .before .before .before .before .pre .3 .place, c .before .before .before .before .before .before .before .before .before .before .before .pre .4)

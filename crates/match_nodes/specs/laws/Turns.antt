@@ -24,13 +24,14 @@ use Rattle.match_list.specs.laws.NodeSteps.{nodes-more, nodes-fails}
 use Rattle.match_nodes.specs.laws.Passes.{run-none, note-deep}
 use Rattle.grammar_table.specs.Trees.{treeOf, bodiesOf}
 use Rattle.match_cells.specs.laws.Rows.{bodies-length, body-at}
-use Rattle.match_nodes.specs.steps.Tasks.{Task, walk, again, enter, under, takes, walked, nodes, after, Able, listed, AllAble, rank, cost, costOf, toDo, Step, Moves}
+use Rattle.match_walks.specs.steps.Tasks.{Task, walk, again, enter, under, takes, walked, nodes, after, Able, listed, AllAble, rank, cost, costOf, toDo, Step, Moves}
 use Rattle.match_desk.specs.steps.Desk.{returnsAt, parentOf, returnOf, Desk, Silent}
-use Rattle.match_nodes.specs.steps.Waits.{going, waiting, tasksOf, climb}
-use Rattle.match_nodes.specs.steps.Turns.{Ready, Walkable, Walked, Risen, Left, State, turns, Turned}
-use Rattle.match_nodes.specs.laws.Steps.{cost-one, cost-less, step-moves}
+use Rattle.match_walks.specs.steps.Waits.{going, waiting, tasksOf, climb}
+use Rattle.match_walks.specs.steps.Walks.{Walkable, Walked, Risen}
+use Rattle.match_nodes.specs.steps.Turns.{Ready, Left, State, turns, Turned}
+use Rattle.match_walks.specs.laws.Steps.{cost-one, cost-less, step-moves}
 use Rattle.match_desk.specs.laws.Desks.{no-parent, desk-stays}
-use Rattle.match_nodes.specs.laws.Waits.{going-top, waiting-entered, going-entered}
+use Rattle.match_walks.specs.laws.Waits.{going-top, waiting-entered, going-entered}
 
 -- however high a pass stands, it can go up less often than a task counts
 pub climb-few : (m d x : ℕ) → d ≤ 256 → climb m d x < 1048576

@@ -1,18 +1,18 @@
 -- The turns of a pass over the node list, and what a pass asks. Assumes nothing: these are definitions.
-use Prim.Native.Nat.{ℕ, zero, suc, _+_, _*_, _≤_, _<_}
+use Prim.Native.Nat.{ℕ, suc, _+_, _*_, _≤_, _<_}
 use mathlib.Core.Path.{_≡_}
-use mathlib.Core.List.{List, [], _∷_}
+use mathlib.Core.List.{List}
 use lib.ListN.{length}
 use Rattle.grammar_table.specs.Table.{symbolWord, symbolCount, expressionCount}
-use Rattle.match_list.specs.Nodes.{Listing, all, deep, full}
-use Rattle.match_nodes.specs.steps.Passes.{big, Out, run}
-use Rattle.match_cells.specs.laws.Agrees.{Right}
 use Rattle.grammar_table.specs.Trees.{bodiesOf}
+use Rattle.match_cells.specs.laws.Agrees.{Right}
+use Rattle.match_list.specs.Nodes.{Listing, all, deep, full}
+use Rattle.match_desk.specs.steps.Desk.{Forest, Desk, returnOf}
+use Rattle.match_walks.specs.steps.Tasks.{Task, listed, AllAble, toDo}
+use Rattle.match_walks.specs.steps.Waits.{tasksOf, climb}
 use Rattle.match_nodes.specs.declared.Listed.{Listed}
 use Rattle.match_nodes.specs.declared.Listed.the-variants.{All, Deep, Full}
-use Rattle.match_nodes.specs.steps.Tasks.{Task, walk, enter, takes, listed, AllAble, toDo, Step, Moves}
-use Rattle.match_desk.specs.steps.Desk.{Forest, Desk, returnOf}
-use Rattle.match_nodes.specs.steps.Waits.{going, tasksOf, climb}
+use Rattle.match_nodes.specs.steps.Passes.{big, Out, run}
 
 -- a table with n symbols and at most 1,024 expressions, among them each symbol's body, none of which is a part twice; a text; and cells in which every
 -- symbol's cell is its meaning
@@ -32,32 +32,6 @@ said (Deep k) = deep k
 said (Full k) = full k
 
 module _ (t s cs : List ℕ) (n : ℕ) where
-  -- an expression can be walked at p
-  pub record Walkable (k : List ℕ) (x p : ℕ) : Type 0 where
-    pub desk : Desk t k (expressionCount t)
-    pub fits : expressionCount t ≤ 1024
-    pub few : n ≤ 64
-    pub short : length s ≤ 65535
-    pub place : p ≤ length s
-    pub known : x ≤ expressionCount t
-    pub able : takes t s cs n x p ≡ 0 → ⊥
-
-  -- walking x at p comes to y at q: x is done (1) or y is to be walked (2); or symbol y is to be entered (3)
-  pub record Walked (k : List ℕ) (x p kind y q : ℕ) : Type 0 where
-    pub few : (kind ≡ 3 → ⊥) → kind ≤ 2
-    pub on : (kind ≡ 3 → ⊥) → (d : ℕ) → Moves t s cs n (tasksOf t k 2 d x) p (tasksOf t k kind d y) q 1
-    pub known : kind ≡ 2 → y ≤ expressionCount t
-    pub small : y < 4294967296
-    pub enters : kind ≡ 3 → (q ≡ p) × ((d : ℕ) → Step t s cs n (walk x d) p (enter y d ∷ []) p)
-
-  -- x is done at p: then the body is done too (0), or its parent y is (1), or y is to be walked (2)
-  pub record Risen (k : List ℕ) (x p kind y : ℕ) : Type 0 where
-    pub top : kind ≡ 0 → (d : ℕ) → going t k d x ≡ []
-    pub on : (kind ≡ 0 → ⊥) → (d : ℕ) → Moves t s cs n (tasksOf t k 1 d x) p (tasksOf t k kind d y) p 0
-    pub known : kind ≡ 2 → y ≤ expressionCount t
-    pub small : y < 4294967296
-    pub climbs : (kind ≡ 0 → ⊥) → (d : ℕ) → climb kind d y < climb 1 d x
-
   -- a pass stands at p
   pub record State (k : List ℕ) (m d x p : ℕ) : Type 0 where
     pub desk : Desk t k (expressionCount t)

@@ -1,21 +1,21 @@
--- `match_nodes::pick` meets its contract. Assumes nothing.
+-- `match_walks::pick` meets its contract. Assumes nothing.
 use native.Mathlib.Omega.{arith}
 use mathlib.Core.Path.{refl, sym}
 use Rattle.match_eval.specs.steps.Firsts.{byteAt}
 use Rattle.match_eval.specs.laws.Memory.{knows-from, said-right}
-use Rattle.match_nodes.specs.laws.Picks.{pick-fails, pick-first, pick-second}
+use Rattle.match_walks.specs.laws.Picks.{pick-fails, pick-first, pick-second}
 use borrow.Author.Needs.{needs}
 use Prim.Native.Nat.{ℕ, _<_}
 use borrow.Fn.Kinds.{In}
 use borrow.Fn.PlainCycle.{Measures, is, falls, and}
-use Rattle.match_nodes.proofs.pick.Reads as pick
-use Rattle.match_nodes.proofs.pick.Kinds as pick-kinds
-use Rattle.match_nodes.proofs.+pick.Lts-pick as pick-lts
-use Rattle.match_nodes.proofs.barred.Reads as barred-reads
+use Rattle.match_walks.proofs.pick.Reads as pick
+use Rattle.match_walks.proofs.pick.Kinds as pick-kinds
+use Rattle.match_walks.proofs.+pick.Lts-pick as pick-lts
+use Rattle.match_walks.proofs.barred.Reads as barred-reads
 use Rattle.match_desk.proofs.look.Reads as look-reads
-use Rattle.match_nodes.proofs.whole.Reads as whole-reads
-use Rattle.match_nodes.proofs.+pick.{statement}
-use Rattle.match_nodes.proofs.+pick.Tie.{close}
+use Rattle.match_walks.proofs.whole.Reads as whole-reads
+use Rattle.match_walks.proofs.+pick.{statement}
+use Rattle.match_walks.proofs.+pick.Tie.{close}
 
 abbrev μ-pick : Measures 4 pick-kinds.ps ℕ
 μ-pick κs a = a .1 .1 .1 .1 .1 .0

@@ -1,18 +1,18 @@
 use native.Mathlib.Omega.{arith}
 use mathlib.Core.Path.{sym, _∙_}
 use Rattle.match_desk.specs.laws.Learns.{silent-any, silent-other}
-use Rattle.match_nodes.specs.laws.Ups.{walk-symbol, walk-seq, walk-choice, walk-skip, walk-take, walk-ends, walk-more, walk-plus}
+use Rattle.match_walks.specs.laws.Ups.{walk-symbol, walk-seq, walk-choice, walk-skip, walk-take, walk-ends, walk-more, walk-plus}
 use Rattle.match_eval.specs.laws.Memory.{knows-from}
 use borrow.Author.Needs.{needs}
-use Rattle.match_nodes.proofs.walk.Statement.{statement}
-use Rattle.match_nodes.proofs.walk.Tie as tie
-use Rattle.match_nodes.proofs.walk.Reads as reads
-use Rattle.match_nodes.proofs.walk.Lts as lts
+use Rattle.match_walks.proofs.walk.Statement.{statement}
+use Rattle.match_walks.proofs.walk.Tie as tie
+use Rattle.match_walks.proofs.walk.Reads as reads
+use Rattle.match_walks.proofs.walk.Lts as lts
 use Rattle.base_words.proofs.word.Reads as word-reads
 use Rattle.match_eval.proofs.round.Reads as round-reads
-use Rattle.match_nodes.proofs.choose.Reads as choose-reads
+use Rattle.match_walks.proofs.choose.Reads as choose-reads
 use Rattle.match_desk.proofs.look.Reads as look-reads
-use Rattle.match_nodes.proofs.skip.Reads as skip-reads
+use Rattle.match_walks.proofs.skip.Reads as skip-reads
 
 word-requires : tie.Need-word-requires
 word-requires c κs = search needs

@@ -1,10 +1,10 @@
-use Rattle.match_nodes.specs.laws.Ups.{walk-guard}
+use Rattle.match_walks.specs.laws.Ups.{walk-guard}
 use borrow.Author.Needs.{needs}
-use Rattle.match_nodes.proofs.skip.Statement.{statement}
-use Rattle.match_nodes.proofs.skip.Tie as tie
-use Rattle.match_nodes.proofs.skip.Reads as reads
-use Rattle.match_nodes.proofs.skip.Lts as lts
-use Rattle.match_nodes.proofs.across.Reads as across-reads
+use Rattle.match_walks.proofs.skip.Statement.{statement}
+use Rattle.match_walks.proofs.skip.Tie as tie
+use Rattle.match_walks.proofs.skip.Reads as reads
+use Rattle.match_walks.proofs.skip.Lts as lts
+use Rattle.match_walks.proofs.across.Reads as across-reads
 use Rattle.match_desk.proofs.look.Reads as look-reads
 
 across-requires : tie.Need-across-requires

@@ -2,16 +2,16 @@ use native.Mathlib.Omega.{arith}
 use mathlib.Core.Path.{refl, sym}
 use mathlib.Core.Logic.{inl, inr}
 use Rattle.grammar_table.specs.Table.{expressionCount}
-use Rattle.match_nodes.specs.laws.Walks.{nonzero}
+use Rattle.match_walks.specs.laws.Walks.{nonzero}
 use Rattle.match_desk.specs.laws.Desks.{parent-above}
-use Rattle.match_nodes.specs.laws.Ups.{risen-top, risen-left, risen-right, risen-rounds, risen-other}
+use Rattle.match_walks.specs.laws.Ups.{risen-top, risen-left, risen-right, risen-rounds, risen-other}
 use borrow.Author.Needs.{needs}
-use Rattle.match_nodes.proofs.rise.Statement.{statement}
-use Rattle.match_nodes.proofs.rise.Tie as tie
-use Rattle.match_nodes.proofs.rise.Reads as reads
-use Rattle.match_nodes.proofs.rise.Lts as lts
+use Rattle.match_walks.proofs.rise.Statement.{statement}
+use Rattle.match_walks.proofs.rise.Tie as tie
+use Rattle.match_walks.proofs.rise.Reads as reads
+use Rattle.match_walks.proofs.rise.Lts as lts
 use Rattle.base_words.proofs.word.Reads as word-reads
-use Rattle.match_nodes.proofs.further.Reads as further-reads
+use Rattle.match_walks.proofs.further.Reads as further-reads
 use Rattle.match_desk.proofs.look.Reads as look-reads
 
 add-word : tie.Need-add-word

@@ -3,10 +3,10 @@ use mathlib.Core.Path.{refl}
 use mathlib.Core.Logic.{inl, inr}
 use Rattle.match_eval.specs.laws.Memory.{knows-from}
 use borrow.Author.Needs.{needs}
-use Rattle.match_nodes.proofs.further.Statement.{statement}
-use Rattle.match_nodes.proofs.further.Tie as tie
-use Rattle.match_nodes.proofs.further.Reads as reads
-use Rattle.match_nodes.proofs.further.Lts as lts
+use Rattle.match_walks.proofs.further.Statement.{statement}
+use Rattle.match_walks.proofs.further.Tie as tie
+use Rattle.match_walks.proofs.further.Reads as reads
+use Rattle.match_walks.proofs.further.Lts as lts
 use Rattle.match_eval.proofs.round.Reads as round-reads
 
 round-requires : tie.Need-round-requires

@@ -4,7 +4,7 @@ use mathlib.Core.Bool.{cond}
 use mathlib.Core.List.{List, [], _∷_, _++_}
 use lib.Dec.{eqb}
 use Rattle.match_desk.specs.steps.Desk.{returnOf, parentOf, kindOf, leftPart, rightPart}
-use Rattle.match_nodes.specs.steps.Tasks.{Task, walk, again}
+use Rattle.match_walks.specs.steps.Tasks.{Task, walk, again}
 
 -- behind part x of an expression of this kind over y and z: of a sequence the right part behind the left one, of rounds a further one
 unfoldable pub restBy : ℕ → ℕ → ℕ → ℕ → ℕ → List Task

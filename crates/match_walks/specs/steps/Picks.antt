@@ -9,8 +9,8 @@ use Rattle.match_meaning.specs.Meaning.{Node}
 use Rattle.match_eval.specs.Eval.{ev}
 use Rattle.match_list.specs.Nodes.{walkOf}
 use Rattle.match_desk.specs.steps.Desk.{Desk}
-use Rattle.match_nodes.specs.steps.Tasks.{Task}
-use Rattle.match_nodes.specs.steps.Waits.{going}
+use Rattle.match_walks.specs.steps.Tasks.{Task}
+use Rattle.match_walks.specs.steps.Waits.{going}
 
 -- r stands for x at p: it takes the same, lists the same and has the same behind it; 4,096 says that x fails
 pub record Picked (t s cs : List ℕ) (n x p r : ℕ) : Type 0 where

@@ -1,5 +1,5 @@
 -- The node list by tasks: what is still to be walked, the next first, each from the place where the one before it ends.
--- Code holds no list of them: `Desk` says which tasks a pass stands before.
+-- Code holds no list of them: `Waits` says which tasks a pass stands before, by the words of the desk.
 -- Assumes nothing: these are definitions.
 use Prim.Native.Nat.{ℕ, zero, suc, _+_, _-_, _*_, _≤_}
 use mathlib.Core.Path.{_≡_}

@@ -1,12 +1,12 @@
--- `match_nodes::choose` meets its contract. Assumes nothing.
+-- `match_walks::choose` meets its contract. Assumes nothing.
 use native.Mathlib.Omega.{arith}
-use Rattle.match_nodes.specs.laws.Picks.{choose-first, choose-second}
+use Rattle.match_walks.specs.laws.Picks.{choose-first, choose-second}
 use borrow.Author.Needs.{needs}
-use Rattle.match_nodes.proofs.choose.Statement.{statement}
-use Rattle.match_nodes.proofs.choose.Tie as tie
-use Rattle.match_nodes.proofs.choose.Reads as reads
-use Rattle.match_nodes.proofs.choose.Lts as lts
-use Rattle.match_nodes.proofs.pick.Reads as pick-reads
+use Rattle.match_walks.proofs.choose.Statement.{statement}
+use Rattle.match_walks.proofs.choose.Tie as tie
+use Rattle.match_walks.proofs.choose.Reads as reads
+use Rattle.match_walks.proofs.choose.Lts as lts
+use Rattle.match_walks.proofs.pick.Reads as pick-reads
 
 pick-requires : tie.Need-pick-requires
 pick-requires c κs = (omega (arith, c .before .before .before .before .pre .0), c .before .before .before .before .pre .1)

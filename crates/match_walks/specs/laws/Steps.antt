@@ -8,7 +8,7 @@ use native.Mathlib.Omega.{arith}
 use native.Mathlib.Nat.{eq-or-lt-of-le, mul-le-mul, mul-le-mul-right, suc-mul}
 use lib.ListN.{length}
 use Rattle.match_meaning.specs.Meaning.{Node}
-use Rattle.match_nodes.specs.steps.Tasks.{Task, nodes, after, Able, listed, AllAble, cost, costOf, toDo, Step, Moves}
+use Rattle.match_walks.specs.steps.Tasks.{Task, nodes, after, Able, listed, AllAble, cost, costOf, toDo, Step, Moves}
 
 -- ── the bound on tasks ──
 pub cost-one : (m k : ℕ) → 1 ≤ cost m k

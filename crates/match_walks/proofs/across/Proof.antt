@@ -1,11 +1,11 @@
 use native.Mathlib.Omega.{arith}
-use Rattle.match_nodes.specs.laws.Ups.{walk-silent}
+use Rattle.match_walks.specs.laws.Ups.{walk-silent}
 use Rattle.match_eval.specs.laws.Memory.{knows-from}
 use borrow.Author.Needs.{needs}
-use Rattle.match_nodes.proofs.across.Statement.{statement}
-use Rattle.match_nodes.proofs.across.Tie as tie
-use Rattle.match_nodes.proofs.across.Reads as reads
-use Rattle.match_nodes.proofs.across.Lts as lts
+use Rattle.match_walks.proofs.across.Statement.{statement}
+use Rattle.match_walks.proofs.across.Tie as tie
+use Rattle.match_walks.proofs.across.Reads as reads
+use Rattle.match_walks.proofs.across.Lts as lts
 use Rattle.match_eval.proofs.round.Reads as round-reads
 
 round-requires : tie.Need-round-requires

@@ -11,16 +11,16 @@ use lib.ListN.{length}
 use borrow.Author.Tests.{eqb-true, eqb-false}
 use Rattle.grammar_table.specs.Table.{expressionCount}
 use Rattle.grammar_table.specs.Trees.{treeOf}
-use Rattle.match_nodes.specs.steps.Tasks.{Task, walk, again, enter, takes, Step, Moves}
+use Rattle.match_walks.specs.steps.Tasks.{Task, walk, again, enter, takes, Step, Moves}
 use Rattle.match_desk.specs.steps.Desk.{parentOf, Silent, Desk}
-use Rattle.match_nodes.specs.steps.Waits.{going, waiting, tasksOf, climb}
+use Rattle.match_walks.specs.steps.Waits.{going, waiting, tasksOf, climb}
 use Rattle.match_desk.specs.steps.Parts.{Made}
-use Rattle.match_nodes.specs.steps.Picks.{Chosen}
-use Rattle.match_nodes.specs.steps.Turns.{Walkable, Walked, Risen}
-use Rattle.match_nodes.specs.laws.Steps.{step-moves, moves-same, moves-on, moves-less}
-use Rattle.match_nodes.specs.laws.Walks.{step-symbol, step-seq, step-choice, step-skips, step-takes, step-plus, step-ahead, step-never, step-silent, star-ends, star-more, again-ends, again-more}
+use Rattle.match_walks.specs.steps.Picks.{Chosen}
+use Rattle.match_walks.specs.steps.Walks.{Walkable, Walked, Risen}
+use Rattle.match_walks.specs.laws.Steps.{step-moves, moves-same, moves-on, moves-less}
+use Rattle.match_walks.specs.laws.Walks.{step-symbol, step-seq, step-choice, step-skips, step-takes, step-plus, step-ahead, step-never, step-silent, star-ends, star-more, again-ends, again-more}
 use Rattle.match_desk.specs.laws.Desks.{parent-above}
-use Rattle.match_nodes.specs.laws.Waits.{going-top, seq-left, seq-right, choice-left, choice-right, option-part, star-part, plus-part, up-left, up-right, up-star, up-plus, up-other}
+use Rattle.match_walks.specs.laws.Waits.{going-top, seq-left, seq-right, choice-left, choice-right, option-part, star-part, plus-part, up-left, up-right, up-star, up-plus, up-other}
 
 module _ (t s cs : List ℕ) (n : ℕ) (k : List ℕ) (x p : ℕ) where
   -- x is done, y is to be walked with more behind it, or a symbol is to be entered

@@ -12,8 +12,8 @@ use borrow.Author.Tests.{eq-eqb, ne-eqb}
 use Rattle.match_desk.specs.steps.Desk.{returnsAt, returnOf, parentOf, kindOf, leftPart, rightPart, Parted, Desk}
 use Rattle.match_desk.specs.steps.Parts.{Made}
 use Rattle.match_desk.specs.laws.Desks.{parent-above, no-parent, parents-stay}
-use Rattle.match_nodes.specs.steps.Tasks.{Task, walk, again}
-use Rattle.match_nodes.specs.steps.Waits.{restBy, rest, ifSome, goingIn, going, waiting}
+use Rattle.match_walks.specs.steps.Tasks.{Task, walk, again}
+use Rattle.match_walks.specs.steps.Waits.{restBy, rest, ifSome, goingIn, going, waiting}
 
 by-some : (a : ℕ) (u v : ℕ → List Task) → ((e : ℕ) → a ≡ e → 0 < e → u e ≡ v e) → ifSome a u ≡ ifSome a v
 by-some zero u v h = refl

@@ -1,12 +1,12 @@
--- `match_nodes::whole` meets its contract. Assumes nothing.
+-- `match_walks::whole` meets its contract. Assumes nothing.
 use native.Mathlib.Omega.{arith}
-use Rattle.match_nodes.specs.laws.Picks.{pick-fails, pick-whole}
+use Rattle.match_walks.specs.laws.Picks.{pick-fails, pick-whole}
 use Rattle.match_eval.specs.laws.Memory.{knows-from}
 use borrow.Author.Needs.{needs}
-use Rattle.match_nodes.proofs.whole.Statement.{statement}
-use Rattle.match_nodes.proofs.whole.Tie as tie
-use Rattle.match_nodes.proofs.whole.Reads as reads
-use Rattle.match_nodes.proofs.whole.Lts as lts
+use Rattle.match_walks.proofs.whole.Statement.{statement}
+use Rattle.match_walks.proofs.whole.Tie as tie
+use Rattle.match_walks.proofs.whole.Reads as reads
+use Rattle.match_walks.proofs.whole.Lts as lts
 use Rattle.match_eval.proofs.round.Reads as round-reads
 
 round-requires : tie.Need-round-requires

@@ -1,13 +1,13 @@
--- `match_nodes::barred` meets its contract. Assumes nothing.
+-- `match_walks::barred` meets its contract. Assumes nothing.
 use Prim.Native.Nat.{ℕ}
 use mathlib.Core.Path.{sym, ap, _∙_}
 use borrow.Author.Tests.{eqb-true}
 use Rattle.match_eval.specs.steps.Firsts.{saidOf}
 use borrow.Author.Needs.{needs}
-use Rattle.match_nodes.proofs.barred.Statement.{statement}
-use Rattle.match_nodes.proofs.barred.Tie as tie
-use Rattle.match_nodes.proofs.barred.Reads as reads
-use Rattle.match_nodes.proofs.barred.Lts as lts
+use Rattle.match_walks.proofs.barred.Statement.{statement}
+use Rattle.match_walks.proofs.barred.Tie as tie
+use Rattle.match_walks.proofs.barred.Reads as reads
+use Rattle.match_walks.proofs.barred.Lts as lts
 use Rattle.match_eval.proofs.byte_at.Reads as byte-at-reads
 use Rattle.match_eval.proofs.memory.said.Reads as said-reads
 

@@ -14,8 +14,8 @@ use Rattle.match_eval.specs.laws.EvalSteps.{alt-left, alt-right}
 use Rattle.match_list.specs.laws.NodeSteps.{alt-left as list-left, alt-right as list-right}
 use Rattle.grammar_table.specs.Trees.{treeOf}
 use Rattle.match_desk.specs.steps.Parts.{shape, Made}
-use Rattle.match_nodes.specs.steps.Picks.{Picked, Chosen}
-use Rattle.match_nodes.specs.laws.Waits.{choice-left, choice-right}
+use Rattle.match_walks.specs.steps.Picks.{Picked, Chosen}
+use Rattle.match_walks.specs.laws.Waits.{choice-left, choice-right}
 
 module _ (t s cs : List ℕ) (n x p : ℕ) where
   -- x itself

@@ -1,0 +1,6 @@
+-- Laws of the definitions beside this file.
+pub mod Steps
+pub mod Waits
+pub mod Picks
+pub mod Walks
+pub mod Ups

@@ -1,0 +1,5 @@
+-- What one function of the code does to words: contracts shaped like the code. Laws tie them to the definitions.
+pub mod Tasks
+pub mod Waits
+pub mod Picks
+pub mod Walks
