@@ -32,6 +32,7 @@ HERE = os.path.join(TOP, "tests", "library")
 ARM = platform.machine() == "aarch64"
 RANDOM_COUNT, RANDOM_SEED = 10000, 12
 NODE_QUESTIONS, NAME_QUESTIONS = 1000, 1000
+STACK_KIB = 512  # what the header asks for, and the harness gives its threads
 WRAPPER_COUNT = 300
 # the commands that the tests call, and Debian's packages that have them
 PACKAGES = {"gcc": ["gcc", "libc6-dev"], "node": ["nodejs"], "chromium": ["chromium"]}
@@ -204,8 +205,8 @@ def check_names(target):
     print(f"library: {target.name}: {good} of {len(asked)} questions on names answered as the independent reader does")
 
 
-def check_worst(target, others):
-    """The worst grammars, every call, within the header's stack: the threads of the harness have no more; two at once in C. `others` are earlier answers."""
+def worst_questions():
+    """Every call on the worst grammars, and what `match` answers first."""
     questions, firsts = [], []
     for _, grammar, text, expected in stack.cases():
         rules, given = known.field(grammar.encode()), known.field(text.encode())
@@ -214,14 +215,30 @@ def check_worst(target, others):
                       f"read lake {rules}", f"own lake {rules} 100000", f"plain lake {rules} 200000", f"plain plain {rules} 200000",
                       f"name lake {rules} 1 34", f"name plain {rules} 0 38"]
         firsts.append(expected[0])
-    got = target.ask(lines(questions), () if "Node" in target.name else ["2"])
-    others.append(got)
+    return questions, firsts
+
+
+def ask_worst(target):
+    """The answers on the worst grammars, within the header's stack: the threads of the harness have no more; two at once in C."""
+    return target.ask(lines(worst_questions()[0]), () if "Node" in target.name else ["2"])
+
+
+def check_worst(target, got, others):
+    """`others` are the answers of another target."""
+    questions, firsts = worst_questions()
     bad = sum(answer.split(" ;")[0] != first for answer, first in zip(got[::len(questions) // len(firsts)], firsts))
-    bad += sum(mine != theirs or mine in ("broken", "unreadable") for mine, theirs in zip(got, others[0])) + abs(len(got) - len(questions))
+    bad += sum(mine != theirs or mine in ("broken", "unreadable") for mine, theirs in zip(got, others)) + abs(len(got) - len(questions))
     if bad:
         wrong(f"{target.name}: {bad} answers on the worst grammars are broken or others than expected")
-    used = f", stack {int(target.said):,} bytes" if "Node" in target.name else ", two threads at once, 576 KiB of stack each"
+    used = f", stack {int(target.said):,} bytes" if "Node" in target.name else f", two threads at once, {STACK_KIB} KiB of stack each"
     print(f"library: {target.name}: {len(questions)} questions on the worst grammars, {bad} wrong{used}")
+
+
+def check_target(target):
+    """All that one target is asked beside the random questions; its answers on the worst grammars, which the targets are compared by."""
+    check_stored(target)
+    check_names(target)
+    return ask_worst(target)
 
 
 SOUP = [b"a", b"b", b"s", b" <- ", b"<-", b"'x'", b'"ab"', b"<l>", b"<l", b"water", b"/", b" / ", b"(", b")", b"*", b"?", b"+", b"&", b"!", b".", b"[a-c]",
@@ -487,15 +504,16 @@ def main():
             check_made()
             found = targets(folder)
             if not problems:
-                others = []
-                for target in found:
-                    check_stored(target)
-                    check_names(target)
-                    check_worst(target, others)
+                # each is a program of its own, so that two processors have work
+                with ThreadPoolExecutor(2) as pool:
+                    asked = [pool.submit(check_target, target) for target in found]
+                    rest = [pool.submit(check) for check in (functools.partial(check_samples, folder), check_wrappers, check_page)]
+                    worst = [answers.result() for answers in asked]
+                    for check in rest:
+                        check.result()
+                for target, got in zip(found, worst):
+                    check_worst(target, got, worst[0])
                 check_random(found)
-                check_samples(folder)
-                check_wrappers()
-                check_page()
     print(f"library: {time.monotonic() - start:.0f} s, {len(problems)} wrong")
     return 1 if problems else 0
 

@@ -10,7 +10,7 @@
 #include <string.h>
 #include "gurkenmond.h"
 
-enum { GUARD = 32, GUARD_BYTE = 0xA5, ROOM_BYTE = 0xEE, FIELDS = 8, STACK = 576 << 10 };
+enum { GUARD = 32, GUARD_BYTE = 0xA5, ROOM_BYTE = 0xEE, FIELDS = 8, STACK = 512 << 10 };
 static const uint32_t FRESH = 3735928559u;
 
 /* ── what is printed ── */

@@ -4,7 +4,6 @@ pub mod Sound
 pub mod First
 pub mod Agrees
 pub mod Filled
-pub mod Keys
 pub mod Order
 pub mod Full
 pub mod Runs

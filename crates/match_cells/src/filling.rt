@@ -103,7 +103,7 @@ fn rows_in(t: &[u32], s: &[u8], cells: &mut [u32], mem: &mut [u32], order: &[u32
         (now (cells .exit))
         × Knows (now (t .entry)) (now (s .entry)) (now (cells .exit)) n (now (mem .exit)) 0 0 ⌝ }
 {
-    crate::memory::enter_all(t, mem);
+    match_keys::enter_all(t, mem);
     match_firsts::decide_all(t, s, mem, order, n, cells.len());
     rows(t, s, cells, mem, order, n, s.len() + 1);
 }

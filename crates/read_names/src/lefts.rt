@@ -9,7 +9,7 @@ ghost use Rattle.read_tokens.specs.Tokens.{tokenAt, lexemes};
 ghost use Rattle.read_syntax.specs.Reading.{leftsIn, second, unruled};
 ghost use Rattle.read_walks.specs.steps.Names.{placed};
 ghost use Rattle.read_order.specs.steps.Order.{symbolIn, inText, Fits, TokenOf};
-ghost use Rattle.read_names.specs.steps.Lefts.{marked, Knows, Ranged, Entered, MetAll, UsedAll, placeBy};
+ghost use Rattle.read_names.specs.steps.Lefts.{marked, Finds, Ranged, Entered, MetAll, UsedAll, placeBy};
 ghost use Rattle.read_names.specs.steps.Lefts.{Walked, Swept4, Swept5, Whole, Held, Answer};
 use base_words::word;
 use read_order::NONE;
@@ -129,7 +129,7 @@ fn meet(
 
 // The place before the first symbol of a range that refusal 4 is for, or the limit.
 fn sweep(mode: Mode, text: &[u8], a: &Room, c: Range, limit: usize, marks: &mut Marks) -> usize
-    requires { ⌜ Walked (now text) (now a) (c .low) (c .high) (c .count) limit (Knows (now text) (now a) (c .low) (c .high) (c .count) [] (now marks)) ⌝ }
+    requires { ⌜ Walked (now text) (now a) (c .low) (c .high) (c .count) limit (Finds (now text) (now a) (c .low) (c .high) (c .count) [] (now marks)) ⌝ }
     ensures { λ r. ⌜ ((r ≡ 4294967296 → ⊥) → Answer mode (now (text .entry)) (now (a .entry)) (c .low) (c .high) (c .count) limit r (now (marks .exit))) ⌝ }
 {
     let low = c.low;

@@ -76,7 +76,8 @@ module _ (b c d e : ℕ) where
 char-four : (s : List ℕ) (i : ℕ) → char (drop i s) ≡ four (getD s i 256) (getD s (i + 1) 256) (getD s (i + 2) 256) (getD s (i + 3) 256)
 unfolding char
 char-four s i =
-    rw (getD-drop i s 0 256, getD-drop i s 1 256, getD-drop i s 2 256, getD-drop i s 3 256) (ap (λ (j : ℕ). four (getD s j 256) (getD s (i + 1) 256) (getD s (i + 2) 256) (getD s (i + 3) 256)) (add-zero i))
+    rw (getD-drop i s 0 256, getD-drop i s 1 256, getD-drop i s 2 256, getD-drop i s 3 256)
+    (ap (λ (j : ℕ). four (getD s j 256) (getD s (i + 1) 256) (getD s (i + 2) 256) (getD s (i + 3) 256)) (add-zero i))
 
 pub char-end : (s : List ℕ) (i : ℕ) → length s ≤ i → got 0 0 ≡ char (drop i s)
 unfolding char four

@@ -238,7 +238,8 @@ module _ (new : List Bool) (r : ℕ) where
   plain-go (shut (x ∷ rs) e) u p z = settled-same (painted-length new (x ∷ rs) (p .1)) (p .1 ∙ painted (x ∷ rs)) (p .0)
   plain-go broken u p z = absurd (z p)
 
-  pub plain-is : (s : List ℕ) (i : ℕ) → (getD s i 256 ≡ 93 → ⊥) → Painted (rest s i) (replicate 256 false) new r → (r ≡ 0 → ⊥) → classIs (marked (someFrom 0 256 new) new 0 r) ≡ classIs (classBy false 0 (rest s i))
+  pub plain-is : (s : List ℕ) (i : ℕ) → (getD s i 256 ≡ 93 → ⊥) → Painted (rest s i) (replicate 256 false) new r → (r ≡ 0 → ⊥) → classIs
+      (marked (someFrom 0 256 new) new 0 r) ≡ classIs (classBy false 0 (rest s i))
   plain-is s i f = plain-go (rest s i) (some-listed s i f)
 
   turned-go : (o : Body) → Some o → Painted o (replicate 256 false) new r → (r ≡ 0 → ⊥) → classIs (marked (someFrom 0 256 (turnFrom 0 256 new)) (turnFrom 0 256 new) 0 r) ≡ classIs (classBy true 0 o)

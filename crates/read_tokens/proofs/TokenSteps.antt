@@ -78,7 +78,8 @@ module _ (s : List ℕ) (i : ℕ) where
   by-letter b l x e =
       ap (λ (y : Bool). let z : spec.Token = elim y [ true ↦ lakeBy i (nameSpan (b ∷ l)) (drop (length (nameSpan (b ∷ l))) (b ∷ l)) | false ↦ badAt i ] in z) e ∙ go x
     where
-      go : (x : Bool) → (let z : spec.Token = elim x [ true ↦ lakeBy i (nameSpan (b ∷ l)) (drop (length (nameSpan (b ∷ l))) (b ∷ l)) | false ↦ badAt i ] in z) ≡ cond x (lakeBy i (nameSpan (b ∷ l)) (drop (length (nameSpan (b ∷ l))) (b ∷ l))) (badAt i)
+      go : (x : Bool) → (let z : spec.Token = elim x [ true ↦ lakeBy i (nameSpan (b ∷ l)) (drop (length (nameSpan (b ∷ l))) (b ∷ l)) | false ↦ badAt i ] in z) ≡ cond x
+          (lakeBy i (nameSpan (b ∷ l)) (drop (length (nameSpan (b ∷ l))) (b ∷ l))) (badAt i)
       go true = refl
       go false = refl
 

@@ -37,13 +37,17 @@ shared-slice-read-d : tie.Need-shared-slice-read-d Inv-loop μ-loop
 shared-slice-read-d c = search needs
 
 mul-union : tie.Need-mul-union Inv-loop μ-loop
-mul-union c = scaled-fits _ (length (c .before .before .before .before .before .before .args .old .now)) 16 (omega (arith, c .before .before .before .before .before .before .pre .0 .to-in (c .before .before .before .loop .e) (omega arith))) (c .before .before .before .before .before .before .good .1 .1 .0 .1)
+mul-union c = scaled-fits _ (length (c .before .before .before .before .before .before .args .old .now)) 16
+    (omega (arith, c .before .before .before .before .before .before .pre .0 .to-in (c .before .before .before .loop .e) (omega arith)))
+    (c .before .before .before .before .before .before .good .1 .1 .0 .1)
 
 slice-copy-out-union : tie.Need-slice-copy-out-union Inv-loop μ-loop
 slice-copy-out-union c = omega (arith, c .before .before .before .before .before .before .pre .0 .to-in (c .before .before .before .loop .e) (omega arith))
 
 mul-union-2 : tie.Need-mul-union-2 Inv-loop μ-loop
-mul-union-2 c = scaled-fits _ (length (c .before .before .before .before .before .before .before .args .old .now)) 16 (omega (arith, c .before .before .before .before .before .before .before .pre .0 .from-in (c .before .before .before .before .loop .e) (omega arith))) (c .before .before .before .before .before .before .before .good .1 .1 .0 .1)
+mul-union-2 c = scaled-fits _ (length (c .before .before .before .before .before .before .before .args .old .now)) 16
+    (omega (arith, c .before .before .before .before .before .before .before .pre .0 .from-in (c .before .before .before .before .loop .e) (omega arith)))
+    (c .before .before .before .before .before .before .before .good .1 .1 .0 .1)
 
 shared-slice-copy-out-union : tie.Need-shared-slice-copy-out-union Inv-loop μ-loop
 shared-slice-copy-out-union c = omega (arith, c .before .before .before .before .before .before .before .pre .0 .from-in (c .before .before .before .before .loop .e) (omega arith))
@@ -52,10 +56,19 @@ union-requires : tie.Need-union-requires Inv-loop μ-loop
 union-requires c κs = search needs
 
 mul-t18 : tie.Need-mul-t18 Inv-loop μ-loop
-mul-t18 c = scaled-fits _ (length (c .before .before .before .before .before .before .before .before .before .args .old .now)) 16 (omega (arith, c .before .before .before .before .before .before .before .before .before .pre .0 .to-in (c .before .before .before .before .before .before .loop .e) (omega arith))) (c .before .before .before .before .before .before .before .before .before .good .1 .1 .0 .1)
+mul-t18 c = scaled-fits _ (length (c .before .before .before .before .before .before .before .before .before .args .old .now)) 16
+    (omega (
+      arith,
+      c .before .before .before .before .before .before .before .before .before .pre .0 .to-in (c .before .before .before .before .before .before .loop .e)
+          (omega arith),
+    )) (c .before .before .before .before .before .before .before .before .before .good .1 .1 .0 .1)
 
 slice-set-from-new : tie.Need-slice-set-from-new Inv-loop μ-loop
-slice-set-from-new c = omega (arith, c .before .before .before .before .before .before .before .before .before .pre .0 .to-in (c .before .before .before .before .before .before .loop .e) (omega arith))
+slice-set-from-new c = omega (
+  arith,
+  c .before .before .before .before .before .before .before .before .before .pre .0 .to-in
+      (c .before .before .before .before .before .before .loop .e) (omega arith),
+)
 
 add-e : tie.Need-add-e Inv-loop μ-loop
 add-e c = search needs
@@ -70,7 +83,8 @@ loop-again c =
       omega arith,
       simp length-set (a .loop .inv .1),
       ap (λ (x : List ℕ). set (a .loop .new) (getD (s .dst .now) (a .loop .e) 0) x) (c .union .ensures)
-          ∙ ap (λ (l : List (List ℕ)). set l (getD (s .dst .now) (a .loop .e) 0) (unionOf (getD l (getD (s .dst .now) (a .loop .e) 0) []) (getD (s .old .now) (getD (s .src .now) (a .loop .e) 0) []))) (a .loop .inv .2)
+          ∙ ap (λ (l : List (List ℕ)). set l (getD (s .dst .now) (a .loop .e) 0)
+          (unionOf (getD l (getD (s .dst .now) (a .loop .e) 0) []) (getD (s .old .now) (getD (s .src .now) (a .loop .e) 0) []))) (a .loop .inv .2)
           ∙ sym (pushed-more (s .src .now) (s .dst .now) (a .loop .e) (s .old .now) (s .new .now)),
     )
 

@@ -18,7 +18,11 @@ copy-requires : tie.Need-copy-requires
 copy-requires c κs = search needs
 
 push-requires : tie.Need-push-requires
-push-requires c κs = (shaped-at (c .before .before .before .before .before .before .before .pre .0) (sym (ap length (c .before .before .before .copy .ensures))), omega (arith, ap length (c .before .before .before .copy .ensures)))
+push-requires c κs = (
+  shaped-at (c .before .before .before .before .before .before .before .pre .0) (sym (ap length (c .before .before .before .copy .ensures))),
+  omega
+      (arith, ap length (c .before .before .before .copy .ensures)),
+)
 
 equal-requires : tie.Need-equal-requires
 equal-requires c κs = search needs
@@ -38,7 +42,8 @@ returns c =
     let e = c .before .before .before .before in
     let r = c .before .before .before .before .before .before .before .before in
     let s = c .before .before .before .before .before .before .before .before .before .before .before .before .before .before .before .before .args in
-    let w = r .push .ensures ∙ ap (λ (l : List (List ℕ)). pushed (s .src .now) (s .dst .now) (length (s .src .now)) (s .cur .now) l) (c .before .before .before .before .before .before .before .before .before .before .before .before .copy .ensures) in
+    let w = r .push .ensures ∙ ap (λ (l : List (List ℕ)). pushed (s .src .now) (s .dst .now) (length (s .src .now)) (s .cur .now) l)
+    (c .before .before .before .before .before .before .before .before .before .before .before .before .copy .ensures) in
     record {
       cur-is = q .copy2 .ensures ∙ w;
       next-is = w;

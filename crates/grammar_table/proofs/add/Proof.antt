@@ -31,7 +31,8 @@ same-length : tie.Need-same-length
 same-length c = search needs
 
 returns : tie.Need-returns
-returns c = c .before .before .put .ensures ∙ ap (λ (l : List ℕ). set l (c .before .before .before .before .before .before .before .before .before .before .args .head) (c .before .before .before .before .before .before .before .before .before .before .args .n + 1)) (c .before .before .before .before .before .before .store .ensures)
+returns c = c .before .before .put .ensures ∙ ap (λ (l : List ℕ). set l (c .before .before .before .before .before .before .before .before .before .before .args .head)
+    (c .before .before .before .before .before .before .before .before .before .before .args .n + 1)) (c .before .before .before .before .before .before .store .ensures)
 
 pub add-spec : {M : Type 1} → statement M
 add-spec =

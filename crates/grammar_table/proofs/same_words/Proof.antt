@@ -34,7 +34,8 @@ word-requires-2 : tie.Need-word-requires-2 Inv-loop μ-loop
 word-requires-2 c κs = search needs
 
 returns : tie.Need-returns Inv-loop μ-loop
-returns c = sym (c .before .before .before .before .loop .inv ∙ rest-not _ _ _ _ _ _ (c .before .before .before .loop-test .taken) (λ e. c .if1 .taken (c .before .before .word .ensures .0 ∙ e ∙ sym (c .before .word2 .ensures .0))))
+returns c = sym (c .before .before .before .before .loop .inv ∙ rest-not _ _ _ _ _ _ (c .before .before .before .loop-test .taken)
+    (λ e. c .if1 .taken (c .before .before .word .ensures .0 ∙ e ∙ sym (c .before .word2 .ensures .0))))
 
 add-k : tie.Need-add-k Inv-loop μ-loop
 add-k c = search needs
@@ -43,7 +44,8 @@ loop-less : tie.Need-loop-less Inv-loop μ-loop
 loop-less c = search needs
 
 loop-again : tie.Need-loop-again Inv-loop μ-loop
-loop-again c = c .before .before .before .before .loop .inv ∙ rest-on _ _ _ _ _ _ (c .before .before .before .loop-test .taken) (sym (c .before .before .word .ensures .0) ∙ c .if1 .left ∙ c .before .word2 .ensures .0)
+loop-again c = c .before .before .before .before .loop .inv ∙ rest-on _ _ _ _ _ _ (c .before .before .before .loop-test .taken)
+    (sym (c .before .before .word .ensures .0) ∙ c .if1 .left ∙ c .before .word2 .ensures .0)
 
 returns-2 : tie.Need-returns-2 Inv-loop μ-loop
 returns-2 c = sym (c .before .loop .inv ∙ rest-end _ _ _ _ _ _ (c .loop-test .left))

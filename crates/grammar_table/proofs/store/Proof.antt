@@ -40,10 +40,15 @@ loop-less : tie.Need-loop-less Inv-loop μ-loop
 loop-less c = search needs
 
 loop-again : tie.Need-loop-again Inv-loop μ-loop
-loop-again c = c .before .before .before .before .before .before .loop .inv ∙ stores-on _ _ _ _ _ _ (c .before .before .before .before .before .loop-test .taken) (c .before .before .before .before .word .ensures .0) ∙ ap (λ (l : List ℕ). sets l (c .before .before .before .before .before .before .before .before .before .args .at + (c .before .before .before .before .before .before .loop .k + 1)) (wordsFrom (c .before .before .before .before .before .before .before .before .before .args .from .now) (c .before .before .before .before .before .before .loop .k + 1) (c .before .before .before .before .before .before .before .before .before .args .n - (c .before .before .before .before .before .before .loop .k + 1)))) (sym (c .before .before .put .ensures))
+loop-again c = c .before .before .before .before .before .before .loop .inv ∙ stores-on _ _ _ _ _ _ (c .before .before .before .before .before .loop-test .taken)
+    (c .before .before .before .before .word .ensures .0) ∙ ap
+    (λ (l : List ℕ). sets l (c .before .before .before .before .before .before .before .before .before .args .at + (c .before .before .before .before .before .before .loop .k + 1))
+    (wordsFrom (c .before .before .before .before .before .before .before .before .before .args .from .now) (c .before .before .before .before .before .before .loop .k + 1)
+    (c .before .before .before .before .before .before .before .before .before .args .n - (c .before .before .before .before .before .before .loop .k + 1)))) (sym (c .before .before .put .ensures))
 
 same-length : tie.Need-same-length Inv-loop μ-loop
-same-length c = sym (ap length (c .before .loop .inv ∙ stores-end _ _ _ _ _ (c .loop-test .left))) ∙ length-sets (c .before .before .before .before .args .to .now) (c .before .before .before .before .args .at) (wordsFrom (c .before .before .before .before .args .from .now) 0 (c .before .before .before .before .args .n))
+same-length c = sym (ap length (c .before .loop .inv ∙ stores-end _ _ _ _ _ (c .loop-test .left))) ∙ length-sets (c .before .before .before .before .args .to .now)
+    (c .before .before .before .before .args .at) (wordsFrom (c .before .before .before .before .args .from .now) 0 (c .before .before .before .before .args .n))
 
 returns : tie.Need-returns Inv-loop μ-loop
 returns c = sym (c .before .loop .inv ∙ stores-end _ _ _ _ _ (c .loop-test .left))

@@ -21,10 +21,18 @@ not-matched-requires : tie.Need-not-matched-requires
 not-matched-requires c κs = search needs
 
 returns : tie.Need-returns
-returns c = as-match (c .not-matched .ensures) (match-refused (c .before .before .before .before .before .before .before .before .before .args .mode) (c .before .before .before .before .before .before .before .before .before .args .text .now) (c .before .before .before .before .before .before .before .before .before .args .input .now) (c .before .before .before .before .before .before .before .before .before .args .cells .now) (c .before .before .before .before .before .before .before .before .before .args .nodes .now) (c .before .before .before .plain-only .result) (c .before .before .before .plain-only .ensures .answer) (sym (c .before .before .is-refused .ensures) ∙ c .before .if1 .taken))
+returns c = as-match (c .not-matched .ensures) (match-refused (c .before .before .before .before .before .before .before .before .before .args .mode)
+    (c .before .before .before .before .before .before .before .before .before .args .text .now)
+    (c .before .before .before .before .before .before .before .before .before .args .input .now)
+    (c .before .before .before .before .before .before .before .before .before .args .cells .now)
+    (c .before .before .before .before .before .before .before .before .before .args .nodes .now) (c .before .before .before .plain-only .result)
+    (c .before .before .before .plain-only .ensures .answer) (sym (c .before .before .is-refused .ensures) ∙ c .before .if1 .taken))
 
 run-requires : tie.Need-run-requires
-run-requires c κs = loopless (c .before .before .before .before .before .before .before .before .before .before .before .args .mode) (c .before .before .before .before .before .before .before .before .before .before .before .args .text .now) _ (c .before .before .before .before .before .plain-only .ensures .clear (sym (c .before .before .before .before .is-refused .ensures) ∙ c .before .before .before .if1 .left)) (c .before .before .before .before .before .plain-only .ensures .plain (sym (c .before .before .before .before .is-refused .ensures) ∙ c .before .before .before .if1 .left))
+run-requires c κs = loopless (c .before .before .before .before .before .before .before .before .before .before .before .args .mode)
+    (c .before .before .before .before .before .before .before .before .before .before .before .args .text .now) _
+    (c .before .before .before .before .before .plain-only .ensures .clear (sym (c .before .before .before .before .is-refused .ensures) ∙ c .before .before .before .if1 .left))
+    (c .before .before .before .before .before .plain-only .ensures .plain (sym (c .before .before .before .before .is-refused .ensures) ∙ c .before .before .before .if1 .left))
 
 same-length : tie.Need-same-length
 same-length c = search needs
@@ -33,7 +41,18 @@ same-length-2 : tie.Need-same-length-2
 same-length-2 c = search needs
 
 returns-2 : tie.Need-returns-2
-returns-2 c = match-ran (c .before .before .before .before .before .before .before .before .before .before .before .before .before .before .before .before .args .mode) (c .before .before .before .before .before .before .before .before .before .before .before .before .before .before .before .before .args .text .now) _ (c .before .before .before .before .before .before .before .before .before .before .plain-only .ensures .clear (sym (c .before .before .before .before .before .before .before .before .before .is-refused .ensures) ∙ c .before .before .before .before .before .before .before .before .if1 .left)) (c .before .before .before .before .before .before .before .before .before .before .plain-only .ensures .plain (sym (c .before .before .before .before .before .before .before .before .before .is-refused .ensures) ∙ c .before .before .before .before .before .before .before .before .if1 .left)) (c .before .before .before .before .before .before .before .before .before .before .before .before .before .before .before .before .args .input .now) (c .before .before .before .before .before .before .before .before .before .before .before .before .before .before .before .before .args .cells .now) (c .before .before .before .before .before .before .before .before .before .before .before .before .before .before .before .before .args .nodes .now) _ _ (c .before .before .before .before .run .result) (c .before .before .before .before .run .ensures)
+returns-2 c = match-ran (c .before .before .before .before .before .before .before .before .before .before .before .before .before .before .before .before .args .mode)
+    (c .before .before .before .before .before .before .before .before .before .before .before .before .before .before .before .before .args .text .now) _
+    (c .before .before .before .before .before .before .before .before .before .before .plain-only .ensures .clear
+    (sym (c .before .before .before .before .before .before .before .before .before .is-refused .ensures) ∙
+    c .before .before .before .before .before .before .before .before .if1 .left))
+    (c .before .before .before .before .before .before .before .before .before .before .plain-only .ensures .plain
+    (sym (c .before .before .before .before .before .before .before .before .before .is-refused .ensures) ∙
+    c .before .before .before .before .before .before .before .before .if1 .left))
+    (c .before .before .before .before .before .before .before .before .before .before .before .before .before .before .before .before .args .input .now)
+    (c .before .before .before .before .before .before .before .before .before .before .before .before .before .before .before .before .args .cells .now)
+    (c .before .before .before .before .before .before .before .before .before .before .before .before .before .before .before .before .args .nodes .now) _ _
+    (c .before .before .before .before .run .result) (c .before .before .before .before .run .ensures)
 
 pub match-input-spec : {M : Type 1} → statement M
 match-input-spec =

@@ -25,7 +25,10 @@ not-written-requires : tie.Need-not-written-requires
 not-written-requires c κs = search needs
 
 returns : tie.Need-returns
-returns c = as-text (c .not-written .ensures) (name-refuses (c .before .before .before .before .before .before .before .before .args .mode) (c .before .before .before .before .before .before .before .before .args .text .now) (c .before .before .before .before .before .before .before .before .args .symbol) (c .before .before .before .before .before .before .before .before .args .out .now) (c .before .before .before .before .before .before .before .before .args .out .now) (c .before .before .before .plainly .result) (c .before .before .before .plainly .ensures .answer) (sym (c .before .before .is-refused .ensures) ∙ c .before .if1 .taken) refl)
+returns c = as-text (c .not-written .ensures) (name-refuses (c .before .before .before .before .before .before .before .before .args .mode)
+    (c .before .before .before .before .before .before .before .before .args .text .now) (c .before .before .before .before .before .before .before .before .args .symbol)
+    (c .before .before .before .before .before .before .before .before .args .out .now) (c .before .before .before .before .before .before .before .before .args .out .now)
+    (c .before .before .before .plainly .result) (c .before .before .before .plainly .ensures .answer) (sym (c .before .before .is-refused .ensures) ∙ c .before .if1 .taken) refl)
 
 symbols-requires : tie.Need-symbols-requires
 symbols-requires c κs = search needs
@@ -34,16 +37,44 @@ not-written-requires-2 : tie.Need-not-written-requires-2
 not-written-requires-2 c κs = search needs
 
 returns-2 : tie.Need-returns-2
-returns-2 c = as-text (c .not-written2 .ensures) (name-past (c .before .before .before .before .before .before .before .before .before .before .before .args .mode) (c .before .before .before .before .before .before .before .before .before .before .before .args .text .now) (c .before .before .before .before .before .before .before .before .before .before .before .args .symbol) (c .before .before .before .before .before .before .before .before .before .before .before .args .out .now) (c .before .before .before .before .before .before .before .before .before .before .before .args .out .now) (c .before .before .before .before .before .before .plainly .ensures .clear (sym (c .before .before .before .before .before .is-refused .ensures) ∙ c .before .before .before .before .if1 .left)) _ (c .before .before .before .before .before .before .plainly .ensures .table (sym (c .before .before .before .before .before .is-refused .ensures) ∙ c .before .before .before .before .if1 .left)) (c .before .before .symbols .result) (c .before .before .symbols .ensures) (c .before .if2 .taken) refl)
+returns-2 c = as-text (c .not-written2 .ensures) (name-past (c .before .before .before .before .before .before .before .before .before .before .before .args .mode)
+    (c .before .before .before .before .before .before .before .before .before .before .before .args .text .now)
+    (c .before .before .before .before .before .before .before .before .before .before .before .args .symbol)
+    (c .before .before .before .before .before .before .before .before .before .before .before .args .out .now)
+    (c .before .before .before .before .before .before .before .before .before .before .before .args .out .now)
+    (c .before .before .before .before .before .before .plainly .ensures .clear
+    (sym (c .before .before .before .before .before .is-refused .ensures) ∙ c .before .before .before .before .if1 .left)) _
+    (c .before .before .before .before .before .before .plainly .ensures .table
+    (sym (c .before .before .before .before .before .is-refused .ensures) ∙ c .before .before .before .before .if1 .left)) (c .before .before .symbols .result)
+    (c .before .before .symbols .ensures) (c .before .if2 .taken) refl)
 
 put-name-requires : tie.Need-put-name-requires
-put-name-requires c κs = omega (arith, c .before .before .if2 .left, c .before .before .before .symbols .ensures, (c .before .before .before .before .before .before .before .plainly .ensures .table (sym (c .before .before .before .before .before .before .is-refused .ensures) ∙ c .before .before .before .before .before .if1 .left)) .few-symbols)
+put-name-requires c κs = omega (
+  arith,
+  c .before .before .if2 .left,
+  c .before .before .before .symbols .ensures,
+  (c .before .before .before .before .before .before .before .plainly .ensures .table
+      (sym (c .before .before .before .before .before .before .is-refused .ensures) ∙ c .before .before .before .before .before .if1 .left)) .few-symbols,
+)
 
 same-length : tie.Need-same-length
 same-length c = search needs
 
 returns-3 : tie.Need-returns-3
-returns-3 c = name-puts (c .before .before .before .before .before .before .before .before .before .before .before .before .before .before .before .args .mode) (c .before .before .before .before .before .before .before .before .before .before .before .before .before .before .before .args .text .now) (c .before .before .before .before .before .before .before .before .before .before .before .before .before .before .before .args .symbol) (c .before .before .before .before .before .before .before .before .before .before .before .before .before .before .before .args .out .now) _ (c .before .before .before .before .before .before .before .before .before .before .plainly .ensures .clear (sym (c .before .before .before .before .before .before .before .before .before .is-refused .ensures) ∙ c .before .before .before .before .before .before .before .before .if1 .left)) _ (c .before .before .before .before .before .before .before .before .before .before .plainly .ensures .table (sym (c .before .before .before .before .before .before .before .before .before .is-refused .ensures) ∙ c .before .before .before .before .before .before .before .before .if1 .left)) (c .before .before .before .before .before .before .symbols .result) (c .before .before .before .before .before .before .symbols .ensures) (bytes-of (c .before .before .before .before .before .before .before .before .before .before .before .before .before .before .before .args .text .now) (λ i h. omega (arith, c .before .before .before .before .before .before .before .before .before .before .before .before .before .before .shared-slice-known .given i))) (omega (arith, c .before .before .before .before .before .if2 .left)) (c .before .before .put-name .result) (c .before .before .put-name .ensures)
+returns-3 c = name-puts (c .before .before .before .before .before .before .before .before .before .before .before .before .before .before .before .args .mode)
+    (c .before .before .before .before .before .before .before .before .before .before .before .before .before .before .before .args .text .now)
+    (c .before .before .before .before .before .before .before .before .before .before .before .before .before .before .before .args .symbol)
+    (c .before .before .before .before .before .before .before .before .before .before .before .before .before .before .before .args .out .now) _
+    (c .before .before .before .before .before .before .before .before .before .before .plainly .ensures .clear
+    (sym (c .before .before .before .before .before .before .before .before .before .is-refused .ensures) ∙
+    c .before .before .before .before .before .before .before .before .if1 .left)) _
+    (c .before .before .before .before .before .before .before .before .before .before .plainly .ensures .table
+    (sym (c .before .before .before .before .before .before .before .before .before .is-refused .ensures) ∙
+    c .before .before .before .before .before .before .before .before .if1 .left)) (c .before .before .before .before .before .before .symbols .result)
+    (c .before .before .before .before .before .before .symbols .ensures)
+    (bytes-of (c .before .before .before .before .before .before .before .before .before .before .before .before .before .before .before .args .text .now)
+    (λ i h. omega (arith, c .before .before .before .before .before .before .before .before .before .before .before .before .before .before .shared-slice-known .given i)))
+    (omega (arith, c .before .before .before .before .before .if2 .left)) (c .before .before .put-name .result) (c .before .before .put-name .ensures)
 
 pub symbol-name-spec : {M : Type 1} → statement M
 symbol-name-spec =

@@ -33,10 +33,16 @@ loop-less : tie.Need-loop-less Inv-loop μ-loop
 loop-less c = search needs
 
 loop-again : tie.Need-loop-again Inv-loop μ-loop
-loop-again c = (omega arith, c .hit .ensures ∙ ap (λ (b : Bool). hitIn (c .before .before .before .before .args .t .now) (c .before .before .before .before .args .marks .now) (c .before .before .before .before .args .s) (c .before .before .loop .n) || b) (c .before .before .loop .inv .1) ∙ blocked-next (c .before .before .before .before .args .t .now) (c .before .before .before .before .args .marks .now) (c .before .before .before .before .args .s) (c .before .before .loop .n))
+loop-again c = (
+  omega arith,
+  c .hit .ensures ∙ ap (λ (b : Bool). hitIn (c .before .before .before .before .args .t .now) (c .before .before .before .before .args .marks .now)
+      (c .before .before .before .before .args .s) (c .before .before .loop .n) || b) (c .before .before .loop .inv .1) ∙ blocked-next
+      (c .before .before .before .before .args .t .now) (c .before .before .before .before .args .marks .now) (c .before .before .before .before .args .s) (c .before .before .loop .n),
+)
 
 returns : tie.Need-returns Inv-loop μ-loop
-returns c = let q : (c .before .loop .n) ≡ c .before .before .before .args .r = omega arith in c .before .loop .inv .1 ∙ ap (blockedIn (c .before .before .before .args .t .now) (c .before .before .before .args .marks .now) (c .before .before .before .args .s)) q
+returns c = let q : (c .before .loop .n) ≡ c .before .before .before .args .r = omega arith in c .before .loop .inv .1 ∙ ap
+    (blockedIn (c .before .before .before .args .t .now) (c .before .before .before .args .marks .now) (c .before .before .before .args .s)) q
 
 pub blocked-spec : {M : Type 1} → statement M
 blocked-spec =

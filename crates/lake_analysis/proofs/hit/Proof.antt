@@ -32,10 +32,26 @@ flag-at-requires : tie.Need-flag-at-requires
 flag-at-requires c κs = search needs
 
 returns-3 : tie.Need-returns-3
-returns-3 c = rw (← (c .before .before .before .before .before .member .ensures), not-false (c .before .before .before .before .before .member .result) (c .before .before .before .before .if1 .left), ← (c .before .before .before .is-lake .ensures), c .before .before .if2 .left, ← (c .before .flag-at .ensures), c .if3 .taken)
+returns-3 c = rw (
+  ← (c .before .before .before .before .before .member .ensures),
+  not-false (c .before .before .before .before .before .member .result)
+      (c .before .before .before .before .if1 .left),
+  ← (c .before .before .before .is-lake .ensures),
+  c .before .before .if2 .left,
+  ← (c .before .flag-at .ensures),
+  c .if3 .taken,
+)
 
 returns-4 : tie.Need-returns-4
-returns-4 c = rw (← (c .before .before .before .before .before .member .ensures), not-false (c .before .before .before .before .before .member .result) (c .before .before .before .before .if1 .left), ← (c .before .before .before .is-lake .ensures), c .before .before .if2 .left, ← (c .before .flag-at .ensures), c .if3 .left)
+returns-4 c = rw (
+  ← (c .before .before .before .before .before .member .ensures),
+  not-false (c .before .before .before .before .before .member .result)
+      (c .before .before .before .before .if1 .left),
+  ← (c .before .before .before .is-lake .ensures),
+  c .before .before .if2 .left,
+  ← (c .before .flag-at .ensures),
+  c .if3 .left,
+)
 
 pub hit-spec : {M : Type 1} → statement M
 hit-spec =

@@ -29,7 +29,11 @@ flag-at-requires : tie.Need-flag-at-requires
 flag-at-requires c κs = search needs
 
 returns : tie.Need-returns
-returns c = sets-of (c .before .before .before .before .before .before .before .before .args .sets .now) (c .before .before .before .before .before .before .before .before .args .eps .now) (c .before .before .before .before .before .before .before .before .args .succ .now) (c .before .before .before .before .before .before .before .before .args .alts .now) (c .before .before .before .before .before .before .before .before .args .e) _ (c .before .before .before .before .before .before .before .before .pre) (c .before .before .before .before .before .before .set-at .ensures) (c .flag-at .ensures) (c .before .before .before .before .set-at2 .ensures) (c .before .before .set-at3 .ensures)
+returns c = sets-of (c .before .before .before .before .before .before .before .before .args .sets .now)
+    (c .before .before .before .before .before .before .before .before .args .eps .now) (c .before .before .before .before .before .before .before .before .args .succ .now)
+    (c .before .before .before .before .before .before .before .before .args .alts .now) (c .before .before .before .before .before .before .before .before .args .e) _
+    (c .before .before .before .before .before .before .before .before .pre) (c .before .before .before .before .before .before .set-at .ensures) (c .flag-at .ensures)
+    (c .before .before .before .before .set-at2 .ensures) (c .before .before .set-at3 .ensures)
 
 pub sets-at-spec : {M : Type 1} → statement M
 sets-at-spec =

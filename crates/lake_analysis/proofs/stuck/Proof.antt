@@ -31,7 +31,10 @@ blocked-requires : tie.Need-blocked-requires
 blocked-requires c κs = search needs
 
 returns : tie.Need-returns
-returns c = rw (← (c .before .before .before .before .is-lake .ensures), c .before .before .before .if1 .taken) (c .blocked .ensures ∙ ap (λ (s : List ℕ). blockedIn (c .before .before .before .before .before .before .args .t .now) (c .before .before .before .before .before .before .args .marks .now) s (c .before .before .before .before .before .before .args .r)) (c .before .set-at .ensures ∙ ap (λ (i : ℕ). getD (c .before .before .before .before .before .before .args .alts .now) i empty) (c .before .before .root .ensures)))
+returns c = rw (← (c .before .before .before .before .is-lake .ensures), c .before .before .before .if1 .taken)
+    (c .blocked .ensures ∙ ap (λ (s : List ℕ). blockedIn (c .before .before .before .before .before .before .args .t .now)
+    (c .before .before .before .before .before .before .args .marks .now) s (c .before .before .before .before .before .before .args .r))
+    (c .before .set-at .ensures ∙ ap (λ (i : ℕ). getD (c .before .before .before .before .before .before .args .alts .now) i empty) (c .before .before .root .ensures)))
 
 returns-2 : tie.Need-returns-2
 returns-2 c = rw (← (c .before .is-lake .ensures), c .if1 .left)

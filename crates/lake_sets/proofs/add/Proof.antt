@@ -24,9 +24,18 @@ add-result : tie.Need-add-result
 add-result c = search needs
 
 returns : tie.Need-returns
-returns c = subst (λ (x : List ℕ). Grown (c .before .before .before .before .before .args .src .now) (c .before .before .before .before .before .args .dst .now) (c .before .before .before .before .before .args .m) (kept (c .before .before .before .before .before .args .n) (edge (c .before .before .before .before .before .args .from) (c .before .before .before .before .before .args .to) ∷ [])) x (c .store2 .last .0) (c .before .before .before .before .before .args .m + 1)) (sym (c .before .before .store .ensures))
-    (subst (λ (y : List ℕ). Grown (c .before .before .before .before .before .args .src .now) (c .before .before .before .before .before .args .dst .now) (c .before .before .before .before .before .args .m) (kept (c .before .before .before .before .before .args .n) (edge (c .before .before .before .before .before .args .from) (c .before .before .before .before .before .args .to) ∷ [])) (set (c .before .before .before .before .before .args .src .now) (c .before .before .before .before .before .args .m) (c .before .before .before .before .before .args .from)) y (c .before .before .before .before .before .args .m + 1)) (sym (c .store2 .ensures))
-    (grown-one (c .before .before .before .before .before .args .src .now) (c .before .before .before .before .before .args .dst .now) (c .before .before .before .before .before .args .m) (c .before .before .before .before .before .args .from) (c .before .before .before .before .before .args .to) (c .before .before .before .before .before .args .n) (omega arith) (omega arith) (omega arith)))
+returns c = subst (λ (x : List ℕ). Grown (c .before .before .before .before .before .args .src .now) (c .before .before .before .before .before .args .dst .now)
+    (c .before .before .before .before .before .args .m) (kept (c .before .before .before .before .before .args .n)
+    (edge (c .before .before .before .before .before .args .from) (c .before .before .before .before .before .args .to) ∷ [])) x (c .store2 .last .0)
+    (c .before .before .before .before .before .args .m + 1)) (sym (c .before .before .store .ensures))
+    (subst (λ (y : List ℕ). Grown (c .before .before .before .before .before .args .src .now) (c .before .before .before .before .before .args .dst .now)
+    (c .before .before .before .before .before .args .m) (kept (c .before .before .before .before .before .args .n)
+    (edge (c .before .before .before .before .before .args .from) (c .before .before .before .before .before .args .to) ∷ []))
+    (set (c .before .before .before .before .before .args .src .now) (c .before .before .before .before .before .args .m)
+    (c .before .before .before .before .before .args .from)) y (c .before .before .before .before .before .args .m + 1)) (sym (c .store2 .ensures))
+    (grown-one (c .before .before .before .before .before .args .src .now) (c .before .before .before .before .before .args .dst .now)
+    (c .before .before .before .before .before .args .m) (c .before .before .before .before .before .args .from) (c .before .before .before .before .before .args .to)
+    (c .before .before .before .before .before .args .n) (omega arith) (omega arith) (omega arith)))
 
 returns-2 : tie.Need-returns-2
 returns-2 c = grown-none (c .before .args .src .now) (c .before .args .dst .now) (c .before .args .m) (c .before .args .from) (c .before .args .to) (c .before .args .n) (omega arith)

@@ -18,10 +18,20 @@ add-requires : tie.Need-add-requires
 add-requires c κs = search needs
 
 add-requires-2 : tie.Need-add-requires-2
-add-requires-2 c κs = let h : length (kept (c .before .before .before .before .before .args .n) (edge (c .before .before .before .before .before .args .from) (c .before .before .before .before .before .args .x) ∷ [])) ≤ length (edge (c .before .before .before .before .before .args .from) (c .before .before .before .before .before .args .x) ∷ []) = kept-long (c .before .before .before .before .before .args .n) (edge (c .before .before .before .before .before .args .from) (c .before .before .before .before .before .args .x) ∷ []) in omega (arith, c .before .before .add .ensures .most)
+add-requires-2 c κs = let h : length (kept (c .before .before .before .before .before .args .n)
+    (edge (c .before .before .before .before .before .args .from) (c .before .before .before .before .before .args .x) ∷ [])) ≤ length
+    (edge (c .before .before .before .before .before .args .from) (c .before .before .before .before .before .args .x) ∷ []) = kept-long
+    (c .before .before .before .before .before .args .n) (edge (c .before .before .before .before .before .args .from)
+    (c .before .before .before .before .before .args .x) ∷ []) in omega (arith, c .before .before .add .ensures .most)
 
 returns : tie.Need-returns
-returns c = grown-two (c .before .before .before .before .before .before .args .src .now) (c .before .before .before .before .before .before .args .dst .now) (c .before .before .before .add .last .0) (c .before .before .before .add .last .1 .0) (c .add2 .last .0) (c .add2 .last .1 .0) (c .before .before .before .before .before .before .args .m) (c .before .before .before .add .result) (c .add2 .result) (c .before .before .before .before .before .before .args .n) (edge (c .before .before .before .before .before .before .args .from) (c .before .before .before .before .before .before .args .x) ∷ []) (edge (c .before .before .before .before .before .before .args .from) (c .before .before .before .before .before .before .args .y) ∷ []) (c .before .before .before .add .ensures) (c .add2 .ensures)
+returns c = grown-two (c .before .before .before .before .before .before .args .src .now) (c .before .before .before .before .before .before .args .dst .now)
+    (c .before .before .before .add .last .0) (c .before .before .before .add .last .1 .0) (c .add2 .last .0) (c .add2 .last .1 .0)
+    (c .before .before .before .before .before .before .args .m) (c .before .before .before .add .result) (c .add2 .result)
+    (c .before .before .before .before .before .before .args .n)
+    (edge (c .before .before .before .before .before .before .args .from) (c .before .before .before .before .before .before .args .x) ∷ [])
+    (edge (c .before .before .before .before .before .before .args .from) (c .before .before .before .before .before .before .args .y) ∷ [])
+    (c .before .before .before .add .ensures) (c .add2 .ensures)
 
 pub add-two-spec : {M : Type 1} → statement M
 add-two-spec = tie.close (tie.spec add-requires add-requires-2 returns)

@@ -29,33 +29,70 @@ clear-requires : tie.Need-clear-requires Inv-loop μ-loop
 clear-requires c κs = search needs
 
 loop-holds : tie.Need-loop-holds Inv-loop μ-loop
-loop-holds c = (omega arith, refl, sym (ap (λ (gs : List Gift). given gs (c .before .clear .last .0)) (over-none (altGifts (pairAt (c .before .before .before .before .args .sets .now) (c .before .before .before .before .args .eps .now)) (rootIn (c .before .before .before .before .args .t .now)) (λ i. getD (c .before .before .before .before .args .succ .now) i empty)) (partIn (c .before .before .before .before .args .t .now))) ∙ given-none (c .before .clear .last .0)), none-fine (length (c .before .before .before .before .args .base .now)) (c .before .clear .last .0) (c .before .clear .ensures))
+loop-holds c = (
+  omega arith,
+  refl,
+  sym (ap (λ (gs : List Gift). given gs (c .before .clear .last .0))
+      (over-none (altGifts (pairAt (c .before .before .before .before .args .sets .now) (c .before .before .before .before .args .eps .now))
+      (rootIn (c .before .before .before .before .args .t .now)) (λ i. getD (c .before .before .before .before .args .succ .now) i empty))
+      (partIn (c .before .before .before .before .args .t .now))) ∙ given-none (c .before .clear .last .0)),
+  none-fine (length (c .before .before .before .before .args .base .now))
+      (c .before .clear .last .0) (c .before .clear .ensures),
+)
 
 alt-gift-requires : tie.Need-alt-gift-requires Inv-loop μ-loop
-alt-gift-requires c κs = let q : length (c .before .before .before .before .clear .last .0) ≡ length (c .before .before .before .before .before .before .before .args .base .now) = ap length (c .before .before .before .before .clear .ensures) ∙ length-replicate (length (c .before .before .before .before .before .before .before .args .base .now)) empty in omega arith
+alt-gift-requires c κs = let q : length (c .before .before .before .before .clear .last .0) ≡ length
+    (c .before .before .before .before .before .before .before .args .base .now) = ap length (c .before .before .before .before .clear .ensures) ∙ length-replicate
+    (length (c .before .before .before .before .before .before .before .args .base .now)) empty in omega arith
 
 add-e : tie.Need-add-e Inv-loop μ-loop
-add-e c = let q : length (c .before .before .before .before .before .before .clear .last .0) ≡ length (c .before .before .before .before .before .before .before .before .before .args .base .now) = ap length (c .before .before .before .before .before .before .clear .ensures) ∙ length-replicate (length (c .before .before .before .before .before .before .before .before .before .args .base .now)) empty in omega arith
+add-e c = let q : length (c .before .before .before .before .before .before .clear .last .0) ≡ length
+    (c .before .before .before .before .before .before .before .before .before .args .base .now) = ap length
+    (c .before .before .before .before .before .before .clear .ensures) ∙ length-replicate
+    (length (c .before .before .before .before .before .before .before .before .before .args .base .now)) empty in omega arith
 
 loop-less : tie.Need-loop-less Inv-loop μ-loop
 loop-less c = omega arith
 
 loop-again : tie.Need-loop-again Inv-loop μ-loop
-loop-again c = let gs = (altGifts (pairAt (c .before .before .before .before .before .before .before .before .before .args .sets .now) (c .before .before .before .before .before .before .before .before .before .args .eps .now)) (rootIn (c .before .before .before .before .before .before .before .before .before .args .t .now)) (λ i. getD (c .before .before .before .before .before .before .before .before .before .args .succ .now) i empty)) (c .before .before .before .before .loop .e) (partIn (c .before .before .before .before .before .before .before .before .before .args .t .now) (c .before .before .before .before .loop .e)) in
-    let q : length (c .before .alt-gift .last .1 .1 .1 .1 .0) ≡ length (c .before .before .before .before .loop .base) = ap length (c .before .alt-gift .ensures .is) ∙ given-long gs (c .before .before .before .before .loop .base) in (
+loop-again c = let gs = (altGifts (pairAt (c .before .before .before .before .before .before .before .before .before .args .sets .now)
+    (c .before .before .before .before .before .before .before .before .before .args .eps .now))
+    (rootIn (c .before .before .before .before .before .before .before .before .before .args .t .now))
+    (λ i. getD (c .before .before .before .before .before .before .before .before .before .args .succ .now) i empty)) (c .before .before .before .before .loop .e)
+    (partIn (c .before .before .before .before .before .before .before .before .before .args .t .now) (c .before .before .before .before .loop .e)) in
+    let q : length (c .before .alt-gift .last .1 .1 .1 .1 .0) ≡ length (c .before .before .before .before .loop .base) = ap length
+    (c .before .alt-gift .ensures .is) ∙ given-long gs (c .before .before .before .before .loop .base) in (
       omega arith,
       omega arith,
-      c .before .alt-gift .ensures .is ∙ ap (given gs) (c .before .before .before .before .loop .inv .2) ∙ sym (ap (λ (l : List Gift). given l (c .before .before .before .before .before .before .clear .last .0)) (over-next (altGifts (pairAt (c .before .before .before .before .before .before .before .before .before .args .sets .now) (c .before .before .before .before .before .before .before .before .before .args .eps .now)) (rootIn (c .before .before .before .before .before .before .before .before .before .args .t .now)) (λ i. getD (c .before .before .before .before .before .before .before .before .before .args .succ .now) i empty)) (partIn (c .before .before .before .before .before .before .before .before .before .args .t .now)) (c .before .before .before .before .loop .e)) ∙ given-append (altGiven (c .before .before .before .before .before .before .before .before .before .args .t .now) (c .before .before .before .before .before .before .before .before .before .args .sets .now) (c .before .before .before .before .before .before .before .before .before .args .eps .now) (c .before .before .before .before .before .before .before .before .before .args .succ .now) (c .before .before .before .before .loop .e)) gs (c .before .before .before .before .before .before .clear .last .0)),
+      c .before .alt-gift .ensures .is ∙ ap (given gs) (c .before .before .before .before .loop .inv .2) ∙ sym
+          (ap (λ (l : List Gift). given l (c .before .before .before .before .before .before .clear .last .0))
+          (over-next (altGifts (pairAt (c .before .before .before .before .before .before .before .before .before .args .sets .now)
+          (c .before .before .before .before .before .before .before .before .before .args .eps .now))
+          (rootIn (c .before .before .before .before .before .before .before .before .before .args .t .now))
+          (λ i. getD (c .before .before .before .before .before .before .before .before .before .args .succ .now) i empty))
+          (partIn (c .before .before .before .before .before .before .before .before .before .args .t .now)) (c .before .before .before .before .loop .e)) ∙ given-append
+          (altGiven (c .before .before .before .before .before .before .before .before .before .args .t .now)
+          (c .before .before .before .before .before .before .before .before .before .args .sets .now)
+          (c .before .before .before .before .before .before .before .before .before .args .eps .now)
+          (c .before .before .before .before .before .before .before .before .before .args .succ .now) (c .before .before .before .before .loop .e)) gs
+          (c .before .before .before .before .before .before .clear .last .0)),
       c .before .alt-gift .ensures .fine (c .before .before .before .before .loop .inv .3),
     )
 
 same-length : tie.Need-same-length Inv-loop μ-loop
-same-length c = let q : length (c .before .before .before .clear .last .0) ≡ length (c .before .before .before .before .before .before .args .base .now) = ap length (c .before .before .before .clear .ensures) ∙ length-replicate (length (c .before .before .before .before .before .before .args .base .now)) empty in omega arith
+same-length c = let q : length (c .before .before .before .clear .last .0) ≡ length (c .before .before .before .before .before .before .args .base .now) = ap length
+    (c .before .before .before .clear .ensures) ∙ length-replicate (length (c .before .before .before .before .before .before .args .base .now)) empty in omega arith
 
 returns : tie.Need-returns Inv-loop μ-loop
-returns c = let q : length (c .before .before .before .clear .last .0) ≡ length (c .before .before .before .before .before .before .args .base .now) = ap length (c .before .before .before .clear .ensures) ∙ length-replicate (length (c .before .before .before .before .before .before .args .base .now)) empty in
-    let e : (c .before .loop .e) ≡ length (c .before .before .before .before .before .before .args .base .now) = omega arith in
-    (c .before .loop .inv .2 ∙ ap₂ (λ (k : ℕ) (b : List (List ℕ)). given (altGiven (c .before .before .before .before .before .before .args .t .now) (c .before .before .before .before .before .before .args .sets .now) (c .before .before .before .before .before .before .args .eps .now) (c .before .before .before .before .before .before .args .succ .now) k) b) e (c .before .before .before .clear .ensures), c .before .loop .inv .3)
+returns c = let q : length (c .before .before .before .clear .last .0) ≡ length (c .before .before .before .before .before .before .args .base .now) = ap length
+    (c .before .before .before .clear .ensures) ∙ length-replicate (length (c .before .before .before .before .before .before .args .base .now)) empty in
+    let e : (c .before .loop .e) ≡ length (c .before .before .before .before .before .before .args .base .now) = omega arith in (
+      c .before .loop .inv .2 ∙ ap₂ (λ (k : ℕ) (b : List (List ℕ)). given
+          (altGiven (c .before .before .before .before .before .before .args .t .now) (c .before .before .before .before .before .before .args .sets .now)
+          (c .before .before .before .before .before .before .args .eps .now) (c .before .before .before .before .before .before .args .succ .now) k) b) e
+          (c .before .before .before .clear .ensures),
+      c .before .loop .inv .3,
+    )
 
 pub alt-base-spec : {M : Type 1} → statement M
 alt-base-spec =

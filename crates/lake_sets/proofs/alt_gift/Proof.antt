@@ -43,15 +43,85 @@ same-length : tie.Need-same-length
 same-length c = search needs
 
 returns : tie.Need-returns
-returns c = gave-as (c .before .before .before .before .before .before .before .before .before .before .before .before .before .args .base .now) (c .before .gift2 .last .0) (gift (c .before .before .before .before .before .before .before .before .before .before .before .node .result .left) (c .before .before .before .before .before .before .before .before .set-at .result) ∷ gift (c .before .before .before .before .before .before .before .before .before .before .before .node .result .left) (c .before .before .set-at2 .result) ∷ []) (altGifts (pairAt (c .before .before .before .before .before .before .before .before .before .before .before .before .before .args .sets .now) (c .before .before .before .before .before .before .before .before .before .before .before .before .before .args .eps .now)) (rootIn (c .before .before .before .before .before .before .before .before .before .before .before .before .before .args .t .now)) (λ i. getD (c .before .before .before .before .before .before .before .before .before .before .before .before .before .args .succ .now) i empty) (c .before .before .before .before .before .before .before .before .before .before .before .before .before .args .e) (partBy (c .before .before .before .before .before .before .before .before .before .before .before .node .result .op) (c .before .before .before .before .before .before .before .before .before .before .before .node .result .left) (c .before .before .before .before .before .before .before .before .before .before .before .node .result .right))) (altGifts (pairAt (c .before .before .before .before .before .before .before .before .before .before .before .before .before .args .sets .now) (c .before .before .before .before .before .before .before .before .before .before .before .before .before .args .eps .now)) (rootIn (c .before .before .before .before .before .before .before .before .before .before .before .before .before .args .t .now)) (λ i. getD (c .before .before .before .before .before .before .before .before .before .before .before .before .before .args .succ .now) i empty) (c .before .before .before .before .before .before .before .before .before .before .before .before .before .args .e) (partIn (c .before .before .before .before .before .before .before .before .before .before .before .before .before .args .t .now) (c .before .before .before .before .before .before .before .before .before .before .before .before .before .args .e))) (gave-two (gift (c .before .before .before .before .before .before .before .before .before .before .before .node .result .left) (c .before .before .before .before .before .before .before .before .set-at .result) ∷ []) (gift (c .before .before .before .before .before .before .before .before .before .before .before .node .result .left) (c .before .before .set-at2 .result) ∷ []) (c .before .before .before .before .before .before .before .before .before .before .before .before .before .args .base .now) (c .before .before .before .before .before .before .before .gift .last .0) (c .before .gift2 .last .0) (c .before .before .before .before .before .before .before .gift .ensures) (c .before .gift2 .ensures))
-    (ap₂ (λ (s u : List ℕ). gift (c .before .before .before .before .before .before .before .before .before .before .before .node .result .left) s ∷ gift (c .before .before .before .before .before .before .before .before .before .before .before .node .result .left) u ∷ []) (c .before .before .before .before .before .before .before .before .set-at .ensures) (c .before .before .set-at2 .ensures) ∙ alt-choice (pairAt (c .before .before .before .before .before .before .before .before .before .before .before .before .before .args .sets .now) (c .before .before .before .before .before .before .before .before .before .before .before .before .before .args .eps .now)) (rootIn (c .before .before .before .before .before .before .before .before .before .before .before .before .before .args .t .now)) (λ i. getD (c .before .before .before .before .before .before .before .before .before .before .before .before .before .args .succ .now) i empty) (c .before .before .before .before .before .before .before .before .before .before .before .before .before .args .e) (c .before .before .before .before .before .before .before .before .before .before .before .node .result .op) (c .before .before .before .before .before .before .before .before .before .before .before .node .result .left) (c .before .before .before .before .before .before .before .before .before .before .before .node .result .right) (c .before .before .before .before .before .before .before .before .before .before .match .keys1) (sym (c .before .before .before .before .before .flag-at .ensures) ∙ c .before .before .before .before .if1 .taken)) (ap (altGifts (pairAt (c .before .before .before .before .before .before .before .before .before .before .before .before .before .args .sets .now) (c .before .before .before .before .before .before .before .before .before .before .before .before .before .args .eps .now)) (rootIn (c .before .before .before .before .before .before .before .before .before .before .before .before .before .args .t .now)) (λ i. getD (c .before .before .before .before .before .before .before .before .before .before .before .before .before .args .succ .now) i empty) (c .before .before .before .before .before .before .before .before .before .before .before .before .before .args .e)) (c .before .before .before .before .before .before .before .before .before .before .before .node .ensures .0))
+returns c = gave-as (c .before .before .before .before .before .before .before .before .before .before .before .before .before .args .base .now) (c .before .gift2 .last .0)
+    (gift (c .before .before .before .before .before .before .before .before .before .before .before .node .result .left)
+    (c .before .before .before .before .before .before .before .before .set-at .result) ∷ gift
+    (c .before .before .before .before .before .before .before .before .before .before .before .node .result .left) (c .before .before .set-at2 .result) ∷ [])
+    (altGifts (pairAt (c .before .before .before .before .before .before .before .before .before .before .before .before .before .args .sets .now)
+    (c .before .before .before .before .before .before .before .before .before .before .before .before .before .args .eps .now))
+    (rootIn (c .before .before .before .before .before .before .before .before .before .before .before .before .before .args .t .now))
+    (λ i. getD (c .before .before .before .before .before .before .before .before .before .before .before .before .before .args .succ .now) i empty)
+    (c .before .before .before .before .before .before .before .before .before .before .before .before .before .args .e)
+    (partBy (c .before .before .before .before .before .before .before .before .before .before .before .node .result .op)
+    (c .before .before .before .before .before .before .before .before .before .before .before .node .result .left)
+    (c .before .before .before .before .before .before .before .before .before .before .before .node .result .right)))
+    (altGifts (pairAt (c .before .before .before .before .before .before .before .before .before .before .before .before .before .args .sets .now)
+    (c .before .before .before .before .before .before .before .before .before .before .before .before .before .args .eps .now))
+    (rootIn (c .before .before .before .before .before .before .before .before .before .before .before .before .before .args .t .now))
+    (λ i. getD (c .before .before .before .before .before .before .before .before .before .before .before .before .before .args .succ .now) i empty)
+    (c .before .before .before .before .before .before .before .before .before .before .before .before .before .args .e)
+    (partIn (c .before .before .before .before .before .before .before .before .before .before .before .before .before .args .t .now)
+    (c .before .before .before .before .before .before .before .before .before .before .before .before .before .args .e)))
+    (gave-two (gift (c .before .before .before .before .before .before .before .before .before .before .before .node .result .left)
+    (c .before .before .before .before .before .before .before .before .set-at .result) ∷ [])
+    (gift (c .before .before .before .before .before .before .before .before .before .before .before .node .result .left) (c .before .before .set-at2 .result) ∷ [])
+    (c .before .before .before .before .before .before .before .before .before .before .before .before .before .args .base .now)
+    (c .before .before .before .before .before .before .before .gift .last .0) (c .before .gift2 .last .0)
+    (c .before .before .before .before .before .before .before .gift .ensures) (c .before .gift2 .ensures))
+    (ap₂ (λ (s u : List ℕ). gift (c .before .before .before .before .before .before .before .before .before .before .before .node .result .left) s ∷ gift
+    (c .before .before .before .before .before .before .before .before .before .before .before .node .result .left) u ∷ [])
+    (c .before .before .before .before .before .before .before .before .set-at .ensures) (c .before .before .set-at2 .ensures) ∙ alt-choice
+    (pairAt (c .before .before .before .before .before .before .before .before .before .before .before .before .before .args .sets .now)
+    (c .before .before .before .before .before .before .before .before .before .before .before .before .before .args .eps .now))
+    (rootIn (c .before .before .before .before .before .before .before .before .before .before .before .before .before .args .t .now))
+    (λ i. getD (c .before .before .before .before .before .before .before .before .before .before .before .before .before .args .succ .now) i empty)
+    (c .before .before .before .before .before .before .before .before .before .before .before .before .before .args .e)
+    (c .before .before .before .before .before .before .before .before .before .before .before .node .result .op)
+    (c .before .before .before .before .before .before .before .before .before .before .before .node .result .left)
+    (c .before .before .before .before .before .before .before .before .before .before .before .node .result .right)
+    (c .before .before .before .before .before .before .before .before .before .before .match .keys1)
+    (sym (c .before .before .before .before .before .flag-at .ensures) ∙ c .before .before .before .before .if1 .taken))
+    (ap (altGifts (pairAt (c .before .before .before .before .before .before .before .before .before .before .before .before .before .args .sets .now)
+    (c .before .before .before .before .before .before .before .before .before .before .before .before .before .args .eps .now))
+    (rootIn (c .before .before .before .before .before .before .before .before .before .before .before .before .before .args .t .now))
+    (λ i. getD (c .before .before .before .before .before .before .before .before .before .before .before .before .before .args .succ .now) i empty)
+    (c .before .before .before .before .before .before .before .before .before .before .before .before .before .args .e))
+    (c .before .before .before .before .before .before .before .before .before .before .before .node .ensures .0))
 
 same-length-2 : tie.Need-same-length-2
 same-length-2 c = search needs
 
 returns-2 : tie.Need-returns-2
-returns-2 c = gave-as (c .before .before .before .before .before .before .before .before .before .args .base .now) (c .before .before .before .gift .last .0) (gift (c .before .before .before .before .before .before .before .node .result .left) (c .before .before .before .before .set-at .result) ∷ []) (altGifts (pairAt (c .before .before .before .before .before .before .before .before .before .args .sets .now) (c .before .before .before .before .before .before .before .before .before .args .eps .now)) (rootIn (c .before .before .before .before .before .before .before .before .before .args .t .now)) (λ i. getD (c .before .before .before .before .before .before .before .before .before .args .succ .now) i empty) (c .before .before .before .before .before .before .before .before .before .args .e) (partBy (c .before .before .before .before .before .before .before .node .result .op) (c .before .before .before .before .before .before .before .node .result .left) (c .before .before .before .before .before .before .before .node .result .right))) (altGifts (pairAt (c .before .before .before .before .before .before .before .before .before .args .sets .now) (c .before .before .before .before .before .before .before .before .before .args .eps .now)) (rootIn (c .before .before .before .before .before .before .before .before .before .args .t .now)) (λ i. getD (c .before .before .before .before .before .before .before .before .before .args .succ .now) i empty) (c .before .before .before .before .before .before .before .before .before .args .e) (partIn (c .before .before .before .before .before .before .before .before .before .args .t .now) (c .before .before .before .before .before .before .before .before .before .args .e))) (c .before .before .before .gift .ensures)
-    (ap (λ (s : List ℕ). gift (c .before .before .before .before .before .before .before .node .result .left) s ∷ []) (c .before .before .before .before .set-at .ensures) ∙ alt-choice-off (pairAt (c .before .before .before .before .before .before .before .before .before .args .sets .now) (c .before .before .before .before .before .before .before .before .before .args .eps .now)) (rootIn (c .before .before .before .before .before .before .before .before .before .args .t .now)) (λ i. getD (c .before .before .before .before .before .before .before .before .before .args .succ .now) i empty) (c .before .before .before .before .before .before .before .before .before .args .e) (c .before .before .before .before .before .before .before .node .result .op) (c .before .before .before .before .before .before .before .node .result .left) (c .before .before .before .before .before .before .before .node .result .right) (c .before .before .before .before .before .before .match .keys1) (sym (c .before .flag-at .ensures) ∙ c .if1 .left)) (ap (altGifts (pairAt (c .before .before .before .before .before .before .before .before .before .args .sets .now) (c .before .before .before .before .before .before .before .before .before .args .eps .now)) (rootIn (c .before .before .before .before .before .before .before .before .before .args .t .now)) (λ i. getD (c .before .before .before .before .before .before .before .before .before .args .succ .now) i empty) (c .before .before .before .before .before .before .before .before .before .args .e)) (c .before .before .before .before .before .before .before .node .ensures .0))
+returns-2 c = gave-as (c .before .before .before .before .before .before .before .before .before .args .base .now) (c .before .before .before .gift .last .0)
+    (gift (c .before .before .before .before .before .before .before .node .result .left) (c .before .before .before .before .set-at .result) ∷ [])
+    (altGifts (pairAt (c .before .before .before .before .before .before .before .before .before .args .sets .now)
+    (c .before .before .before .before .before .before .before .before .before .args .eps .now))
+    (rootIn (c .before .before .before .before .before .before .before .before .before .args .t .now))
+    (λ i. getD (c .before .before .before .before .before .before .before .before .before .args .succ .now) i empty)
+    (c .before .before .before .before .before .before .before .before .before .args .e)
+    (partBy (c .before .before .before .before .before .before .before .node .result .op) (c .before .before .before .before .before .before .before .node .result .left)
+    (c .before .before .before .before .before .before .before .node .result .right)))
+    (altGifts (pairAt (c .before .before .before .before .before .before .before .before .before .args .sets .now)
+    (c .before .before .before .before .before .before .before .before .before .args .eps .now))
+    (rootIn (c .before .before .before .before .before .before .before .before .before .args .t .now))
+    (λ i. getD (c .before .before .before .before .before .before .before .before .before .args .succ .now) i empty)
+    (c .before .before .before .before .before .before .before .before .before .args .e)
+    (partIn (c .before .before .before .before .before .before .before .before .before .args .t .now)
+    (c .before .before .before .before .before .before .before .before .before .args .e))) (c .before .before .before .gift .ensures)
+    (ap (λ (s : List ℕ). gift (c .before .before .before .before .before .before .before .node .result .left) s ∷ [])
+    (c .before .before .before .before .set-at .ensures) ∙ alt-choice-off
+    (pairAt (c .before .before .before .before .before .before .before .before .before .args .sets .now)
+    (c .before .before .before .before .before .before .before .before .before .args .eps .now))
+    (rootIn (c .before .before .before .before .before .before .before .before .before .args .t .now))
+    (λ i. getD (c .before .before .before .before .before .before .before .before .before .args .succ .now) i empty)
+    (c .before .before .before .before .before .before .before .before .before .args .e) (c .before .before .before .before .before .before .before .node .result .op)
+    (c .before .before .before .before .before .before .before .node .result .left) (c .before .before .before .before .before .before .before .node .result .right)
+    (c .before .before .before .before .before .before .match .keys1) (sym (c .before .flag-at .ensures) ∙ c .if1 .left))
+    (ap (altGifts (pairAt (c .before .before .before .before .before .before .before .before .before .args .sets .now)
+    (c .before .before .before .before .before .before .before .before .before .args .eps .now))
+    (rootIn (c .before .before .before .before .before .before .before .before .before .args .t .now))
+    (λ i. getD (c .before .before .before .before .before .before .before .before .before .args .succ .now) i empty)
+    (c .before .before .before .before .before .before .before .before .before .args .e)) (c .before .before .before .before .before .before .before .node .ensures .0))
 
 set-at-requires-3 : tie.Need-set-at-requires-3
 set-at-requires-3 c κs = search needs
@@ -63,8 +133,27 @@ same-length-3 : tie.Need-same-length-3
 same-length-3 c = search needs
 
 returns-3 : tie.Need-returns-3
-returns-3 c = gave-as (c .before .before .before .before .before .before .before .args .base .now) (c .before .gift3 .last .0) (gift (c .before .before .before .before .before .node .result .left) (c .before .before .set-at3 .result) ∷ []) (altGifts (pairAt (c .before .before .before .before .before .before .before .args .sets .now) (c .before .before .before .before .before .before .before .args .eps .now)) (rootIn (c .before .before .before .before .before .before .before .args .t .now)) (λ i. getD (c .before .before .before .before .before .before .before .args .succ .now) i empty) (c .before .before .before .before .before .before .before .args .e) (partBy (c .before .before .before .before .before .node .result .op) (c .before .before .before .before .before .node .result .left) (c .before .before .before .before .before .node .result .right))) (altGifts (pairAt (c .before .before .before .before .before .before .before .args .sets .now) (c .before .before .before .before .before .before .before .args .eps .now)) (rootIn (c .before .before .before .before .before .before .before .args .t .now)) (λ i. getD (c .before .before .before .before .before .before .before .args .succ .now) i empty) (c .before .before .before .before .before .before .before .args .e) (partIn (c .before .before .before .before .before .before .before .args .t .now) (c .before .before .before .before .before .before .before .args .e))) (c .before .gift3 .ensures)
-    (ap (λ (s : List ℕ). gift (c .before .before .before .before .before .node .result .left) s ∷ []) (c .before .before .set-at3 .ensures) ∙ alt-option (pairAt (c .before .before .before .before .before .before .before .args .sets .now) (c .before .before .before .before .before .before .before .args .eps .now)) (rootIn (c .before .before .before .before .before .before .before .args .t .now)) (λ i. getD (c .before .before .before .before .before .before .before .args .succ .now) i empty) (c .before .before .before .before .before .before .before .args .e) (c .before .before .before .before .before .node .result .op) (c .before .before .before .before .before .node .result .left) (c .before .before .before .before .before .node .result .right) (c .before .before .before .before .match .keys2)) (ap (altGifts (pairAt (c .before .before .before .before .before .before .before .args .sets .now) (c .before .before .before .before .before .before .before .args .eps .now)) (rootIn (c .before .before .before .before .before .before .before .args .t .now)) (λ i. getD (c .before .before .before .before .before .before .before .args .succ .now) i empty) (c .before .before .before .before .before .before .before .args .e)) (c .before .before .before .before .before .node .ensures .0))
+returns-3 c = gave-as (c .before .before .before .before .before .before .before .args .base .now) (c .before .gift3 .last .0)
+    (gift (c .before .before .before .before .before .node .result .left) (c .before .before .set-at3 .result) ∷ [])
+    (altGifts (pairAt (c .before .before .before .before .before .before .before .args .sets .now) (c .before .before .before .before .before .before .before .args .eps .now))
+    (rootIn (c .before .before .before .before .before .before .before .args .t .now))
+    (λ i. getD (c .before .before .before .before .before .before .before .args .succ .now) i empty) (c .before .before .before .before .before .before .before .args .e)
+    (partBy (c .before .before .before .before .before .node .result .op) (c .before .before .before .before .before .node .result .left)
+    (c .before .before .before .before .before .node .result .right)))
+    (altGifts (pairAt (c .before .before .before .before .before .before .before .args .sets .now) (c .before .before .before .before .before .before .before .args .eps .now))
+    (rootIn (c .before .before .before .before .before .before .before .args .t .now))
+    (λ i. getD (c .before .before .before .before .before .before .before .args .succ .now) i empty) (c .before .before .before .before .before .before .before .args .e)
+    (partIn (c .before .before .before .before .before .before .before .args .t .now) (c .before .before .before .before .before .before .before .args .e))) (c .before .gift3 .ensures)
+    (ap (λ (s : List ℕ). gift (c .before .before .before .before .before .node .result .left) s ∷ []) (c .before .before .set-at3 .ensures) ∙ alt-option
+    (pairAt (c .before .before .before .before .before .before .before .args .sets .now) (c .before .before .before .before .before .before .before .args .eps .now))
+    (rootIn (c .before .before .before .before .before .before .before .args .t .now))
+    (λ i. getD (c .before .before .before .before .before .before .before .args .succ .now) i empty) (c .before .before .before .before .before .before .before .args .e)
+    (c .before .before .before .before .before .node .result .op) (c .before .before .before .before .before .node .result .left)
+    (c .before .before .before .before .before .node .result .right) (c .before .before .before .before .match .keys2))
+    (ap (altGifts (pairAt (c .before .before .before .before .before .before .before .args .sets .now)
+    (c .before .before .before .before .before .before .before .args .eps .now)) (rootIn (c .before .before .before .before .before .before .before .args .t .now))
+    (λ i. getD (c .before .before .before .before .before .before .before .args .succ .now) i empty) (c .before .before .before .before .before .before .before .args .e))
+    (c .before .before .before .before .before .node .ensures .0))
 
 set-at-requires-4 : tie.Need-set-at-requires-4
 set-at-requires-4 c κs = search needs
@@ -76,8 +165,27 @@ same-length-4 : tie.Need-same-length-4
 same-length-4 c = search needs
 
 returns-4 : tie.Need-returns-4
-returns-4 c = gave-as (c .before .before .before .before .before .before .before .args .base .now) (c .before .gift4 .last .0) (gift (c .before .before .before .before .before .node .result .left) (c .before .before .set-at4 .result) ∷ []) (altGifts (pairAt (c .before .before .before .before .before .before .before .args .sets .now) (c .before .before .before .before .before .before .before .args .eps .now)) (rootIn (c .before .before .before .before .before .before .before .args .t .now)) (λ i. getD (c .before .before .before .before .before .before .before .args .succ .now) i empty) (c .before .before .before .before .before .before .before .args .e) (partBy (c .before .before .before .before .before .node .result .op) (c .before .before .before .before .before .node .result .left) (c .before .before .before .before .before .node .result .right))) (altGifts (pairAt (c .before .before .before .before .before .before .before .args .sets .now) (c .before .before .before .before .before .before .before .args .eps .now)) (rootIn (c .before .before .before .before .before .before .before .args .t .now)) (λ i. getD (c .before .before .before .before .before .before .before .args .succ .now) i empty) (c .before .before .before .before .before .before .before .args .e) (partIn (c .before .before .before .before .before .before .before .args .t .now) (c .before .before .before .before .before .before .before .args .e))) (c .before .gift4 .ensures)
-    (ap (λ (s : List ℕ). gift (c .before .before .before .before .before .node .result .left) s ∷ []) (c .before .before .set-at4 .ensures) ∙ alt-repeat (pairAt (c .before .before .before .before .before .before .before .args .sets .now) (c .before .before .before .before .before .before .before .args .eps .now)) (rootIn (c .before .before .before .before .before .before .before .args .t .now)) (λ i. getD (c .before .before .before .before .before .before .before .args .succ .now) i empty) (c .before .before .before .before .before .before .before .args .e) (c .before .before .before .before .before .node .result .op) (c .before .before .before .before .before .node .result .left) (c .before .before .before .before .before .node .result .right) (c .before .before .before .before .match .keys3)) (ap (altGifts (pairAt (c .before .before .before .before .before .before .before .args .sets .now) (c .before .before .before .before .before .before .before .args .eps .now)) (rootIn (c .before .before .before .before .before .before .before .args .t .now)) (λ i. getD (c .before .before .before .before .before .before .before .args .succ .now) i empty) (c .before .before .before .before .before .before .before .args .e)) (c .before .before .before .before .before .node .ensures .0))
+returns-4 c = gave-as (c .before .before .before .before .before .before .before .args .base .now) (c .before .gift4 .last .0)
+    (gift (c .before .before .before .before .before .node .result .left) (c .before .before .set-at4 .result) ∷ [])
+    (altGifts (pairAt (c .before .before .before .before .before .before .before .args .sets .now) (c .before .before .before .before .before .before .before .args .eps .now))
+    (rootIn (c .before .before .before .before .before .before .before .args .t .now))
+    (λ i. getD (c .before .before .before .before .before .before .before .args .succ .now) i empty) (c .before .before .before .before .before .before .before .args .e)
+    (partBy (c .before .before .before .before .before .node .result .op) (c .before .before .before .before .before .node .result .left)
+    (c .before .before .before .before .before .node .result .right)))
+    (altGifts (pairAt (c .before .before .before .before .before .before .before .args .sets .now) (c .before .before .before .before .before .before .before .args .eps .now))
+    (rootIn (c .before .before .before .before .before .before .before .args .t .now))
+    (λ i. getD (c .before .before .before .before .before .before .before .args .succ .now) i empty) (c .before .before .before .before .before .before .before .args .e)
+    (partIn (c .before .before .before .before .before .before .before .args .t .now) (c .before .before .before .before .before .before .before .args .e))) (c .before .gift4 .ensures)
+    (ap (λ (s : List ℕ). gift (c .before .before .before .before .before .node .result .left) s ∷ []) (c .before .before .set-at4 .ensures) ∙ alt-repeat
+    (pairAt (c .before .before .before .before .before .before .before .args .sets .now) (c .before .before .before .before .before .before .before .args .eps .now))
+    (rootIn (c .before .before .before .before .before .before .before .args .t .now))
+    (λ i. getD (c .before .before .before .before .before .before .before .args .succ .now) i empty) (c .before .before .before .before .before .before .before .args .e)
+    (c .before .before .before .before .before .node .result .op) (c .before .before .before .before .before .node .result .left)
+    (c .before .before .before .before .before .node .result .right) (c .before .before .before .before .match .keys3))
+    (ap (altGifts (pairAt (c .before .before .before .before .before .before .before .args .sets .now)
+    (c .before .before .before .before .before .before .before .args .eps .now)) (rootIn (c .before .before .before .before .before .before .before .args .t .now))
+    (λ i. getD (c .before .before .before .before .before .before .before .args .succ .now) i empty) (c .before .before .before .before .before .before .before .args .e))
+    (c .before .before .before .before .before .node .ensures .0))
 
 set-at-requires-5 : tie.Need-set-at-requires-5
 set-at-requires-5 c κs = search needs
@@ -89,12 +197,41 @@ same-length-5 : tie.Need-same-length-5
 same-length-5 c = search needs
 
 returns-5 : tie.Need-returns-5
-returns-5 c = gave-as (c .before .before .before .before .before .before .before .args .base .now) (c .before .gift5 .last .0) (gift (c .before .before .before .before .before .node .result .left) (c .before .before .set-at5 .result) ∷ []) (altGifts (pairAt (c .before .before .before .before .before .before .before .args .sets .now) (c .before .before .before .before .before .before .before .args .eps .now)) (rootIn (c .before .before .before .before .before .before .before .args .t .now)) (λ i. getD (c .before .before .before .before .before .before .before .args .succ .now) i empty) (c .before .before .before .before .before .before .before .args .e) (partBy (c .before .before .before .before .before .node .result .op) (c .before .before .before .before .before .node .result .left) (c .before .before .before .before .before .node .result .right))) (altGifts (pairAt (c .before .before .before .before .before .before .before .args .sets .now) (c .before .before .before .before .before .before .before .args .eps .now)) (rootIn (c .before .before .before .before .before .before .before .args .t .now)) (λ i. getD (c .before .before .before .before .before .before .before .args .succ .now) i empty) (c .before .before .before .before .before .before .before .args .e) (partIn (c .before .before .before .before .before .before .before .args .t .now) (c .before .before .before .before .before .before .before .args .e))) (c .before .gift5 .ensures)
-    (ap (λ (s : List ℕ). gift (c .before .before .before .before .before .node .result .left) s ∷ []) (c .before .before .set-at5 .ensures) ∙ alt-repeat1 (pairAt (c .before .before .before .before .before .before .before .args .sets .now) (c .before .before .before .before .before .before .before .args .eps .now)) (rootIn (c .before .before .before .before .before .before .before .args .t .now)) (λ i. getD (c .before .before .before .before .before .before .before .args .succ .now) i empty) (c .before .before .before .before .before .before .before .args .e) (c .before .before .before .before .before .node .result .op) (c .before .before .before .before .before .node .result .left) (c .before .before .before .before .before .node .result .right) (c .before .before .before .before .match .keys4)) (ap (altGifts (pairAt (c .before .before .before .before .before .before .before .args .sets .now) (c .before .before .before .before .before .before .before .args .eps .now)) (rootIn (c .before .before .before .before .before .before .before .args .t .now)) (λ i. getD (c .before .before .before .before .before .before .before .args .succ .now) i empty) (c .before .before .before .before .before .before .before .args .e)) (c .before .before .before .before .before .node .ensures .0))
+returns-5 c = gave-as (c .before .before .before .before .before .before .before .args .base .now) (c .before .gift5 .last .0)
+    (gift (c .before .before .before .before .before .node .result .left) (c .before .before .set-at5 .result) ∷ [])
+    (altGifts (pairAt (c .before .before .before .before .before .before .before .args .sets .now) (c .before .before .before .before .before .before .before .args .eps .now))
+    (rootIn (c .before .before .before .before .before .before .before .args .t .now))
+    (λ i. getD (c .before .before .before .before .before .before .before .args .succ .now) i empty) (c .before .before .before .before .before .before .before .args .e)
+    (partBy (c .before .before .before .before .before .node .result .op) (c .before .before .before .before .before .node .result .left)
+    (c .before .before .before .before .before .node .result .right)))
+    (altGifts (pairAt (c .before .before .before .before .before .before .before .args .sets .now) (c .before .before .before .before .before .before .before .args .eps .now))
+    (rootIn (c .before .before .before .before .before .before .before .args .t .now))
+    (λ i. getD (c .before .before .before .before .before .before .before .args .succ .now) i empty) (c .before .before .before .before .before .before .before .args .e)
+    (partIn (c .before .before .before .before .before .before .before .args .t .now) (c .before .before .before .before .before .before .before .args .e))) (c .before .gift5 .ensures)
+    (ap (λ (s : List ℕ). gift (c .before .before .before .before .before .node .result .left) s ∷ []) (c .before .before .set-at5 .ensures) ∙ alt-repeat1
+    (pairAt (c .before .before .before .before .before .before .before .args .sets .now) (c .before .before .before .before .before .before .before .args .eps .now))
+    (rootIn (c .before .before .before .before .before .before .before .args .t .now))
+    (λ i. getD (c .before .before .before .before .before .before .before .args .succ .now) i empty) (c .before .before .before .before .before .before .before .args .e)
+    (c .before .before .before .before .before .node .result .op) (c .before .before .before .before .before .node .result .left)
+    (c .before .before .before .before .before .node .result .right) (c .before .before .before .before .match .keys4))
+    (ap (altGifts (pairAt (c .before .before .before .before .before .before .before .args .sets .now)
+    (c .before .before .before .before .before .before .before .args .eps .now)) (rootIn (c .before .before .before .before .before .before .before .args .t .now))
+    (λ i. getD (c .before .before .before .before .before .before .before .args .succ .now) i empty) (c .before .before .before .before .before .before .before .args .e))
+    (c .before .before .before .before .before .node .ensures .0))
 
 returns-6 : tie.Need-returns-6
-returns-6 c = gave-as (c .before .before .before .args .base .now) (c .before .before .before .args .base .now) ([]) (altGifts (pairAt (c .before .before .before .args .sets .now) (c .before .before .before .args .eps .now)) (rootIn (c .before .before .before .args .t .now)) (λ i. getD (c .before .before .before .args .succ .now) i empty) (c .before .before .before .args .e) (partBy (c .before .node .result .op) (c .before .node .result .left) (c .before .node .result .right))) (altGifts (pairAt (c .before .before .before .args .sets .now) (c .before .before .before .args .eps .now)) (rootIn (c .before .before .before .args .t .now)) (λ i. getD (c .before .before .before .args .succ .now) i empty) (c .before .before .before .args .e) (partIn (c .before .before .before .args .t .now) (c .before .before .before .args .e))) (gave-nothing (c .before .before .before .args .base .now))
-    (alt-rest (pairAt (c .before .before .before .args .sets .now) (c .before .before .before .args .eps .now)) (rootIn (c .before .before .before .args .t .now)) (λ i. getD (c .before .before .before .args .succ .now) i empty) (c .before .before .before .args .e) (c .before .node .result .op) (c .before .node .result .left) (c .before .node .result .right) (c .match .rest .0 .0 .0 .1) (c .match .rest .0 .0 .1) (c .match .rest .0 .1) (c .match .rest .1)) (ap (altGifts (pairAt (c .before .before .before .args .sets .now) (c .before .before .before .args .eps .now)) (rootIn (c .before .before .before .args .t .now)) (λ i. getD (c .before .before .before .args .succ .now) i empty) (c .before .before .before .args .e)) (c .before .node .ensures .0))
+returns-6 c = gave-as (c .before .before .before .args .base .now) (c .before .before .before .args .base .now) ([])
+    (altGifts (pairAt (c .before .before .before .args .sets .now) (c .before .before .before .args .eps .now)) (rootIn (c .before .before .before .args .t .now))
+    (λ i. getD (c .before .before .before .args .succ .now) i empty) (c .before .before .before .args .e)
+    (partBy (c .before .node .result .op) (c .before .node .result .left) (c .before .node .result .right)))
+    (altGifts (pairAt (c .before .before .before .args .sets .now) (c .before .before .before .args .eps .now)) (rootIn (c .before .before .before .args .t .now))
+    (λ i. getD (c .before .before .before .args .succ .now) i empty) (c .before .before .before .args .e)
+    (partIn (c .before .before .before .args .t .now) (c .before .before .before .args .e))) (gave-nothing (c .before .before .before .args .base .now))
+    (alt-rest (pairAt (c .before .before .before .args .sets .now) (c .before .before .before .args .eps .now)) (rootIn (c .before .before .before .args .t .now))
+    (λ i. getD (c .before .before .before .args .succ .now) i empty) (c .before .before .before .args .e) (c .before .node .result .op) (c .before .node .result .left)
+    (c .before .node .result .right) (c .match .rest .0 .0 .0 .1) (c .match .rest .0 .0 .1) (c .match .rest .0 .1) (c .match .rest .1))
+    (ap (altGifts (pairAt (c .before .before .before .args .sets .now) (c .before .before .before .args .eps .now)) (rootIn (c .before .before .before .args .t .now))
+    (λ i. getD (c .before .before .before .args .succ .now) i empty) (c .before .before .before .args .e)) (c .before .node .ensures .0))
 
 pub alt-gift-spec : {M : Type 1} → statement M
 alt-gift-spec =

@@ -37,9 +37,23 @@ loop-less : tie.Need-loop-less Inv-loop μ-loop
 loop-less c = omega arith
 
 loop-again : tie.Need-loop-again Inv-loop μ-loop
-loop-again c = let q : length (c .before .before .before .begin-one .last .1 .1 .0) ≡ length (c .before .before .before .before .before .before .before .before .before .before .args .sets .now) = c .before .before .before .begin-one .ensures .set-long ∙ c .before .before .before .before .before .before .before .loop .inv .1 in
-    let w : length (c .before .before .before .begin-one .last .1 .1 .1 .0) ≡ length (c .before .before .before .before .before .before .before .before .before .before .args .sets .now) = ap length (c .before .before .before .begin-one .ensures .eps-is) ∙ simp length-set (c .before .before .before .before .before .before .before .loop .inv .2) in
-    (omega arith, q, w, λ r x h. begun-more (c .before .before .before .before .before .before .before .before .before .before .args .t .now) (c .before .before .before .before .before .before .before .before .before .before .args .marks .now) (length (c .before .before .before .before .before .before .before .before .before .before .args .sets .now)) (c .before .before .before .before .before .before .before .loop .e) (c .before .before .before .before .before .before .before .loop .sets) (c .before .before .before .before .before .before .before .loop .eps) (c .before .before .before .begin-one .last .1 .1 .0) (c .before .before .before .begin-one .last .1 .1 .1 .0) (omega arith) (omega arith) (omega arith) (c .before .before .before .begin-one .ensures) r x h (c .before .before .before .before .before .before .before .loop .inv .3 r x h))
+loop-again c = let q : length (c .before .before .before .begin-one .last .1 .1 .0) ≡ length
+    (c .before .before .before .before .before .before .before .before .before .before .args .sets .now) = c .before .before .before .begin-one .ensures .set-long ∙
+    c .before .before .before .before .before .before .before .loop .inv .1 in
+    let w : length (c .before .before .before .begin-one .last .1 .1 .1 .0) ≡ length
+    (c .before .before .before .before .before .before .before .before .before .before .args .sets .now) = ap length
+    (c .before .before .before .begin-one .ensures .eps-is) ∙ simp length-set (c .before .before .before .before .before .before .before .loop .inv .2) in (
+      omega arith,
+      q,
+      w,
+      λ r x h. begun-more (c .before .before .before .before .before .before .before .before .before .before .args .t .now)
+          (c .before .before .before .before .before .before .before .before .before .before .args .marks .now)
+          (length (c .before .before .before .before .before .before .before .before .before .before .args .sets .now))
+          (c .before .before .before .before .before .before .before .loop .e) (c .before .before .before .before .before .before .before .loop .sets)
+          (c .before .before .before .before .before .before .before .loop .eps) (c .before .before .before .begin-one .last .1 .1 .0)
+          (c .before .before .before .begin-one .last .1 .1 .1 .0) (omega arith) (omega arith) (omega arith) (c .before .before .before .begin-one .ensures) r x h
+          (c .before .before .before .before .before .before .before .loop .inv .3 r x h),
+    )
 
 same-length : tie.Need-same-length Inv-loop μ-loop
 same-length c = omega arith
@@ -48,7 +62,8 @@ same-length-2 : tie.Need-same-length-2 Inv-loop μ-loop
 same-length-2 c = omega arith
 
 returns : tie.Need-returns Inv-loop μ-loop
-returns c = λ r x h. begun-done (c .before .before .before .before .args .t .now) (c .before .before .before .before .args .marks .now) (length (c .before .before .before .before .args .sets .now)) (c .before .loop .sets) (c .before .loop .eps) (omega arith) (omega arith) (λ j p. c .before .loop .inv .3 r x h j (omega arith))
+returns c = λ r x h. begun-done (c .before .before .before .before .args .t .now) (c .before .before .before .before .args .marks .now)
+    (length (c .before .before .before .before .args .sets .now)) (c .before .loop .sets) (c .before .loop .eps) (omega arith) (omega arith) (λ j p. c .before .loop .inv .3 r x h j (omega arith))
 
 pub begin-all-spec : {M : Type 1} → statement M
 begin-all-spec =

@@ -64,7 +64,9 @@ unfolding partBy
 returns-7 c = rw (c .before .match .keys5) (c .flag-at6 .ensures)
 
 returns-8 : tie.Need-returns-8
-returns-8 c = sym (rest-eps (marked (c .before .before .before .args .marks .now)) (pairAt [] (c .before .before .before .args .eps .now)) (c .before .before .before .args .k .op) (c .before .before .before .args .k .left) (c .before .before .before .args .k .right) (c .match .rest .0 .0 .0 .0 .1) (c .match .rest .0 .0 .0 .1) (c .match .rest .0 .0 .1) (c .match .rest .0 .1) (c .match .rest .1))
+returns-8 c = sym (rest-eps (marked (c .before .before .before .args .marks .now)) (pairAt [] (c .before .before .before .args .eps .now)) (c .before .before .before .args .k .op)
+    (c .before .before .before .args .k .left) (c .before .before .before .args .k .right) (c .match .rest .0 .0 .0 .0 .1) (c .match .rest .0 .0 .0 .1) (c .match .rest .0 .0 .1)
+    (c .match .rest .0 .1) (c .match .rest .1))
 
 pub begin-eps-spec : {M : Type 1} → statement M
 begin-eps-spec =

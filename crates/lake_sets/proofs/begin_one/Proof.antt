@@ -46,9 +46,24 @@ same-length-2 c = search needs
 
 returns : tie.Need-returns
 returns c = record {
-  set-is = λ h. ap (set (c .before .before .before .before .before .before .before .before .args .sets .now) (c .before .before .before .before .before .before .before .before .args .e)) (subst (λ (p : Part). Small p → c .before .before .begin-set .result ≡ beginBy (λ x. false) (pairAt (c .before .before .before .before .before .before .before .before .args .sets .now) (c .before .before .before .before .before .before .before .before .args .eps .now)) p .set) (c .before .before .before .before .before .node .ensures .0) (c .before .before .begin-set .ensures) h ∙ set-any (λ x. false) (marked (c .before .before .before .before .before .before .before .before .args .marks .now)) (pairAt (c .before .before .before .before .before .before .before .before .args .sets .now) (c .before .before .before .before .before .before .before .before .args .eps .now)) (partIn (c .before .before .before .before .before .before .before .before .args .t .now) (c .before .before .before .before .before .before .before .before .args .e)));
+  set-is = λ h. ap (set (c .before .before .before .before .before .before .before .before .args .sets .now)
+      (c .before .before .before .before .before .before .before .before .args .e))
+      (subst (λ (p : Part). Small p → c .before .before .begin-set .result ≡ beginBy (λ x. false)
+      (pairAt (c .before .before .before .before .before .before .before .before .args .sets .now)
+      (c .before .before .before .before .before .before .before .before .args .eps .now)) p .set) (c .before .before .before .before .before .node .ensures .0)
+      (c .before .before .begin-set .ensures) h ∙ set-any (λ x. false) (marked (c .before .before .before .before .before .before .before .before .args .marks .now))
+      (pairAt (c .before .before .before .before .before .before .before .before .args .sets .now)
+      (c .before .before .before .before .before .before .before .before .args .eps .now))
+      (partIn (c .before .before .before .before .before .before .before .before .args .t .now) (c .before .before .before .before .before .before .before .before .args .e)));
   set-long = simp length-set;
-  eps-is = ap (set (c .before .before .before .before .before .before .before .before .args .eps .now) (c .before .before .before .before .before .before .before .before .args .e)) (c .begin-eps .ensures ∙ ap (λ (p : Part). beginBy (marked (c .before .before .before .before .before .before .before .before .args .marks .now)) (pairAt [] (c .before .before .before .before .before .before .before .before .args .eps .now)) p .eps) (c .before .before .before .before .before .node .ensures .0) ∙ eps-any (marked (c .before .before .before .before .before .before .before .before .args .marks .now)) (pairAt [] (c .before .before .before .before .before .before .before .before .args .eps .now)) (pairAt (c .before .before .before .before .before .before .before .before .args .sets .now) (c .before .before .before .before .before .before .before .before .args .eps .now)) (λ i. refl) (partIn (c .before .before .before .before .before .before .before .before .args .t .now) (c .before .before .before .before .before .before .before .before .args .e)));
+  eps-is = ap (set (c .before .before .before .before .before .before .before .before .args .eps .now) (c .before .before .before .before .before .before .before .before .args .e))
+      (c .begin-eps .ensures ∙ ap (λ (p : Part). beginBy (marked (c .before .before .before .before .before .before .before .before .args .marks .now))
+      (pairAt [] (c .before .before .before .before .before .before .before .before .args .eps .now)) p .eps)
+      (c .before .before .before .before .before .node .ensures .0) ∙ eps-any (marked (c .before .before .before .before .before .before .before .before .args .marks .now))
+      (pairAt [] (c .before .before .before .before .before .before .before .before .args .eps .now))
+      (pairAt (c .before .before .before .before .before .before .before .before .args .sets .now)
+      (c .before .before .before .before .before .before .before .before .args .eps .now)) (λ i. refl)
+      (partIn (c .before .before .before .before .before .before .before .before .args .t .now) (c .before .before .before .before .before .before .before .before .args .e)));
 }
 
 pub begin-one-spec : {M : Type 1} → statement M

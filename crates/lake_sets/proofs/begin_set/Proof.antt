@@ -47,7 +47,8 @@ union-requires c κs = search needs
 
 returns-3 : tie.Need-returns-3
 unfolding partBy
-returns-3 c = rw (c .before .before .before .before .before .match .keys3, ← (c .before .before .before .flag-at .ensures), c .before .before .if1 .taken) (λ h. c .union .ensures ∙ ap₂ unionOf (c .before .before .before .before .set-at .ensures) (c .before .set-at2 .ensures))
+returns-3 c = rw (c .before .before .before .before .before .match .keys3, ← (c .before .before .before .flag-at .ensures), c .before .before .if1 .taken)
+    (λ h. c .union .ensures ∙ ap₂ unionOf (c .before .before .before .before .set-at .ensures) (c .before .set-at2 .ensures))
 
 returns-4 : tie.Need-returns-4
 unfolding partBy
@@ -88,7 +89,9 @@ unfolding partBy
 returns-8 c = rw (c .before .match .keys7) (λ h. c .set-at7 .ensures)
 
 returns-9 : tie.Need-returns-9
-returns-9 c = λ h. sym (ap (λ (z : Beginning). z .set) (rest (λ x. false) (pairAt (c .before .before .args .sets .now) (c .before .before .args .eps .now)) (c .before .before .args .k .op) (c .before .before .args .k .left) (c .before .before .args .k .right) (c .match .rest .0 .0 .0 .0 .0 .0 .1) (c .match .rest .0 .0 .0 .0 .0 .1) (c .match .rest .0 .0 .0 .0 .1) (c .match .rest .0 .0 .0 .1) (c .match .rest .0 .0 .1) (c .match .rest .0 .1) (c .match .rest .1)))
+returns-9 c = λ h. sym (ap (λ (z : Beginning). z .set) (rest (λ x. false) (pairAt (c .before .before .args .sets .now) (c .before .before .args .eps .now))
+    (c .before .before .args .k .op) (c .before .before .args .k .left) (c .before .before .args .k .right) (c .match .rest .0 .0 .0 .0 .0 .0 .1) (c .match .rest .0 .0 .0 .0 .0 .1)
+    (c .match .rest .0 .0 .0 .0 .1) (c .match .rest .0 .0 .0 .1) (c .match .rest .0 .0 .1) (c .match .rest .0 .1) (c .match .rest .1)))
 
 pub begin-set-spec : {M : Type 1} → statement M
 begin-set-spec =

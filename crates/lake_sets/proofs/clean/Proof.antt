@@ -25,8 +25,11 @@ fits-requires-2 : tie.Need-fits-requires-2
 fits-requires-2 c κs = search needs
 
 returns : tie.Need-returns
-returns c = let p : length (c .before .before .args .t1) ≡ 2 = search needs in
-    (two-words (c .before .fits2 .result ∷ (c .fits3 .result) ∷ []) (c .before .before .args .t1) refl p (c .before .fits2 .ensures .0) (c .fits3 .ensures .0), record { two = refl; first = c .before .fits2 .ensures .1; second = c .fits3 .ensures .1 })
+returns c = let p : length (c .before .before .args .t1) ≡ 2 = search needs in (
+  two-words (c .before .fits2 .result ∷ (c .fits3 .result) ∷ []) (c .before .before .args .t1) refl p (c .before .fits2 .ensures .0)
+      (c .fits3 .ensures .0),
+  record { two = refl; first = c .before .fits2 .ensures .1; second = c .fits3 .ensures .1 },
+)
 
 pub clean-spec : {M : Type 1} → statement M
 clean-spec =

@@ -43,13 +43,21 @@ loop-less : tie.Need-loop-less Inv-loop μ-loop
 loop-less c = search needs
 
 loop-again : tie.Need-loop-again Inv-loop μ-loop
-loop-again c = (simp length-set (omega arith), simp length-set (c .before .before .before .loop .inv .1), fill-more false (λ j. getD (c .before .before .before .before .before .before .args .eps .now) (rootIn (c .before .before .before .before .before .before .args .t .now) j) false) (c .before .before .before .loop .marks) (c .before .before .before .loop .r) (c .flag-at .result) (c .before .before .before .loop .inv .2) (omega arith) (c .flag-at .ensures ∙ ap (λ (i : ℕ). getD (c .before .before .before .before .before .before .args .eps .now) i false) (c .before .root .ensures)))
+loop-again c = (
+  simp length-set (omega arith),
+  simp length-set (c .before .before .before .loop .inv .1),
+  fill-more false
+      (λ j. getD (c .before .before .before .before .before .before .args .eps .now) (rootIn (c .before .before .before .before .before .before .args .t .now) j) false)
+      (c .before .before .before .loop .marks) (c .before .before .before .loop .r) (c .flag-at .result) (c .before .before .before .loop .inv .2) (omega arith)
+      (c .flag-at .ensures ∙ ap (λ (i : ℕ). getD (c .before .before .before .before .before .before .args .eps .now) i false) (c .before .root .ensures)),
+)
 
 same-length : tie.Need-same-length Inv-loop μ-loop
 same-length c = search needs
 
 returns : tie.Need-returns Inv-loop μ-loop
-returns c = is-upTo false (λ j. getD (c .before .before .before .before .args .eps .now) (rootIn (c .before .before .before .before .args .t .now) j) false) (c .before .loop .marks) (length (c .before .before .before .before .args .marks .now)) (omega arith) (λ i p. c .before .loop .inv .2 i (omega arith))
+returns c = is-upTo false (λ j. getD (c .before .before .before .before .args .eps .now) (rootIn (c .before .before .before .before .args .t .now) j) false)
+    (c .before .loop .marks) (length (c .before .before .before .before .args .marks .now)) (omega arith) (λ i p. c .before .loop .inv .2 i (omega arith))
 
 pub gather-spec : {M : Type 1} → statement M
 gather-spec =

@@ -39,7 +39,8 @@ same-length : tie.Need-same-length
 same-length c = search needs
 
 returns : tie.Need-returns
-returns c = gave-one (c .before .before .before .before .args .base .now) (c .before .before .before .before .args .i) (c .before .before .before .before .args .s) (c .clean .result) (omega arith) (c .clean .ensures .1) (c .clean .ensures .0 ∙ c .before .union .ensures)
+returns c = gave-one (c .before .before .before .before .args .base .now) (c .before .before .before .before .args .i) (c .before .before .before .before .args .s)
+    (c .clean .result) (omega arith) (c .clean .ensures .1) (c .clean .ensures .0 ∙ c .before .union .ensures)
 
 returns-2 : tie.Need-returns-2
 returns-2 c = gave-out (c .before .args .base .now) (c .before .args .i) (c .before .args .s) (c .if1 .left)

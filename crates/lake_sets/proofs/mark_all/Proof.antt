@@ -30,7 +30,15 @@ unmark-requires : tie.Need-unmark-requires Inv-loop μ-loop
 unmark-requires c κs = search needs
 
 loop-holds : tie.Need-loop-holds Inv-loop μ-loop
-loop-holds c = (omega arith, refl, refl, omega arith, λ x h. c .before .before .unmark .ensures ∙ ap (λ (n : ℕ). replicate n false) (let q : length (c .before .before .before .before .before .before .args .marks .now) ≡ length (c .before .before .unmark .last .0) = sym (ap length (c .before .before .unmark .ensures) ∙ length-replicate {A = Bool} (length (c .before .before .before .before .before .before .args .marks .now)) false) in q))
+loop-holds c = (
+  omega arith,
+  refl,
+  refl,
+  omega arith,
+  λ x h. c .before .before .unmark .ensures ∙ ap (λ (n : ℕ). replicate n false)
+      (let q : length (c .before .before .before .before .before .before .args .marks .now) ≡ length (c .before .before .unmark .last .0) = sym
+      (ap length (c .before .before .unmark .ensures) ∙ length-replicate {A = Bool} (length (c .before .before .before .before .before .before .args .marks .now)) false) in q),
+)
 
 mark-round-requires : tie.Need-mark-round-requires Inv-loop μ-loop
 mark-round-requires c κs = omega arith
@@ -47,12 +55,21 @@ loop-again c = (
   omega arith,
   omega arith,
   omega arith,
-  λ x h. c .before .before .before .before .before .mark-round .ensures x (subst (λ (n : ℕ). Tame (c .before .before .before .before .before .before .before .before .before .before .before .before .before .before .before .before .before .args .t .now) n (length (c .before .before .before .before .before .before .before .before .before .before .loop .marks)) x) (sym (c .before .before .before .before .before .before .before .before .before .before .loop .inv .2)) (subst (λ (n : ℕ). Tame (c .before .before .before .before .before .before .before .before .before .before .before .before .before .before .before .before .before .args .t .now) (length (c .before .before .before .before .before .before .before .before .before .before .before .before .before .before .before .before .before .args .sets .now)) n x) (sym (c .before .before .before .before .before .before .before .before .before .before .loop .inv .1)) h))
-      ∙ marks-next (c .before .before .before .before .before .before .before .before .before .before .before .before .before .before .before .before .before .args .t .now) (length (c .before .before .before .before .before .before .before .before .before .before .before .before .before .before .before .before .before .args .sets .now)) (length (c .before .before .before .before .before .before .before .before .before .before .loop .sets)) (length (c .before .before .before .before .before .before .before .before .before .before .before .before .before .unmark .last .0)) (c .before .before .before .before .before .before .before .before .before .before .loop .k) (c .before .before .before .before .before .before .before .before .before .before .loop .marks) (c .before .before .before .before .before .before .before .before .before .before .loop .inv .2) (c .before .before .before .before .before .before .before .before .before .before .loop .inv .4 x h),
+  λ x h. c .before .before .before .before .before .mark-round .ensures x
+      (subst (λ (n : ℕ). Tame (c .before .before .before .before .before .before .before .before .before .before .before .before .before .before .before .before .before .args .t .now) n (length (c .before .before .before .before .before .before .before .before .before .before .loop .marks)) x) (sym (c .before .before .before .before .before .before .before .before .before .before .loop .inv .2)) (subst (λ (n : ℕ). Tame (c .before .before .before .before .before .before .before .before .before .before .before .before .before .before .before .before .before .args .t .now) (length (c .before .before .before .before .before .before .before .before .before .before .before .before .before .before .before .before .before .args .sets .now)) n x) (sym (c .before .before .before .before .before .before .before .before .before .before .loop .inv .1)) h))
+      ∙ marks-next (c .before .before .before .before .before .before .before .before .before .before .before .before .before .before .before .before .before .args .t .now)
+      (length (c .before .before .before .before .before .before .before .before .before .before .before .before .before .before .before .before .before .args .sets .now))
+      (length (c .before .before .before .before .before .before .before .before .before .before .loop .sets))
+      (length (c .before .before .before .before .before .before .before .before .before .before .before .before .before .unmark .last .0))
+      (c .before .before .before .before .before .before .before .before .before .before .loop .k)
+      (c .before .before .before .before .before .before .before .before .before .before .loop .marks)
+      (c .before .before .before .before .before .before .before .before .before .before .loop .inv .2)
+      (c .before .before .before .before .before .before .before .before .before .before .loop .inv .4 x h),
 )
 
 same-length : tie.Need-same-length Inv-loop μ-loop
-same-length c = c .before .loop .inv .1 ∙ ap length (c .before .before .before .before .unmark .ensures) ∙ length-replicate {A = Bool} (length (c .before .before .before .before .before .before .before .before .args .marks .now)) false
+same-length c = c .before .loop .inv .1 ∙ ap length (c .before .before .before .before .unmark .ensures) ∙ length-replicate {A = Bool}
+    (length (c .before .before .before .before .before .before .before .before .args .marks .now)) false
 
 same-length-2 : tie.Need-same-length-2 Inv-loop μ-loop
 same-length-2 c = omega arith
@@ -61,9 +78,14 @@ same-length-3 : tie.Need-same-length-3 Inv-loop μ-loop
 same-length-3 c = omega arith
 
 returns : tie.Need-returns Inv-loop μ-loop
-returns c = λ x h. let q : length (c .before .before .before .before .unmark .last .0) ≡ length (c .before .before .before .before .before .before .before .before .args .marks .now) = ap length (c .before .before .before .before .unmark .ensures) ∙ length-replicate {A = Bool} (length (c .before .before .before .before .before .before .before .before .args .marks .now)) false in
+returns c = λ x h. let q : length (c .before .before .before .before .unmark .last .0) ≡ length
+    (c .before .before .before .before .before .before .before .before .args .marks .now) = ap length
+    (c .before .before .before .before .unmark .ensures) ∙ length-replicate {A = Bool} (length (c .before .before .before .before .before .before .before .before .args .marks .now)) false in
     let k : (c .before .loop .k) ≡ length (c .before .before .before .before .before .before .before .before .args .marks .now) = omega arith in
-    c .before .loop .inv .4 x (subst (λ (n : ℕ). Tame (c .before .before .before .before .before .before .before .before .args .t .now) (length (c .before .before .before .before .before .before .before .before .args .sets .now)) n x) (sym q) h) ∙ ap₂ (λ (r : ℕ) (j : ℕ). marksIn (c .before .before .before .before .before .before .before .before .args .t .now) (length (c .before .before .before .before .before .before .before .before .args .sets .now)) r j) q k
+    c .before .loop .inv .4 x (subst (λ (n : ℕ). Tame (c .before .before .before .before .before .before .before .before .args .t .now)
+    (length (c .before .before .before .before .before .before .before .before .args .sets .now)) n x) (sym q) h) ∙ ap₂
+    (λ (r : ℕ) (j : ℕ). marksIn (c .before .before .before .before .before .before .before .before .args .t .now)
+    (length (c .before .before .before .before .before .before .before .before .args .sets .now)) r j) q k
 
 pub mark-all-spec : {M : Type 1} → statement M
 mark-all-spec =

@@ -33,8 +33,17 @@ same-length-3 : tie.Need-same-length-3
 same-length-3 c = search needs
 
 returns : tie.Need-returns
-returns c = λ x h. c .before .before .gather .ensures ∙ upTo-same false (λ r. getD (c .before .before .before .before .before .before .before .before .begin-all .last .1 .1 .1 .0) (rootIn (c .before .before .before .before .before .before .before .before .before .before .before .before .before .before .args .t .now) r) false) (λ r. getD (beginsIn (c .before .before .before .before .before .before .before .before .before .before .before .before .before .before .args .t .now) (c .before .before .before .before .before .before .before .before .before .before .before .before .before .before .args .marks .now) (length (c .before .before .before .before .before .before .before .before .before .before .before .before .before .before .args .sets .now))) (rootIn (c .before .before .before .before .before .before .before .before .before .before .before .before .before .before .args .t .now) r) nothing .eps) (length (c .before .before .before .before .before .before .before .before .before .before .before .before .before .before .args .marks .now))
-    (λ i p. ap (λ (z : Beginning). z .eps) (c .before .before .before .before .before .before .before .before .begin-all .ensures (length (c .before .before .before .before .before .before .before .before .before .before .before .before .before .before .args .marks .now)) x h (rootIn (c .before .before .before .before .before .before .before .before .before .before .before .before .before .before .args .t .now) i)))
+returns c = λ x h. c .before .before .gather .ensures ∙ upTo-same false
+    (λ r. getD (c .before .before .before .before .before .before .before .before .begin-all .last .1 .1 .1 .0)
+    (rootIn (c .before .before .before .before .before .before .before .before .before .before .before .before .before .before .args .t .now) r) false)
+    (λ r. getD (beginsIn (c .before .before .before .before .before .before .before .before .before .before .before .before .before .before .args .t .now)
+    (c .before .before .before .before .before .before .before .before .before .before .before .before .before .before .args .marks .now)
+    (length (c .before .before .before .before .before .before .before .before .before .before .before .before .before .before .args .sets .now)))
+    (rootIn (c .before .before .before .before .before .before .before .before .before .before .before .before .before .before .args .t .now) r) nothing .eps)
+    (length (c .before .before .before .before .before .before .before .before .before .before .before .before .before .before .args .marks .now))
+    (λ i p. ap (λ (z : Beginning). z .eps) (c .before .before .before .before .before .before .before .before .begin-all .ensures
+    (length (c .before .before .before .before .before .before .before .before .before .before .before .before .before .before .args .marks .now)) x h
+    (rootIn (c .before .before .before .before .before .before .before .before .before .before .before .before .before .before .args .t .now) i)))
 
 pub mark-round-spec : {M : Type 1} → statement M
 mark-round-spec =

@@ -21,7 +21,16 @@ slice-aggregate-solve-2 : tie.Need-slice-aggregate-solve-2
 slice-aggregate-solve-2 c = sym (length-take-le (c .before .before .before .before .args .m) (c .before .before .before .before .args .dst .now) (c .before .before .before .before .pre .dst-long))
 
 solve-requires : tie.Need-solve-requires
-solve-requires c κs = (shaped (c .before .before .before .before .before .before .args .src .now) (c .before .before .before .before .before .before .args .dst .now) (c .before .before .before .before .before .before .args .m) (c .before .before .before .before .before .before .args .base .now) (length (c .before .before .before .before .before .before .args .cur .now)) (length (c .before .before .before .before .before .before .args .next .now)) (c .before .before .before .before .before .before .pre), c .before .before .before .before .before .before .pre .cur-long, c .before .before .before .before .before .before .pre .next-long, c .before .before .before .before .before .before .pre .few, c .before .before .before .before .before .before .pre .fine)
+solve-requires c κs = (
+  shaped (c .before .before .before .before .before .before .args .src .now) (c .before .before .before .before .before .before .args .dst .now)
+      (c .before .before .before .before .before .before .args .m) (c .before .before .before .before .before .before .args .base .now)
+      (length (c .before .before .before .before .before .before .args .cur .now)) (length (c .before .before .before .before .before .before .args .next .now))
+      (c .before .before .before .before .before .before .pre),
+  c .before .before .before .before .before .before .pre .cur-long,
+  c .before .before .before .before .before .before .pre .next-long,
+  c .before .before .before .before .before .before .pre .few,
+  c .before .before .before .before .before .before .pre .fine,
+)
 
 same-length : tie.Need-same-length
 same-length c = search needs

@@ -31,8 +31,16 @@ loop-less : tie.Need-loop-less Inv-loop μ-loop
 loop-less c = omega arith
 
 loop-again : tie.Need-loop-again Inv-loop μ-loop
-loop-again c = let q : length (c .before .before .copy-word .last .1 .0) ≡ length (c .before .before .before .before .before .loop .mid) = ap length (c .before .before .copy-word .ensures) ∙ length-set (c .before .before .before .before .before .loop .mid) (c .before .before .before .before .before .loop .i) (getD (c .before .before .before .before .before .before .before .before .args .t .now) (c .before .before .before .before .before .loop .i) 0) in
-    (omega arith, omega arith, λ j p l. ap (λ (x : List ℕ). getD x j 0) (c .before .before .copy-word .ensures) ∙ copied-more (c .before .before .before .before .before .before .before .before .args .t .now) (c .before .before .before .before .before .loop .mid) (c .before .before .before .before .before .loop .i) j (length (c .before .before .before .before .before .before .before .before .args .mid .now)) (c .before .before .before .before .before .loop .inv .1) (c .before .before .before .before .before .loop .inv .2) p l)
+loop-again c = let q : length (c .before .before .copy-word .last .1 .0) ≡ length (c .before .before .before .before .before .loop .mid) = ap length
+    (c .before .before .copy-word .ensures) ∙ length-set (c .before .before .before .before .before .loop .mid) (c .before .before .before .before .before .loop .i)
+    (getD (c .before .before .before .before .before .before .before .before .args .t .now) (c .before .before .before .before .before .loop .i) 0) in (
+      omega arith,
+      omega arith,
+      λ j p l. ap (λ (x : List ℕ). getD x j 0) (c .before .before .copy-word .ensures) ∙ copied-more
+          (c .before .before .before .before .before .before .before .before .args .t .now) (c .before .before .before .before .before .loop .mid)
+          (c .before .before .before .before .before .loop .i) j (length (c .before .before .before .before .before .before .before .before .args .mid .now))
+          (c .before .before .before .before .before .loop .inv .1) (c .before .before .before .before .before .loop .inv .2) p l,
+    )
 
 same-length : tie.Need-same-length Inv-loop μ-loop
 same-length c = omega arith

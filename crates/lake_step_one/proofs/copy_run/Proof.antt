@@ -43,14 +43,23 @@ loop-less : tie.Need-loop-less Inv-loop μ-loop
 loop-less c = omega arith
 
 loop-again : tie.Need-loop-again Inv-loop μ-loop
-loop-again c = (omega arith, omega (arith, c .before .before .copy-one .kept), λ number e s w h. run-more number (c .before .before .before .before .before .before .before .before .args .t .now) (c .before .before .before .before .before .before .before .before .args .mid .now) (c .before .before .before .before .before .loop .mid) (c .before .before .copy-one .last .1 .0) (c .before .before .before .before .before .before .before .before .args .a) (c .before .before .before .before .before .before .before .before .args .m) e (c .before .before .before .before .before .loop .j) (omega arith) (omega arith) h (c .before .before .copy-one .ensures) (c .before .before .before .before .before .loop .inv .2 number e s w h))
+loop-again c = (
+  omega arith,
+  omega (arith, c .before .before .copy-one .kept),
+  λ number e s w h. run-more number
+      (c .before .before .before .before .before .before .before .before .args .t .now) (c .before .before .before .before .before .before .before .before .args .mid .now)
+      (c .before .before .before .before .before .loop .mid) (c .before .before .copy-one .last .1 .0) (c .before .before .before .before .before .before .before .before .args .a)
+      (c .before .before .before .before .before .before .before .before .args .m) e (c .before .before .before .before .before .loop .j) (omega arith) (omega arith) h
+      (c .before .before .copy-one .ensures) (c .before .before .before .before .before .loop .inv .2 number e s w h),
+)
 
 same-length : tie.Need-same-length Inv-loop μ-loop
 same-length c = omega arith
 
 returns : tie.Need-returns Inv-loop μ-loop
 returns c = λ number e s w h. let q : (c .before .loop .j) ≡ c .before .before .before .before .args .k = omega arith in
-    grew-as (c .before .loop .inv .2 number e s w h) (ap (front number (c .before .before .before .before .args .m) e) (q ∙ sym s) ∙ front-all number (c .before .before .before .before .args .m) e) (ap (λ (i : ℕ). c .before .before .before .before .args .m + i) q)
+    grew-as (c .before .loop .inv .2 number e s w h) (ap (front number (c .before .before .before .before .args .m) e) (q ∙ sym s) ∙ front-all number
+    (c .before .before .before .before .args .m) e) (ap (λ (i : ℕ). c .before .before .before .before .args .m + i) q)
 
 pub copy-run-spec : {M : Type 1} → statement M
 copy-run-spec =

@@ -20,7 +20,8 @@ same-length : tie.Need-same-length
 same-length c = search needs
 
 returns : tie.Need-returns
-returns c = c .before .before .put .ensures ∙ ap (set (c .before .before .before .before .before .before .before .args .mid .now) (c .before .before .before .before .before .before .before .args .i)) (c .before .before .before .before .word .ensures .0)
+returns c = c .before .before .put .ensures ∙ ap (set (c .before .before .before .before .before .before .before .args .mid .now)
+    (c .before .before .before .before .before .before .before .args .i)) (c .before .before .before .before .word .ensures .0)
 
 pub copy-word-spec : {M : Type 1} → statement M
 copy-word-spec = tie.close (tie.spec word-requires put-requires same-length returns)

@@ -20,13 +20,24 @@ member-requires : tie.Need-member-requires
 member-requires c κs = search needs
 
 returns : tie.Need-returns
-returns c = (omega arith, symbol-not (c .before .before .before .before .args .t .now) (c .before .before .before .before .args .s) (c .before .before .before .before .args .i) (c .before .before .before .before .args .o) (c .before .before .before .before .args .m) (c .before .before .before .before .args .out .now) (sym (c .before .member .ensures) ∙ not-true (c .before .member .result) (c .if1 .taken)))
+returns c = (
+  omega arith,
+  symbol-not (c .before .before .before .before .args .t .now) (c .before .before .before .before .args .s) (c .before .before .before .before .args .i)
+      (c .before .before .before .before .args .o) (c .before .before .before .before .args .m) (c .before .before .before .before .args .out .now)
+      (sym (c .before .member .ensures) ∙ not-true (c .before .member .result) (c .if1 .taken)),
+)
 
 is-lake-requires : tie.Need-is-lake-requires
 is-lake-requires c κs = search needs
 
 returns-2 : tie.Need-returns-2
-returns-2 c = (omega arith, symbol-lake (c .before .before .before .before .before .before .args .t .now) (c .before .before .before .before .before .before .args .s) (c .before .before .before .before .before .before .args .i) (c .before .before .before .before .before .before .args .o) (c .before .before .before .before .before .before .args .m) (c .before .before .before .before .before .before .args .out .now) (sym (c .before .before .before .member .ensures) ∙ not-false (c .before .before .before .member .result) (c .before .before .if1 .left)) (sym (c .before .is-lake .ensures) ∙ c .if2 .taken))
+returns-2 c = (
+  omega arith,
+  symbol-lake (c .before .before .before .before .before .before .args .t .now) (c .before .before .before .before .before .before .args .s)
+      (c .before .before .before .before .before .before .args .i) (c .before .before .before .before .before .before .args .o)
+      (c .before .before .before .before .before .before .args .m) (c .before .before .before .before .before .before .args .out .now)
+      (sym (c .before .before .before .member .ensures) ∙ not-false (c .before .before .before .member .result) (c .before .before .if1 .left)) (sym (c .before .is-lake .ensures) ∙ c .if2 .taken),
+)
 
 add-requires : tie.Need-add-requires
 add-requires c κs = search needs
@@ -35,7 +46,18 @@ same-length : tie.Need-same-length
 same-length c = search needs
 
 returns-3 : tie.Need-returns-3
-returns-3 c = (c .before .before .add .ensures .0, symbol-yes (c .before .before .before .before .before .before .before .before .before .before .args .t .now) (c .before .before .before .before .before .before .before .before .before .before .args .s) (c .before .before .before .before .before .before .before .before .before .before .args .i) (c .before .before .before .before .before .before .before .before .before .before .args .o) (c .before .before .before .before .before .before .before .before .before .before .args .m) (c .before .before .before .before .before .before .before .before .before .before .args .out .now) (c .before .before .add .last .0) (c .before .before .add .result) (sym (c .before .before .before .before .before .before .before .member .ensures) ∙ not-false (c .before .before .before .before .before .before .before .member .result) (c .before .before .before .before .before .before .if1 .left)) (sym (c .before .before .before .before .before .is-lake .ensures) ∙ c .before .before .before .before .if2 .left) (c .before .before .add .ensures .1))
+returns-3 c = (
+  c .before .before .add .ensures .0,
+  symbol-yes (c .before .before .before .before .before .before .before .before .before .before .args .t .now)
+      (c .before .before .before .before .before .before .before .before .before .before .args .s)
+      (c .before .before .before .before .before .before .before .before .before .before .args .i)
+      (c .before .before .before .before .before .before .before .before .before .before .args .o)
+      (c .before .before .before .before .before .before .before .before .before .before .args .m)
+      (c .before .before .before .before .before .before .before .before .before .before .args .out .now) (c .before .before .add .last .0) (c .before .before .add .result)
+      (sym (c .before .before .before .before .before .before .before .member .ensures) ∙ not-false (c .before .before .before .before .before .before .before .member .result)
+      (c .before .before .before .before .before .before .if1 .left))
+      (sym (c .before .before .before .before .before .is-lake .ensures) ∙ c .before .before .before .before .if2 .left) (c .before .before .add .ensures .1),
+)
 
 pub add-symbol-spec : {M : Type 1} → statement M
 add-symbol-spec =

@@ -22,7 +22,11 @@ member-requires : tie.Need-member-requires
 member-requires c κs = search needs
 
 returns : tie.Need-returns
-returns c = (omega arith, terminal-not [] (c .before .before .before .args .s) (c .before .before .before .args .i) (c .before .before .before .args .o) (c .before .before .before .args .m) (c .before .before .before .args .out .now) (sym (c .before .member .ensures) ∙ not-true (c .before .member .result) (c .if1 .taken)))
+returns c = (
+  omega arith,
+  terminal-not [] (c .before .before .before .args .s) (c .before .before .before .args .i) (c .before .before .before .args .o)
+      (c .before .before .before .args .m) (c .before .before .before .args .out .now) (sym (c .before .member .ensures) ∙ not-true (c .before .member .result) (c .if1 .taken)),
+)
 
 add-requires : tie.Need-add-requires
 add-requires c κs = search needs
@@ -31,7 +35,15 @@ same-length : tie.Need-same-length
 same-length c = search needs
 
 returns-2 : tie.Need-returns-2
-returns-2 c = (c .before .before .add .ensures .0, terminal-yes [] (c .before .before .before .before .before .before .before .args .s) (c .before .before .before .before .before .before .before .args .i) (c .before .before .before .before .before .before .before .args .o) (c .before .before .before .before .before .before .before .args .m) (c .before .before .before .before .before .before .before .args .out .now) (c .before .before .add .last .0) (c .before .before .add .result) (sym (c .before .before .before .before .before .member .ensures) ∙ not-false (c .before .before .before .before .before .member .result) (c .before .before .before .before .if1 .left)) (c .before .before .add .ensures .1))
+returns-2 c = (
+  c .before .before .add .ensures .0,
+  terminal-yes [] (c .before .before .before .before .before .before .before .args .s)
+      (c .before .before .before .before .before .before .before .args .i) (c .before .before .before .before .before .before .before .args .o)
+      (c .before .before .before .before .before .before .before .args .m) (c .before .before .before .before .before .before .before .args .out .now)
+      (c .before .before .add .last .0) (c .before .before .add .result)
+      (sym (c .before .before .before .before .before .member .ensures) ∙ not-false (c .before .before .before .before .before .member .result)
+      (c .before .before .before .before .if1 .left)) (c .before .before .add .ensures .1),
+)
 
 pub add-terminal-spec : {M : Type 1} → statement M
 add-terminal-spec =

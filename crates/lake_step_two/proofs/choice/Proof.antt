@@ -24,7 +24,18 @@ same-length : tie.Need-same-length
 same-length c = search needs
 
 returns : tie.Need-returns
-returns c = (omega (arith, c .before .before .before .before .before .before .add-symbols .ensures .0, c .before .before .add-terminals .ensures .0), choice-done (c .before .before .before .before .before .before .before .before .before .before .args .t .now) (c .before .before .before .before .before .before .before .before .before .before .args .s) (c .before .before .before .before .before .before .before .before .before .before .args .r) (c .before .before .before .before .before .before .before .before .before .before .args .x) (c .before .before .before .before .before .before .before .before .before .before .args .m) (c .before .before .before .before .before .before .add-symbols .result) (c .before .before .add-terminals .result) (c .before .before .before .before .before .before .before .before .before .before .args .out .now) (c .before .before .before .before .before .before .add-symbols .last .1 .0) (c .before .before .add-terminals .last .0) (c .before .before .before .before .before .before .add-symbols .ensures .1) (c .before .before .add-terminals .ensures .1))
+returns c = (
+  omega (arith, c .before .before .before .before .before .before .add-symbols .ensures .0, c .before .before .add-terminals .ensures .0),
+  choice-done
+      (c .before .before .before .before .before .before .before .before .before .before .args .t .now)
+      (c .before .before .before .before .before .before .before .before .before .before .args .s)
+      (c .before .before .before .before .before .before .before .before .before .before .args .r)
+      (c .before .before .before .before .before .before .before .before .before .before .args .x)
+      (c .before .before .before .before .before .before .before .before .before .before .args .m) (c .before .before .before .before .before .before .add-symbols .result)
+      (c .before .before .add-terminals .result) (c .before .before .before .before .before .before .before .before .before .before .args .out .now)
+      (c .before .before .before .before .before .before .add-symbols .last .1 .0) (c .before .before .add-terminals .last .0)
+      (c .before .before .before .before .before .before .add-symbols .ensures .1) (c .before .before .add-terminals .ensures .1),
+)
 
 pub choice-spec : {M : Type 1} → statement M
 choice-spec = tie.close (tie.spec add-symbols-requires add-terminals-requires same-length returns)

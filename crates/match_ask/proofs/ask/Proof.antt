@@ -6,7 +6,7 @@ use lib.ListN.{length}
 use Rattle.base_facts.specs.laws.Bools.{not-false, not-true}
 use Rattle.match_run.specs.laws.Runs.{need-small}
 use Rattle.match_ask.specs.laws.Asks.{standing-same, standing-few, standing-terminals, asked-long, asked-few, asked-past, asked-other, asked-behind, asked-all}
-use Rattle.match_cells.specs.laws.Keys.{fresh-none}
+use Rattle.match_keys.specs.laws.Keys.{fresh-none}
 use borrow.Author.Needs.{needs}
 use Rattle.match_ask.proofs.ask.Statement.{statement}
 use Rattle.match_ask.proofs.ask.Tie as tie
@@ -91,7 +91,15 @@ slice-aggregate-fill : tie.Need-slice-aggregate-fill
 slice-aggregate-fill c = search needs
 
 fill-requires : tie.Need-fill-requires
-fill-requires c κs = ((standing-few (c .before .before .before .before .before .before .before .before .before .before .before .before .pre), omega (arith, c .before .before .before .before .before .before .before .before .before .if1 .left)), fresh-none (c .before .before .before .before .before .before .before .before .before .before .before .before .args .plain .now) 26901 (omega arith))
+fill-requires c κs = (
+  (
+    standing-few (c .before .before .before .before .before .before .before .before .before .before .before .before .pre),
+    omega
+        (arith, c .before .before .before .before .before .before .before .before .before .if1 .left),
+  ),
+  fresh-none
+      (c .before .before .before .before .before .before .before .before .before .before .before .before .args .plain .now) 26901 (omega arith),
+)
 
 alt-of-requires : tie.Need-alt-of-requires
 alt-of-requires c κs = search needs
@@ -136,7 +144,8 @@ returns-6 c = asked-all
     (c .before .before .before .before .before .before .before .before .before .before .before .before .before .before .is-lake .ensures) ∙ not-false
     (c .before .before .before .before .before .before .before .before .before .before .before .before .before .before .is-lake .result)
     (c .before .before .before .before .before .before .before .before .before .before .before .before .before .if4 .left)) (omega
-    (arith, c .before .before .before .before .before .before .before .before .before .before .before .before .if5 .left)) _ (c .before .before .before .before .before .before .before .before .fill .ensures .0)
+    (arith, c .before .before .before .before .before .before .before .before .before .before .before .before .if5 .left)) _
+    (c .before .before .before .before .before .before .before .before .fill .ensures .0)
     (c .before .before .before .before .alt-of .result) (c .before .way .result) (c .way-of .result) (c .before .before .before .before .alt-of .ensures) (c .before .way .ensures)
     (c .way-of .ensures)
 

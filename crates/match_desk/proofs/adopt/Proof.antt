@@ -27,7 +27,12 @@ same-length : tie.Need-same-length
 same-length c = search needs
 
 returns : tie.Need-returns
-returns c = c .before .before .put2 .ensures ∙ ap (λ (k : List ℕ). set k (parentsAt + c .before .before .before .before .before .before .before .before .before .before .before .args .y) (c .before .before .before .before .before .before .before .before .before .before .before .args .x)) (c .before .before .before .before .before .before .put .ensures ∙ ap (λ (v : ℕ). set (c .before .before .before .before .before .before .before .before .before .before .before .args .desk .now) (c .before .before .before .before .before .before .before .before .before .before .before .args .x) v) (c .before .before .before .before .before .before .before .before .word .ensures .0))
+returns c = c .before .before .put2 .ensures ∙ ap (λ (k : List ℕ). set k
+    (parentsAt + c .before .before .before .before .before .before .before .before .before .before .before .args .y)
+    (c .before .before .before .before .before .before .before .before .before .before .before .args .x))
+    (c .before .before .before .before .before .before .put .ensures ∙ ap
+    (λ (v : ℕ). set (c .before .before .before .before .before .before .before .before .before .before .before .args .desk .now)
+    (c .before .before .before .before .before .before .before .before .before .before .before .args .x) v) (c .before .before .before .before .before .before .before .before .word .ensures .0))
 
 pub adopt-spec : {M : Type 1} → statement M
 adopt-spec =

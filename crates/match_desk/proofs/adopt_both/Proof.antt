@@ -40,7 +40,18 @@ same-length : tie.Need-same-length
 same-length c = search needs
 
 returns : tie.Need-returns
-returns c = (c .before .before .put3 .ensures ∙ ap (λ (k : List ℕ). set k (parentsAt + c .before .before .before .before .before .before .before .before .before .before .before .before .before .before .before .before .before .before .args .z) (c .before .before .before .before .before .before .before .before .before .before .before .before .before .before .before .before .before .before .args .x)) (c .before .before .before .before .before .before .put2 .ensures ∙ ap (λ (k : List ℕ). set k (parentsAt + c .before .before .before .before .before .before .before .before .before .before .before .before .before .before .before .before .before .before .args .y) (c .before .before .before .before .before .before .before .before .before .before .before .before .before .before .before .before .before .before .args .x)) (c .before .before .before .before .before .before .before .before .before .before .put .ensures)), λ z. let u = c .before .before .before .before .before .before .before .before .before .before .before .before .either .ensures .1 z in (sym (c .before .before .before .before .before .before .before .before .before .before .before .before .before .before .before .word .ensures .0) ∙ u .0, sym (c .before .before .before .before .before .before .before .before .before .before .before .before .before .word2 .ensures .0) ∙ u .1))
+returns c = (
+  c .before .before .put3 .ensures ∙ ap (λ (k : List ℕ). set k
+      (parentsAt + c .before .before .before .before .before .before .before .before .before .before .before .before .before .before .before .before .before .before .args .z)
+      (c .before .before .before .before .before .before .before .before .before .before .before .before .before .before .before .before .before .before .args .x))
+      (c .before .before .before .before .before .before .put2 .ensures ∙ ap
+      (λ (k : List ℕ). set k (parentsAt + c .before .before .before .before .before .before .before .before .before .before .before .before .before .before .before .before .before .before .args .y) (c .before .before .before .before .before .before .before .before .before .before .before .before .before .before .before .before .before .before .args .x)) (c .before .before .before .before .before .before .before .before .before .before .put .ensures)),
+  λ z. let u = c .before .before .before .before .before .before .before .before .before .before .before .before .either .ensures .1 z in (
+    sym (c .before .before .before .before .before .before .before .before .before .before .before .before .before .before .before .word .ensures .0) ∙ u .0,
+    sym
+        (c .before .before .before .before .before .before .before .before .before .before .before .before .before .word2 .ensures .0) ∙ u .1,
+  ),
+)
 
 pub adopt-both-spec : {M : Type 1} → statement M
 adopt-both-spec =

@@ -23,7 +23,15 @@ same-length : tie.Need-same-length
 same-length c = search needs
 
 returns : tie.Need-returns
-returns c = subst (λ (k : List ℕ). Desk (c .before .before .before .before .before .before .before .before .args .t .now) k (c .before .before .before .before .before .before .before .before .args .x)) (sym (c .before .before .put .ensures)) (learn-symbol (c .before .before .before .before .before .before .before .before .args .t .now) (c .before .before .before .before .before .before .before .before .args .desk .now) (c .before .before .before .before .before .before .before .before .args .x) (c .before .before .before .before .before .look .result .op) (c .before .before .before .before .before .look .result .left) (c .before .before .before .before .before .look .result .y) (c .before .before .before .before .before .look .result .z) (c .before .before .before .before .before .before .before .before .pre .1) (c .before .before .before .before .before .before .before .before .pre .2) (c .before .before .before .before .before .before .before .before .pre .3) (c .before .before .before .before .before .before .before .before .pre .4) (c .before .before .before .before .before .look .ensures) (c .before .before .before .before .if1 .taken))
+returns c = subst (λ (k : List ℕ). Desk (c .before .before .before .before .before .before .before .before .args .t .now) k
+    (c .before .before .before .before .before .before .before .before .args .x)) (sym (c .before .before .put .ensures))
+    (learn-symbol (c .before .before .before .before .before .before .before .before .args .t .now)
+    (c .before .before .before .before .before .before .before .before .args .desk .now) (c .before .before .before .before .before .before .before .before .args .x)
+    (c .before .before .before .before .before .look .result .op) (c .before .before .before .before .before .look .result .left)
+    (c .before .before .before .before .before .look .result .y) (c .before .before .before .before .before .look .result .z)
+    (c .before .before .before .before .before .before .before .before .pre .1) (c .before .before .before .before .before .before .before .before .pre .2)
+    (c .before .before .before .before .before .before .before .before .pre .3) (c .before .before .before .before .before .before .before .before .pre .4)
+    (c .before .before .before .before .before .look .ensures) (c .before .before .before .before .if1 .taken))
 
 adopt-both-requires : tie.Need-adopt-both-requires
 adopt-both-requires c κs = search needs
@@ -32,7 +40,16 @@ same-length-2 : tie.Need-same-length-2
 same-length-2 c = search needs
 
 returns-2 : tie.Need-returns-2
-returns-2 c = subst (λ (k : List ℕ). Desk (c .before .before .before .before .before .before .before .before .before .args .t .now) k (c .before .before .before .before .before .before .before .before .before .args .x)) (sym (c .before .before .adopt-both .ensures .0)) (learn-seq (c .before .before .before .before .before .before .before .before .before .args .t .now) (c .before .before .before .before .before .before .before .before .before .args .desk .now) (c .before .before .before .before .before .before .before .before .before .args .x) (c .before .before .before .before .before .before .look .result .op) (c .before .before .before .before .before .before .look .result .left) (c .before .before .before .before .before .before .look .result .y) (c .before .before .before .before .before .before .look .result .z) (c .before .before .before .before .before .before .before .before .before .pre .1) (c .before .before .before .before .before .before .before .before .before .pre .2) (c .before .before .before .before .before .before .before .before .before .pre .3) (c .before .before .before .before .before .before .before .before .before .pre .4) (c .before .before .before .before .before .before .look .ensures) (c .before .before .adopt-both .result) (c .before .before .before .before .if2 .taken) (c .before .before .adopt-both .ensures .1))
+returns-2 c = subst (λ (k : List ℕ). Desk (c .before .before .before .before .before .before .before .before .before .args .t .now) k
+    (c .before .before .before .before .before .before .before .before .before .args .x)) (sym (c .before .before .adopt-both .ensures .0))
+    (learn-seq (c .before .before .before .before .before .before .before .before .before .args .t .now)
+    (c .before .before .before .before .before .before .before .before .before .args .desk .now)
+    (c .before .before .before .before .before .before .before .before .before .args .x) (c .before .before .before .before .before .before .look .result .op)
+    (c .before .before .before .before .before .before .look .result .left) (c .before .before .before .before .before .before .look .result .y)
+    (c .before .before .before .before .before .before .look .result .z) (c .before .before .before .before .before .before .before .before .before .pre .1)
+    (c .before .before .before .before .before .before .before .before .before .pre .2) (c .before .before .before .before .before .before .before .before .before .pre .3)
+    (c .before .before .before .before .before .before .before .before .before .pre .4) (c .before .before .before .before .before .before .look .ensures)
+    (c .before .before .adopt-both .result) (c .before .before .before .before .if2 .taken) (c .before .before .adopt-both .ensures .1))
 
 adopt-both-requires-2 : tie.Need-adopt-both-requires-2
 adopt-both-requires-2 c κs = search needs
@@ -41,7 +58,17 @@ same-length-3 : tie.Need-same-length-3
 same-length-3 c = search needs
 
 returns-3 : tie.Need-returns-3
-returns-3 c = subst (λ (k : List ℕ). Desk (c .before .before .before .before .before .before .before .before .before .before .args .t .now) k (c .before .before .before .before .before .before .before .before .before .before .args .x)) (sym (c .before .before .adopt-both2 .ensures .0)) (learn-choice (c .before .before .before .before .before .before .before .before .before .before .args .t .now) (c .before .before .before .before .before .before .before .before .before .before .args .desk .now) (c .before .before .before .before .before .before .before .before .before .before .args .x) (c .before .before .before .before .before .before .before .look .result .op) (c .before .before .before .before .before .before .before .look .result .left) (c .before .before .before .before .before .before .before .look .result .y) (c .before .before .before .before .before .before .before .look .result .z) (c .before .before .before .before .before .before .before .before .before .before .pre .1) (c .before .before .before .before .before .before .before .before .before .before .pre .2) (c .before .before .before .before .before .before .before .before .before .before .pre .3) (c .before .before .before .before .before .before .before .before .before .before .pre .4) (c .before .before .before .before .before .before .before .look .ensures) (c .before .before .adopt-both2 .result) (c .before .before .before .before .if3 .taken) (c .before .before .adopt-both2 .ensures .1))
+returns-3 c = subst (λ (k : List ℕ). Desk (c .before .before .before .before .before .before .before .before .before .before .args .t .now) k
+    (c .before .before .before .before .before .before .before .before .before .before .args .x)) (sym (c .before .before .adopt-both2 .ensures .0))
+    (learn-choice (c .before .before .before .before .before .before .before .before .before .before .args .t .now)
+    (c .before .before .before .before .before .before .before .before .before .before .args .desk .now)
+    (c .before .before .before .before .before .before .before .before .before .before .args .x) (c .before .before .before .before .before .before .before .look .result .op)
+    (c .before .before .before .before .before .before .before .look .result .left) (c .before .before .before .before .before .before .before .look .result .y)
+    (c .before .before .before .before .before .before .before .look .result .z) (c .before .before .before .before .before .before .before .before .before .before .pre .1)
+    (c .before .before .before .before .before .before .before .before .before .before .pre .2)
+    (c .before .before .before .before .before .before .before .before .before .before .pre .3)
+    (c .before .before .before .before .before .before .before .before .before .before .pre .4) (c .before .before .before .before .before .before .before .look .ensures)
+    (c .before .before .adopt-both2 .result) (c .before .before .before .before .if3 .taken) (c .before .before .adopt-both2 .ensures .1))
 
 adopt-requires : tie.Need-adopt-requires
 adopt-requires c κs = search needs
@@ -50,7 +77,20 @@ same-length-4 : tie.Need-same-length-4
 same-length-4 c = search needs
 
 returns-4 : tie.Need-returns-4
-returns-4 c = subst (λ (k : List ℕ). Desk (c .before .before .before .before .before .before .before .before .before .before .before .args .t .now) k (c .before .before .before .before .before .before .before .before .before .before .before .args .x)) (sym (c .before .before .adopt .ensures)) (learn-option (c .before .before .before .before .before .before .before .before .before .before .before .args .t .now) (c .before .before .before .before .before .before .before .before .before .before .before .args .desk .now) (c .before .before .before .before .before .before .before .before .before .before .before .args .x) (c .before .before .before .before .before .before .before .before .look .result .op) (c .before .before .before .before .before .before .before .before .look .result .left) (c .before .before .before .before .before .before .before .before .look .result .y) (c .before .before .before .before .before .before .before .before .look .result .z) (c .before .before .before .before .before .before .before .before .before .before .before .pre .1) (c .before .before .before .before .before .before .before .before .before .before .before .pre .2) (c .before .before .before .before .before .before .before .before .before .before .before .pre .3) (c .before .before .before .before .before .before .before .before .before .before .before .pre .4) (c .before .before .before .before .before .before .before .before .look .ensures) (markOf (c .before .before .before .before .before .before .before .before .before .before .before .args .desk .now) (c .before .before .before .before .before .before .before .before .look .result .y)) (c .before .before .before .before .if4 .taken) refl)
+returns-4 c = subst (λ (k : List ℕ). Desk (c .before .before .before .before .before .before .before .before .before .before .before .args .t .now) k
+    (c .before .before .before .before .before .before .before .before .before .before .before .args .x)) (sym (c .before .before .adopt .ensures))
+    (learn-option (c .before .before .before .before .before .before .before .before .before .before .before .args .t .now)
+    (c .before .before .before .before .before .before .before .before .before .before .before .args .desk .now)
+    (c .before .before .before .before .before .before .before .before .before .before .before .args .x)
+    (c .before .before .before .before .before .before .before .before .look .result .op) (c .before .before .before .before .before .before .before .before .look .result .left)
+    (c .before .before .before .before .before .before .before .before .look .result .y) (c .before .before .before .before .before .before .before .before .look .result .z)
+    (c .before .before .before .before .before .before .before .before .before .before .before .pre .1)
+    (c .before .before .before .before .before .before .before .before .before .before .before .pre .2)
+    (c .before .before .before .before .before .before .before .before .before .before .before .pre .3)
+    (c .before .before .before .before .before .before .before .before .before .before .before .pre .4)
+    (c .before .before .before .before .before .before .before .before .look .ensures)
+    (markOf (c .before .before .before .before .before .before .before .before .before .before .before .args .desk .now)
+    (c .before .before .before .before .before .before .before .before .look .result .y)) (c .before .before .before .before .if4 .taken) refl)
 
 adopt-requires-2 : tie.Need-adopt-requires-2
 adopt-requires-2 c κs = search needs
@@ -59,7 +99,22 @@ same-length-5 : tie.Need-same-length-5
 same-length-5 c = search needs
 
 returns-5 : tie.Need-returns-5
-returns-5 c = subst (λ (k : List ℕ). Desk (c .before .before .before .before .before .before .before .before .before .before .before .before .args .t .now) k (c .before .before .before .before .before .before .before .before .before .before .before .before .args .x)) (sym (c .before .before .adopt2 .ensures)) (learn-star (c .before .before .before .before .before .before .before .before .before .before .before .before .args .t .now) (c .before .before .before .before .before .before .before .before .before .before .before .before .args .desk .now) (c .before .before .before .before .before .before .before .before .before .before .before .before .args .x) (c .before .before .before .before .before .before .before .before .before .look .result .op) (c .before .before .before .before .before .before .before .before .before .look .result .left) (c .before .before .before .before .before .before .before .before .before .look .result .y) (c .before .before .before .before .before .before .before .before .before .look .result .z) (c .before .before .before .before .before .before .before .before .before .before .before .before .pre .1) (c .before .before .before .before .before .before .before .before .before .before .before .before .pre .2) (c .before .before .before .before .before .before .before .before .before .before .before .before .pre .3) (c .before .before .before .before .before .before .before .before .before .before .before .before .pre .4) (c .before .before .before .before .before .before .before .before .before .look .ensures) (markOf (c .before .before .before .before .before .before .before .before .before .before .before .before .args .desk .now) (c .before .before .before .before .before .before .before .before .before .look .result .y)) (c .before .before .before .before .if5 .taken) refl)
+returns-5 c = subst (λ (k : List ℕ). Desk (c .before .before .before .before .before .before .before .before .before .before .before .before .args .t .now) k
+    (c .before .before .before .before .before .before .before .before .before .before .before .before .args .x)) (sym (c .before .before .adopt2 .ensures))
+    (learn-star (c .before .before .before .before .before .before .before .before .before .before .before .before .args .t .now)
+    (c .before .before .before .before .before .before .before .before .before .before .before .before .args .desk .now)
+    (c .before .before .before .before .before .before .before .before .before .before .before .before .args .x)
+    (c .before .before .before .before .before .before .before .before .before .look .result .op)
+    (c .before .before .before .before .before .before .before .before .before .look .result .left)
+    (c .before .before .before .before .before .before .before .before .before .look .result .y)
+    (c .before .before .before .before .before .before .before .before .before .look .result .z)
+    (c .before .before .before .before .before .before .before .before .before .before .before .before .pre .1)
+    (c .before .before .before .before .before .before .before .before .before .before .before .before .pre .2)
+    (c .before .before .before .before .before .before .before .before .before .before .before .before .pre .3)
+    (c .before .before .before .before .before .before .before .before .before .before .before .before .pre .4)
+    (c .before .before .before .before .before .before .before .before .before .look .ensures)
+    (markOf (c .before .before .before .before .before .before .before .before .before .before .before .before .args .desk .now)
+    (c .before .before .before .before .before .before .before .before .before .look .result .y)) (c .before .before .before .before .if5 .taken) refl)
 
 adopt-requires-3 : tie.Need-adopt-requires-3
 adopt-requires-3 c κs = search needs
@@ -68,10 +123,33 @@ same-length-6 : tie.Need-same-length-6
 same-length-6 c = search needs
 
 returns-6 : tie.Need-returns-6
-returns-6 c = subst (λ (k : List ℕ). Desk (c .before .before .before .before .before .before .before .before .before .before .before .before .before .args .t .now) k (c .before .before .before .before .before .before .before .before .before .before .before .before .before .args .x)) (sym (c .before .before .adopt3 .ensures)) (learn-plus (c .before .before .before .before .before .before .before .before .before .before .before .before .before .args .t .now) (c .before .before .before .before .before .before .before .before .before .before .before .before .before .args .desk .now) (c .before .before .before .before .before .before .before .before .before .before .before .before .before .args .x) (c .before .before .before .before .before .before .before .before .before .before .look .result .op) (c .before .before .before .before .before .before .before .before .before .before .look .result .left) (c .before .before .before .before .before .before .before .before .before .before .look .result .y) (c .before .before .before .before .before .before .before .before .before .before .look .result .z) (c .before .before .before .before .before .before .before .before .before .before .before .before .before .pre .1) (c .before .before .before .before .before .before .before .before .before .before .before .before .before .pre .2) (c .before .before .before .before .before .before .before .before .before .before .before .before .before .pre .3) (c .before .before .before .before .before .before .before .before .before .before .before .before .before .pre .4) (c .before .before .before .before .before .before .before .before .before .before .look .ensures) (markOf (c .before .before .before .before .before .before .before .before .before .before .before .before .before .args .desk .now) (c .before .before .before .before .before .before .before .before .before .before .look .result .y)) (c .before .before .before .before .if6 .taken) refl)
+returns-6 c = subst (λ (k : List ℕ). Desk (c .before .before .before .before .before .before .before .before .before .before .before .before .before .args .t .now) k
+    (c .before .before .before .before .before .before .before .before .before .before .before .before .before .args .x)) (sym (c .before .before .adopt3 .ensures))
+    (learn-plus (c .before .before .before .before .before .before .before .before .before .before .before .before .before .args .t .now)
+    (c .before .before .before .before .before .before .before .before .before .before .before .before .before .args .desk .now)
+    (c .before .before .before .before .before .before .before .before .before .before .before .before .before .args .x)
+    (c .before .before .before .before .before .before .before .before .before .before .look .result .op)
+    (c .before .before .before .before .before .before .before .before .before .before .look .result .left)
+    (c .before .before .before .before .before .before .before .before .before .before .look .result .y)
+    (c .before .before .before .before .before .before .before .before .before .before .look .result .z)
+    (c .before .before .before .before .before .before .before .before .before .before .before .before .before .pre .1)
+    (c .before .before .before .before .before .before .before .before .before .before .before .before .before .pre .2)
+    (c .before .before .before .before .before .before .before .before .before .before .before .before .before .pre .3)
+    (c .before .before .before .before .before .before .before .before .before .before .before .before .before .pre .4)
+    (c .before .before .before .before .before .before .before .before .before .before .look .ensures)
+    (markOf (c .before .before .before .before .before .before .before .before .before .before .before .before .before .args .desk .now)
+    (c .before .before .before .before .before .before .before .before .before .before .look .result .y)) (c .before .before .before .before .if6 .taken) refl)
 
 returns-7 : tie.Need-returns-7
-returns-7 c = learn-other (c .before .before .before .before .before .before .before .before .before .args .t .now) (c .before .before .before .before .before .before .before .before .before .args .desk .now) (c .before .before .before .before .before .before .before .before .before .args .x) (c .before .before .before .before .before .before .look .result .op) (c .before .before .before .before .before .before .look .result .left) (c .before .before .before .before .before .before .look .result .y) (c .before .before .before .before .before .before .look .result .z) (c .before .before .before .before .before .before .before .before .before .pre .1) (c .before .before .before .before .before .before .before .before .before .pre .2) (c .before .before .before .before .before .before .before .before .before .pre .3) (c .before .before .before .before .before .before .before .before .before .pre .4) (c .before .before .before .before .before .before .look .ensures) (c .before .before .before .before .before .if1 .left) (c .before .before .before .before .if2 .left) (c .before .before .before .if3 .left) (c .before .before .if4 .left) (c .before .if5 .left) (c .if6 .left)
+returns-7 c = learn-other (c .before .before .before .before .before .before .before .before .before .args .t .now)
+    (c .before .before .before .before .before .before .before .before .before .args .desk .now)
+    (c .before .before .before .before .before .before .before .before .before .args .x) (c .before .before .before .before .before .before .look .result .op)
+    (c .before .before .before .before .before .before .look .result .left) (c .before .before .before .before .before .before .look .result .y)
+    (c .before .before .before .before .before .before .look .result .z) (c .before .before .before .before .before .before .before .before .before .pre .1)
+    (c .before .before .before .before .before .before .before .before .before .pre .2) (c .before .before .before .before .before .before .before .before .before .pre .3)
+    (c .before .before .before .before .before .before .before .before .before .pre .4) (c .before .before .before .before .before .before .look .ensures)
+    (c .before .before .before .before .before .if1 .left) (c .before .before .before .before .if2 .left) (c .before .before .before .if3 .left) (c .before .before .if4 .left)
+    (c .before .if5 .left) (c .if6 .left)
 
 pub learn-spec : {M : Type 1} → statement M
 learn-spec =

@@ -28,7 +28,14 @@ add-learn : tie.Need-add-learn Inv-loop μ-loop
 add-learn c = omega (arith, c .before .loop-test .taken, c .before .before .before .expressions .ensures .1)
 
 learn-requires : tie.Need-learn-requires Inv-loop μ-loop
-learn-requires c κs = let z : (c .before .before .loop .e) ≡ c .before .before .loop .e + 1 - 1 = omega arith in (omega arith, omega (arith, c .before .loop-test .taken, c .before .before .before .expressions .ensures .0), c .before .before .before .before .before .before .pre .0, c .before .before .before .before .before .before .pre .1, subst (λ (i : ℕ). Desk (c .before .before .before .before .before .before .args .t .now) (c .before .before .loop .desk) i) z (c .before .before .loop .inv .2))
+learn-requires c κs = let z : (c .before .before .loop .e) ≡ c .before .before .loop .e + 1 - 1 = omega arith in (
+  omega arith,
+  omega (arith, c .before .loop-test .taken, c .before .before .before .expressions .ensures .0),
+  c .before .before .before .before .before .before .pre .0,
+  c .before .before .before .before .before .before .pre .1,
+  subst
+      (λ (i : ℕ). Desk (c .before .before .before .before .before .before .args .t .now) (c .before .before .loop .desk) i) z (c .before .before .loop .inv .2),
+)
 
 add-e : tie.Need-add-e Inv-loop μ-loop
 add-e c = omega (arith, c .before .before .before .before .loop-test .taken, c .before .before .before .before .before .before .expressions .ensures .1)
@@ -37,13 +44,19 @@ loop-less : tie.Need-loop-less Inv-loop μ-loop
 loop-less c = omega (arith, c .before .before .before .before .loop-test .taken)
 
 loop-again : tie.Need-loop-again Inv-loop μ-loop
-loop-again c = (omega (arith, c .before .before .before .before .loop-test .taken), c .before .before .learn .kept .1 .0 ∙ c .before .before .before .before .before .loop .inv .1, c .before .before .learn .ensures)
+loop-again c = (
+  omega (arith, c .before .before .before .before .loop-test .taken),
+  c .before .before .learn .kept .1 .0 ∙ c .before .before .before .before .before .loop .inv .1,
+  c .before .before .learn .ensures,
+)
 
 same-length : tie.Need-same-length Inv-loop μ-loop
 same-length c = c .before .loop .inv .1
 
 returns : tie.Need-returns Inv-loop μ-loop
-returns c = let z : (c .before .loop .e) ≡ expressionCount (c .before .before .before .before .before .args .t .now) = omega (arith, c .before .loop .inv .0, c .loop-test .left, c .before .before .expressions .ensures .0) in subst (λ (i : ℕ). Desk (c .before .before .before .before .before .args .t .now) (c .before .loop .desk) i) z (c .before .loop .inv .2)
+returns c = let z : (c .before .loop .e) ≡ expressionCount (c .before .before .before .before .before .args .t .now) = omega
+    (arith, c .before .loop .inv .0, c .loop-test .left, c .before .before .expressions .ensures .0) in subst
+    (λ (i : ℕ). Desk (c .before .before .before .before .before .args .t .now) (c .before .loop .desk) i) z (c .before .loop .inv .2)
 
 pub learn-all-spec : {M : Type 1} → statement M
 learn-all-spec =

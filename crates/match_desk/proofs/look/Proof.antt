@@ -29,7 +29,10 @@ part-requires-2 : tie.Need-part-requires-2
 part-requires-2 c κs = search needs
 
 returns : tie.Need-returns
-returns c = made-of (c .before .before .before .before .before .before .args .t .now) (c .before .before .before .before .before .before .args .x) (c .before .before .before .before .op .result) (c .before .before .before .left .result) (c .before .before .right .result) (c .before .part .result) (c .part2 .result) (omega (arith, c .before .before .before .before .before .before .pre)) (c .before .before .before .before .op .ensures .0) (c .before .before .before .left .ensures .0) (c .before .before .right .ensures .0) (c .before .before .before .left .ensures .1) (c .before .part .ensures) (c .part2 .ensures)
+returns c = made-of (c .before .before .before .before .before .before .args .t .now) (c .before .before .before .before .before .before .args .x)
+    (c .before .before .before .before .op .result) (c .before .before .before .left .result) (c .before .before .right .result) (c .before .part .result) (c .part2 .result)
+    (omega (arith, c .before .before .before .before .before .before .pre)) (c .before .before .before .before .op .ensures .0) (c .before .before .before .left .ensures .0)
+    (c .before .before .right .ensures .0) (c .before .before .before .left .ensures .1) (c .before .part .ensures) (c .part2 .ensures)
 
 pub look-spec : {M : Type 1} → statement M
 look-spec =

@@ -17,7 +17,8 @@ use Rattle.match_eval.proofs.class_at.Lts as lts
 use Rattle.base_words.proofs.word.Reads as word-reads
 
 returns : tie.Need-returns
-returns c = class-ends (c .before .before .before .args .s .now) (c .before .before .before .args .p) (marksFrom (c .before .before .before .args .t .now) (c .before .before .before .args .i) 256) (c .if1 .taken)
+returns c = class-ends (c .before .before .before .args .s .now) (c .before .before .before .args .p)
+    (marksFrom (c .before .before .before .args .t .now) (c .before .before .before .args .i) 256) (c .if1 .taken)
 
 shared-slice-read-b : tie.Need-shared-slice-read-b
 shared-slice-read-b c = search needs
@@ -32,10 +33,26 @@ word-requires : tie.Need-word-requires
 word-requires c κs = search needs
 
 returns-2 : tie.Need-returns-2
-returns-2 c = class-fails (c .before .before .before .before .before .before .args .s .now) (c .before .before .before .before .before .before .args .p) (marksFrom (c .before .before .before .before .before .before .args .t .now) (c .before .before .before .before .before .before .args .i) 256) (omega (arith, c .before .before .before .if1 .left)) (marks-at (c .before .before .before .before .before .before .args .t .now) (c .before .before .before .before .before .before .args .i) 256 (getD (c .before .before .before .before .before .before .args .s .now) (c .before .before .before .before .before .before .args .p) 0) (omega (arith, c .before .before .before .before .shared-slice-known2 .given (c .before .before .before .before .before .before .args .p))) ∙ ap not (eq-eqb (getD (c .before .before .before .before .before .before .args .t .now) (c .before .before .before .before .before .before .args .i + getD (c .before .before .before .before .before .before .args .s .now) (c .before .before .before .before .before .before .args .p) 0) 0) 0 (sym (c .before .word .ensures .0) ∙ c .if2 .taken)))
+returns-2 c = class-fails (c .before .before .before .before .before .before .args .s .now) (c .before .before .before .before .before .before .args .p)
+    (marksFrom (c .before .before .before .before .before .before .args .t .now) (c .before .before .before .before .before .before .args .i) 256)
+    (omega (arith, c .before .before .before .if1 .left)) (marks-at (c .before .before .before .before .before .before .args .t .now)
+    (c .before .before .before .before .before .before .args .i) 256
+    (getD (c .before .before .before .before .before .before .args .s .now) (c .before .before .before .before .before .before .args .p) 0)
+    (omega (arith, c .before .before .before .before .shared-slice-known2 .given (c .before .before .before .before .before .before .args .p))) ∙ ap not
+    (eq-eqb (getD (c .before .before .before .before .before .before .args .t .now)
+    (c .before .before .before .before .before .before .args .i + getD (c .before .before .before .before .before .before .args .s .now)
+    (c .before .before .before .before .before .before .args .p) 0) 0) 0 (sym (c .before .word .ensures .0) ∙ c .if2 .taken)))
 
 returns-3 : tie.Need-returns-3
-returns-3 c = class-takes (c .before .before .before .before .before .before .args .s .now) (c .before .before .before .before .before .before .args .p) (marksFrom (c .before .before .before .before .before .before .args .t .now) (c .before .before .before .before .before .before .args .i) 256) (omega (arith, c .before .before .before .if1 .left)) (marks-at (c .before .before .before .before .before .before .args .t .now) (c .before .before .before .before .before .before .args .i) 256 (getD (c .before .before .before .before .before .before .args .s .now) (c .before .before .before .before .before .before .args .p) 0) (omega (arith, c .before .before .before .before .shared-slice-known2 .given (c .before .before .before .before .before .before .args .p))) ∙ ap not (ne-eqb (getD (c .before .before .before .before .before .before .args .t .now) (c .before .before .before .before .before .before .args .i + getD (c .before .before .before .before .before .before .args .s .now) (c .before .before .before .before .before .before .args .p) 0) 0) 0 (λ z. c .if2 .left (c .before .word .ensures .0 ∙ z))))
+returns-3 c = class-takes (c .before .before .before .before .before .before .args .s .now) (c .before .before .before .before .before .before .args .p)
+    (marksFrom (c .before .before .before .before .before .before .args .t .now) (c .before .before .before .before .before .before .args .i) 256)
+    (omega (arith, c .before .before .before .if1 .left)) (marks-at (c .before .before .before .before .before .before .args .t .now)
+    (c .before .before .before .before .before .before .args .i) 256
+    (getD (c .before .before .before .before .before .before .args .s .now) (c .before .before .before .before .before .before .args .p) 0)
+    (omega (arith, c .before .before .before .before .shared-slice-known2 .given (c .before .before .before .before .before .before .args .p))) ∙ ap not
+    (ne-eqb (getD (c .before .before .before .before .before .before .args .t .now)
+    (c .before .before .before .before .before .before .args .i + getD (c .before .before .before .before .before .before .args .s .now)
+    (c .before .before .before .before .before .before .args .p) 0) 0) 0 (λ z. c .if2 .left (c .before .word .ensures .0 ∙ z))))
 
 pub class-at-spec : {M : Type 1} → statement M
 class-at-spec =

@@ -12,7 +12,12 @@ slice-aggregate-eval-with : tie.Need-slice-aggregate-eval-with
 slice-aggregate-eval-with c = search needs
 
 eval-with-requires : tie.Need-eval-with-requires
-eval-with-requires c κs = (omega (arith, c .before .before .before .before .pre), knows-nothing (c .before .before .before .before .args .t .now) (c .before .before .before .before .args .s .now) (c .before .before .before .before .args .cells .now) (c .before .before .before .before .args .n) 0 (c .before .before .before .before .args .p) 1)
+eval-with-requires c κs = (
+  omega (arith, c .before .before .before .before .pre),
+  knows-nothing (c .before .before .before .before .args .t .now)
+      (c .before .before .before .before .args .s .now) (c .before .before .before .before .args .cells .now) (c .before .before .before .before .args .n) 0
+      (c .before .before .before .before .args .p) 1,
+)
 
 returns : tie.Need-returns
 returns c = search needs

@@ -25,7 +25,10 @@ loop-holds : tie.Need-loop-holds Inv-loop μ-loop
 loop-holds c = (omega arith, omega arith, omega arith, refl)
 
 returns : tie.Need-returns Inv-loop μ-loop
-returns c = literal-fails (c .before .before .before .before .before .args .s .now) (c .before .before .before .before .before .args .p) (wordsFrom (c .before .before .before .before .before .args .t .now) (c .before .before .before .before .before .args .i) (c .before .before .before .before .before .args .n)) (lit-ends (c .before .before .before .before .before .args .s .now) (c .before .before .before .before .before .args .t .now) (c .before .before .loop .q) (c .before .before .loop .j) (c .before .before .loop .k) (c .before .loop-test .taken) (c .if1 .taken) ∙ c .before .before .loop .inv .3)
+returns c = literal-fails (c .before .before .before .before .before .args .s .now) (c .before .before .before .before .before .args .p)
+    (wordsFrom (c .before .before .before .before .before .args .t .now) (c .before .before .before .before .before .args .i) (c .before .before .before .before .before .args .n))
+    (lit-ends (c .before .before .before .before .before .args .s .now) (c .before .before .before .before .before .args .t .now) (c .before .before .loop .q)
+    (c .before .before .loop .j) (c .before .before .loop .k) (c .before .loop-test .taken) (c .if1 .taken) ∙ c .before .before .loop .inv .3)
 
 shared-slice-read-b : tie.Need-shared-slice-read-b Inv-loop μ-loop
 shared-slice-read-b c = search needs
@@ -37,10 +40,22 @@ word-requires : tie.Need-word-requires Inv-loop μ-loop
 word-requires c κs = search needs
 
 returns-2 : tie.Need-returns-2 Inv-loop μ-loop
-returns-2 c = literal-fails (c .before .before .before .before .before .before .before .before .args .s .now) (c .before .before .before .before .before .before .before .before .args .p) (wordsFrom (c .before .before .before .before .before .before .before .before .args .t .now) (c .before .before .before .before .before .before .before .before .args .i) (c .before .before .before .before .before .before .before .before .args .n)) (lit-differs (c .before .before .before .before .before .before .before .before .args .s .now) (c .before .before .before .before .before .before .before .before .args .t .now) (c .before .before .before .before .before .loop .q) (c .before .before .before .before .before .loop .j) (c .before .before .before .before .before .loop .k) (c .before .before .before .before .loop-test .taken) _ (c .before .word .result) (omega (arith, c .before .before .before .if1 .left)) refl (c .before .word .ensures .0) (c .if2 .taken) ∙ c .before .before .before .before .before .loop .inv .3)
+returns-2 c = literal-fails (c .before .before .before .before .before .before .before .before .args .s .now)
+    (c .before .before .before .before .before .before .before .before .args .p)
+    (wordsFrom (c .before .before .before .before .before .before .before .before .args .t .now) (c .before .before .before .before .before .before .before .before .args .i)
+    (c .before .before .before .before .before .before .before .before .args .n))
+    (lit-differs (c .before .before .before .before .before .before .before .before .args .s .now) (c .before .before .before .before .before .before .before .before .args .t .now)
+    (c .before .before .before .before .before .loop .q) (c .before .before .before .before .before .loop .j) (c .before .before .before .before .before .loop .k)
+    (c .before .before .before .before .loop-test .taken) _ (c .before .word .result) (omega (arith, c .before .before .before .if1 .left)) refl (c .before .word .ensures .0)
+    (c .if2 .taken) ∙ c .before .before .before .before .before .loop .inv .3)
 
 add-j : tie.Need-add-j Inv-loop μ-loop
-add-j c = omega (arith, c .before .before .before .before .before .loop .inv .1, c .before .before .before .before .before .before .before .before .pre .0, c .before .before .before .before .before .before .before .before .pre .1)
+add-j c = omega (
+  arith,
+  c .before .before .before .before .before .loop .inv .1,
+  c .before .before .before .before .before .before .before .before .pre .0,
+  c .before .before .before .before .before .before .before .before .pre .1,
+)
 
 add-q : tie.Need-add-q Inv-loop μ-loop
 add-q c = omega (arith, c .before .before .before .if1 .left, c .before .before .before .before .before .before .before .before .pre .2)
@@ -52,13 +67,29 @@ loop-less : tie.Need-loop-less Inv-loop μ-loop
 loop-less c = omega (arith, c .before .before .before .before .loop-test .taken)
 
 loop-again : tie.Need-loop-again Inv-loop μ-loop
-loop-again c = (omega (arith, c .before .before .before .if1 .left), omega (arith, c .before .before .before .before .before .loop .inv .1, c .before .before .before .before .loop-test .taken), omega (arith, c .before .before .before .before .before .loop .inv .2), lit-goes (c .before .before .before .before .before .before .before .before .args .s .now) (c .before .before .before .before .before .before .before .before .args .t .now) (c .before .before .before .before .before .loop .q) (c .before .before .before .before .before .loop .j) (c .before .before .before .before .before .loop .k) (c .before .before .before .before .loop-test .taken) _ (c .before .word .result) (omega (arith, c .before .before .before .if1 .left)) refl (c .before .word .ensures .0) (c .if2 .left) ∙ c .before .before .before .before .before .loop .inv .3)
+loop-again c = (
+  omega (arith, c .before .before .before .if1 .left),
+  omega
+      (arith, c .before .before .before .before .before .loop .inv .1, c .before .before .before .before .loop-test .taken),
+  omega
+      (arith, c .before .before .before .before .before .loop .inv .2),
+  lit-goes (c .before .before .before .before .before .before .before .before .args .s .now)
+      (c .before .before .before .before .before .before .before .before .args .t .now) (c .before .before .before .before .before .loop .q)
+      (c .before .before .before .before .before .loop .j) (c .before .before .before .before .before .loop .k) (c .before .before .before .before .loop-test .taken) _
+      (c .before .word .result) (omega (arith, c .before .before .before .if1 .left)) refl (c .before .word .ensures .0) (c .if2 .left) ∙ c .before .before .before .before .before .loop .inv .3,
+)
 
 add-result : tie.Need-add-result Inv-loop μ-loop
 add-result c = omega (arith, c .before .before .before .before .pre .1)
 
 returns-3 : tie.Need-returns-3 Inv-loop μ-loop
-returns-3 c = (let e : length (wordsFrom (c .before .before .before .before .args .t .now) (c .before .before .before .before .args .i) (c .before .before .before .before .args .n)) ≡ c .before .before .before .before .args .n = words-length (c .before .before .before .before .args .t .now) (c .before .before .before .before .args .i) (c .before .before .before .before .args .n) in ap (λ (m : ℕ). m + 1) (sym e)) ∙ literal-takes (c .before .before .before .before .args .s .now) (c .before .before .before .before .args .p) (wordsFrom (c .before .before .before .before .args .t .now) (c .before .before .before .before .args .i) (c .before .before .before .before .args .n)) (lit-done (c .before .before .before .before .args .s .now) (c .before .before .before .before .args .t .now) (c .before .loop .q) (c .before .loop .j) (c .before .loop .k) (omega (arith, c .loop-test .left)) ∙ c .before .loop .inv .3)
+returns-3 c = (let e : length (wordsFrom (c .before .before .before .before .args .t .now) (c .before .before .before .before .args .i)
+    (c .before .before .before .before .args .n)) ≡ c .before .before .before .before .args .n = words-length (c .before .before .before .before .args .t .now)
+    (c .before .before .before .before .args .i) (c .before .before .before .before .args .n) in ap (λ (m : ℕ). m + 1) (sym e)) ∙ literal-takes
+    (c .before .before .before .before .args .s .now) (c .before .before .before .before .args .p)
+    (wordsFrom (c .before .before .before .before .args .t .now) (c .before .before .before .before .args .i) (c .before .before .before .before .args .n))
+    (lit-done (c .before .before .before .before .args .s .now) (c .before .before .before .before .args .t .now) (c .before .loop .q) (c .before .loop .j) (c .before .loop .k)
+    (omega (arith, c .loop-test .left)) ∙ c .before .loop .inv .3)
 
 pub literal-at-spec : {M : Type 1} → statement M
 literal-at-spec =

@@ -39,7 +39,14 @@ loop-less : tie.Need-loop-less Inv-loop μ-loop
 loop-less c = omega (arith, below-le (c .before .left .result) (c .before .before .before .before .before .loop .y - 1), c .part .ensures, c .before .before .before .before .loop-test .taken)
 
 loop-again : tie.Need-loop-again Inv-loop μ-loop
-loop-again c = omega (arith, below-le (c .before .left .result) (c .before .before .before .before .before .loop .y - 1), c .part .ensures, c .before .before .before .before .before .loop .inv, c .before .before .before .before .loop-test .taken)
+loop-again c = omega (
+  arith,
+  below-le (c .before .left .result)
+      (c .before .before .before .before .before .loop .y - 1),
+  c .part .ensures,
+  c .before .before .before .before .before .loop .inv,
+  c .before .before .before .before .loop-test .taken,
+)
 
 returns-2 : tie.Need-returns-2 Inv-loop μ-loop
 returns-2 c = c .before .loop .inv

@@ -30,7 +30,8 @@ at : (t mem : List ℕ) (n b y z a v : ℕ) → y ≡ z → a ≡ v → v < 3 �
 at t mem n b y z a v e f l h = subst (λ (j : ℕ). Sure t mem n b (treeOf t j) v) e (subst (λ (j : ℕ). Sure t mem n b (treeOf t y) j) f (h (omega (arith, f, l))))
 
 returns : tie.Need-returns
-returns c = λ e. dot-sure (c .before .before .before .args .t .now) (c .before .before .before .args .mem .now) (c .before .before .before .args .n) (c .before .before .before .args .b) (c .before .before .before .args .x) (c .if1 .taken) (c .before .before .before .pre .0 .2)
+returns c = λ e. dot-sure (c .before .before .before .args .t .now) (c .before .before .before .args .mem .now) (c .before .before .before .args .n)
+    (c .before .before .before .args .b) (c .before .before .before .args .x) (c .if1 .taken) (c .before .before .before .pre .0 .2)
 
 sub-e : tie.Need-sub-e
 sub-e c = omega (arith, c .before .before .before .pre .0, c .if1 .left)
@@ -45,13 +46,21 @@ leaf-first-requires : tie.Need-leaf-first-requires
 leaf-first-requires c κs = omega (arith, c .before .before .before .before .before .before .pre .0, c .before .left .ensures .1)
 
 returns-2 : tie.Need-returns-2
-returns-2 c = λ e. sure-leaf (c .before .before .before .before .before .before .before .args .t .now) (c .before .before .before .before .before .before .before .args .mem .now) (c .before .before .before .before .before .before .before .args .n) (c .before .before .before .before .before .before .before .args .b) (c .before .before .before .before .before .before .before .args .x) (c .before .before .before .op .result) (c .before .before .left .result) (c .before .before .before .before .if1 .left) (c .before .before .before .op .ensures .0) (c .before .before .left .ensures .0) (c .leaf-first .result) (c .before .if2 .taken) (c .leaf-first .ensures e)
+returns-2 c = λ e. sure-leaf (c .before .before .before .before .before .before .before .args .t .now) (c .before .before .before .before .before .before .before .args .mem .now)
+    (c .before .before .before .before .before .before .before .args .n) (c .before .before .before .before .before .before .before .args .b)
+    (c .before .before .before .before .before .before .before .args .x) (c .before .before .before .op .result) (c .before .before .left .result)
+    (c .before .before .before .before .if1 .left) (c .before .before .before .op .ensures .0) (c .before .before .left .ensures .0) (c .leaf-first .result) (c .before .if2 .taken)
+    (c .leaf-first .ensures e)
 
 symbol-first-requires : tie.Need-symbol-first-requires
 symbol-first-requires c κs = omega (arith, c .before .before .before .before .before .before .before .pre .0)
 
 returns-3 : tie.Need-returns-3
-returns-3 c = λ e. sure-symbol (c .before .before .before .before .before .before .before .before .args .t .now) (c .before .before .before .before .before .before .before .before .args .mem .now) (c .before .before .before .before .before .before .before .before .args .n) (c .before .before .before .before .before .before .before .before .args .b) (c .before .before .before .before .before .before .before .before .args .x) (c .before .before .before .before .op .result) (c .before .before .before .left .result) (c .before .before .before .before .before .if1 .left) (c .before .before .before .before .op .ensures .0) (c .before .before .before .left .ensures .0) (c .symbol-first .result) (c .before .if3 .taken) (c .symbol-first .ensures e)
+returns-3 c = λ e. sure-symbol (c .before .before .before .before .before .before .before .before .args .t .now)
+    (c .before .before .before .before .before .before .before .before .args .mem .now) (c .before .before .before .before .before .before .before .before .args .n)
+    (c .before .before .before .before .before .before .before .before .args .b) (c .before .before .before .before .before .before .before .before .args .x)
+    (c .before .before .before .before .op .result) (c .before .before .before .left .result) (c .before .before .before .before .before .if1 .left)
+    (c .before .before .before .before .op .ensures .0) (c .before .before .before .left .ensures .0) (c .symbol-first .result) (c .before .if3 .taken) (c .symbol-first .ensures e)
 
 part-requires : tie.Need-part-requires
 part-requires c κs = c .before .before .left .ensures .1
@@ -60,7 +69,20 @@ first-requires : tie.Need-first-requires
 first-requires c κs = c .before .before .before .before .before .before .before .before .pre .1
 
 returns-4 : tie.Need-returns-4
-returns-4 c = λ e. sure-left (c .before .before .before .before .before .before .before .before .before .before .before .args .t .now) (c .before .before .before .before .before .before .before .before .before .before .before .args .mem .now) (c .before .before .before .before .before .before .before .before .before .before .before .args .n) (c .before .before .before .before .before .before .before .before .before .before .before .args .b) (c .before .before .before .before .before .before .before .before .before .before .before .args .x) (c .before .before .before .before .before .before .before .op .result) (c .before .before .before .before .before .before .left .result) (c .before .before .before .before .before .before .before .before .if1 .left) (c .before .before .before .before .before .before .before .op .ensures .0) (c .before .before .before .before .before .before .left .ensures .0) (c .before .if4 .taken) (at (c .before .before .before .before .before .before .before .before .before .before .before .args .t .now) (c .before .before .before .before .before .before .before .before .before .before .before .args .mem .now) (c .before .before .before .before .before .before .before .before .before .before .before .args .n) (c .before .before .before .before .before .before .before .before .before .before .before .args .b) (c .before .before .before .part .result) (below (c .before .before .before .before .before .before .left .result) (c .before .before .before .before .before .before .before .before .before .before .before .args .x - 1)) (c .before .before .first .result) 0 (c .before .before .before .part .ensures) (c .if5 .taken) (omega arith) (c .before .before .first .ensures))
+returns-4 c = λ e. sure-left (c .before .before .before .before .before .before .before .before .before .before .before .args .t .now)
+    (c .before .before .before .before .before .before .before .before .before .before .before .args .mem .now)
+    (c .before .before .before .before .before .before .before .before .before .before .before .args .n)
+    (c .before .before .before .before .before .before .before .before .before .before .before .args .b)
+    (c .before .before .before .before .before .before .before .before .before .before .before .args .x) (c .before .before .before .before .before .before .before .op .result)
+    (c .before .before .before .before .before .before .left .result) (c .before .before .before .before .before .before .before .before .if1 .left)
+    (c .before .before .before .before .before .before .before .op .ensures .0) (c .before .before .before .before .before .before .left .ensures .0) (c .before .if4 .taken)
+    (at (c .before .before .before .before .before .before .before .before .before .before .before .args .t .now)
+    (c .before .before .before .before .before .before .before .before .before .before .before .args .mem .now)
+    (c .before .before .before .before .before .before .before .before .before .before .before .args .n)
+    (c .before .before .before .before .before .before .before .before .before .before .before .args .b) (c .before .before .before .part .result)
+    (below (c .before .before .before .before .before .before .left .result)
+    (c .before .before .before .before .before .before .before .before .before .before .before .args .x - 1)) (c .before .before .first .result) 0
+    (c .before .before .before .part .ensures) (c .if5 .taken) (omega arith) (c .before .before .first .ensures))
 
 right-requires : tie.Need-right-requires
 right-requires c κs = omega (arith, c .before .before .before .before .before .before .before .before .before .before .before .pre .0)
@@ -72,13 +94,48 @@ first-requires-2 : tie.Need-first-requires-2
 first-requires-2 c κs = c .before .before .before .before .before .before .before .before .before .before .before .before .before .pre .1
 
 returns-5 : tie.Need-returns-5
-returns-5 c = λ e. sure-next (c .before .before .before .before .before .before .before .before .before .before .before .before .before .before .before .args .t .now) (c .before .before .before .before .before .before .before .before .before .before .before .before .before .before .before .args .mem .now) (c .before .before .before .before .before .before .before .before .before .before .before .before .before .before .before .args .n) (c .before .before .before .before .before .before .before .before .before .before .before .before .before .before .before .args .b) (c .before .before .before .before .before .before .before .before .before .before .before .before .before .before .before .args .x) (c .before .before .before .before .before .before .before .before .before .before .before .op .result) (c .before .before .before .before .before .before .before .before .before .before .left .result) (c .before .before .before .before .before .before .before .before .before .before .before .before .if1 .left) (c .before .before .before .before .before .before .before .before .before .before .before .op .ensures .0) (c .before .before .before .before .before .before .before .before .before .before .left .ensures .0) (c .before .first2 .result) (c .before .before .before .before .before .if4 .taken) (at (c .before .before .before .before .before .before .before .before .before .before .before .before .before .before .before .args .t .now) (c .before .before .before .before .before .before .before .before .before .before .before .before .before .before .before .args .mem .now) (c .before .before .before .before .before .before .before .before .before .before .before .before .before .before .before .args .n) (c .before .before .before .before .before .before .before .before .before .before .before .before .before .before .before .args .b) (c .before .before .before .before .before .before .before .part .result) (below (c .before .before .before .before .before .before .before .before .before .before .left .result) (c .before .before .before .before .before .before .before .before .before .before .before .before .before .before .before .args .x - 1)) (c .before .before .before .before .before .before .first .result) 1 (c .before .before .before .before .before .before .before .part .ensures) (c .if6 .taken) (omega arith) (c .before .before .before .before .before .before .first .ensures)) (at (c .before .before .before .before .before .before .before .before .before .before .before .before .before .before .before .args .t .now) (c .before .before .before .before .before .before .before .before .before .before .before .before .before .before .before .args .mem .now) (c .before .before .before .before .before .before .before .before .before .before .before .before .before .before .before .args .n) (c .before .before .before .before .before .before .before .before .before .before .before .before .before .before .before .args .b) (c .before .before .part2 .result) (below (rightOf (c .before .before .before .before .before .before .before .before .before .before .before .before .before .before .before .args .t .now) (c .before .before .before .before .before .before .before .before .before .before .before .before .before .before .before .args .x - 1)) (c .before .before .before .before .before .before .before .before .before .before .before .before .before .before .before .args .x - 1)) (c .before .first2 .result) (c .before .first2 .result) (c .before .before .part2 .ensures ∙ ap (λ (j : ℕ). below j (c .before .before .before .before .before .before .before .before .before .before .before .before .before .before .before .args .x - 1)) (c .before .before .before .right .ensures .0)) refl e (c .before .first2 .ensures))
+returns-5 c = λ e. sure-next (c .before .before .before .before .before .before .before .before .before .before .before .before .before .before .before .args .t .now)
+    (c .before .before .before .before .before .before .before .before .before .before .before .before .before .before .before .args .mem .now)
+    (c .before .before .before .before .before .before .before .before .before .before .before .before .before .before .before .args .n)
+    (c .before .before .before .before .before .before .before .before .before .before .before .before .before .before .before .args .b)
+    (c .before .before .before .before .before .before .before .before .before .before .before .before .before .before .before .args .x)
+    (c .before .before .before .before .before .before .before .before .before .before .before .op .result)
+    (c .before .before .before .before .before .before .before .before .before .before .left .result)
+    (c .before .before .before .before .before .before .before .before .before .before .before .before .if1 .left)
+    (c .before .before .before .before .before .before .before .before .before .before .before .op .ensures .0)
+    (c .before .before .before .before .before .before .before .before .before .before .left .ensures .0) (c .before .first2 .result)
+    (c .before .before .before .before .before .if4 .taken) (at
+    (c .before .before .before .before .before .before .before .before .before .before .before .before .before .before .before .args .t .now)
+    (c .before .before .before .before .before .before .before .before .before .before .before .before .before .before .before .args .mem .now)
+    (c .before .before .before .before .before .before .before .before .before .before .before .before .before .before .before .args .n)
+    (c .before .before .before .before .before .before .before .before .before .before .before .before .before .before .before .args .b)
+    (c .before .before .before .before .before .before .before .part .result)
+    (below (c .before .before .before .before .before .before .before .before .before .before .left .result)
+    (c .before .before .before .before .before .before .before .before .before .before .before .before .before .before .before .args .x - 1))
+    (c .before .before .before .before .before .before .first .result) 1 (c .before .before .before .before .before .before .before .part .ensures) (c .if6 .taken) (omega arith)
+    (c .before .before .before .before .before .before .first .ensures))
+    (at (c .before .before .before .before .before .before .before .before .before .before .before .before .before .before .before .args .t .now)
+    (c .before .before .before .before .before .before .before .before .before .before .before .before .before .before .before .args .mem .now)
+    (c .before .before .before .before .before .before .before .before .before .before .before .before .before .before .before .args .n)
+    (c .before .before .before .before .before .before .before .before .before .before .before .before .before .before .before .args .b) (c .before .before .part2 .result)
+    (below (rightOf (c .before .before .before .before .before .before .before .before .before .before .before .before .before .before .before .args .t .now)
+    (c .before .before .before .before .before .before .before .before .before .before .before .before .before .before .before .args .x - 1))
+    (c .before .before .before .before .before .before .before .before .before .before .before .before .before .before .before .args .x - 1)) (c .before .first2 .result)
+    (c .before .first2 .result) (c .before .before .part2 .ensures ∙ ap
+    (λ (j : ℕ). below j (c .before .before .before .before .before .before .before .before .before .before .before .before .before .before .before .args .x - 1))
+    (c .before .before .before .right .ensures .0)) refl e (c .before .first2 .ensures))
 
 returns-6 : tie.Need-returns-6
 returns-6 c = λ e. absurd (omega (arith, e))
 
 guards-requires : tie.Need-guards-requires
-guards-requires c κs = omega (arith, below-le (c .before .before .before .before .before .before .before .before .before .before .before .left .result) (c .before .before .before .before .before .before .before .before .before .before .before .before .before .before .before .before .args .x - 1), c .before .before .before .before .before .before .before .before .part .ensures, c .before .before .before .before .before .before .before .before .before .before .before .before .before .before .before .before .pre .0)
+guards-requires c κs = omega (
+  arith,
+  below-le (c .before .before .before .before .before .before .before .before .before .before .before .left .result)
+      (c .before .before .before .before .before .before .before .before .before .before .before .before .before .before .before .before .args .x - 1),
+  c .before .before .before .before .before .before .before .before .part .ensures,
+  c .before .before .before .before .before .before .before .before .before .before .before .before .before .before .before .before .pre .0,
+)
 
 returns-7 : tie.Need-returns-7
 returns-7 c = λ e. sure-guard (c .before .before .before .before .before .before .before .before .before .before .before .before .before .before .before .before .before .before .args .t .now) (c .before .before .before .before .before .before .before .before .before .before .before .before .before .before .before .before .before .before .args .mem .now) (c .before .before .before .before .before .before .before .before .before .before .before .before .before .before .before .before .before .before .args .n) (c .before .before .before .before .before .before .before .before .before .before .before .before .before .before .before .before .before .before .args .b) (c .before .before .before .before .before .before .before .before .before .before .before .before .before .before .before .before .before .before .args .x) (c .before .before .before .before .before .before .before .before .before .before .before .before .before .before .op .result) (c .before .before .before .before .before .before .before .before .before .before .before .before .before .left .result) (c .before .before .before .before .before .before .before .before .before .before .before .before .before .before .before .if1 .left) (c .before .before .before .before .before .before .before .before .before .before .before .before .before .before .op .ensures .0) (c .before .before .before .before .before .before .before .before .before .before .before .before .before .left .ensures .0) (c .before .before .before .before .before .before .before .before .if4 .taken) (subst (λ (j : ℕ). Guards (treeOf (c .before .before .before .before .before .before .before .before .before .before .before .before .before .before .before .before .before .before .args .t .now) j)) (c .before .before .before .before .before .before .before .before .before .before .part .ensures) (c .before .guards .ensures (c .if8 .taken))) (at (c .before .before .before .before .before .before .before .before .before .before .before .before .before .before .before .before .before .before .args .t .now) (c .before .before .before .before .before .before .before .before .before .before .before .before .before .before .before .before .before .before .args .mem .now) (c .before .before .before .before .before .before .before .before .before .before .before .before .before .before .before .before .before .before .args .n) (c .before .before .before .before .before .before .before .before .before .before .before .before .before .before .before .before .before .before .args .b) (c .before .before .before .before .before .part2 .result) (below (rightOf (c .before .before .before .before .before .before .before .before .before .before .before .before .before .before .before .before .before .before .args .t .now) (c .before .before .before .before .before .before .before .before .before .before .before .before .before .before .before .before .before .before .args .x - 1)) (c .before .before .before .before .before .before .before .before .before .before .before .before .before .before .before .before .before .before .args .x - 1)) (c .before .before .before .before .first2 .result) 0 (c .before .before .before .before .before .part2 .ensures ∙ ap (λ (j : ℕ). below j (c .before .before .before .before .before .before .before .before .before .before .before .before .before .before .before .before .before .before .args .x - 1)) (c .before .before .before .before .before .before .right .ensures .0)) (c .before .before .if7 .left) (omega arith) (c .before .before .before .before .first2 .ensures))
@@ -87,7 +144,21 @@ returns-8 : tie.Need-returns-8
 returns-8 c = λ e. absurd (omega (arith, e))
 
 returns-9 : tie.Need-returns-9
-returns-9 c = λ e. sure-one (c .before .before .before .before .before .before .before .before .before .before .before .before .args .t .now) (c .before .before .before .before .before .before .before .before .before .before .before .before .args .mem .now) (c .before .before .before .before .before .before .before .before .before .before .before .before .args .n) (c .before .before .before .before .before .before .before .before .before .before .before .before .args .b) (c .before .before .before .before .before .before .before .before .before .before .before .before .args .x) (c .before .before .before .before .before .before .before .before .op .result) (c .before .before .before .before .before .before .before .left .result) (c .before .before .before .before .before .before .before .before .before .if1 .left) (c .before .before .before .before .before .before .before .before .op .ensures .0) (c .before .before .before .before .before .before .before .left .ensures .0) (c .before .before .before .first .result) (c .before .if9 .taken) (c .if10 .taken) (at (c .before .before .before .before .before .before .before .before .before .before .before .before .args .t .now) (c .before .before .before .before .before .before .before .before .before .before .before .before .args .mem .now) (c .before .before .before .before .before .before .before .before .before .before .before .before .args .n) (c .before .before .before .before .before .before .before .before .before .before .before .before .args .b) (c .before .before .before .before .part .result) (below (c .before .before .before .before .before .before .before .left .result) (c .before .before .before .before .before .before .before .before .before .before .before .before .args .x - 1)) (c .before .before .before .first .result) (c .before .before .before .first .result) (c .before .before .before .before .part .ensures) refl e (c .before .before .before .first .ensures))
+returns-9 c = λ e. sure-one (c .before .before .before .before .before .before .before .before .before .before .before .before .args .t .now)
+    (c .before .before .before .before .before .before .before .before .before .before .before .before .args .mem .now)
+    (c .before .before .before .before .before .before .before .before .before .before .before .before .args .n)
+    (c .before .before .before .before .before .before .before .before .before .before .before .before .args .b)
+    (c .before .before .before .before .before .before .before .before .before .before .before .before .args .x)
+    (c .before .before .before .before .before .before .before .before .op .result) (c .before .before .before .before .before .before .before .left .result)
+    (c .before .before .before .before .before .before .before .before .before .if1 .left) (c .before .before .before .before .before .before .before .before .op .ensures .0)
+    (c .before .before .before .before .before .before .before .left .ensures .0) (c .before .before .before .first .result) (c .before .if9 .taken) (c .if10 .taken)
+    (at (c .before .before .before .before .before .before .before .before .before .before .before .before .args .t .now)
+    (c .before .before .before .before .before .before .before .before .before .before .before .before .args .mem .now)
+    (c .before .before .before .before .before .before .before .before .before .before .before .before .args .n)
+    (c .before .before .before .before .before .before .before .before .before .before .before .before .args .b) (c .before .before .before .before .part .result)
+    (below (c .before .before .before .before .before .before .before .left .result)
+    (c .before .before .before .before .before .before .before .before .before .before .before .before .args .x - 1)) (c .before .before .before .first .result)
+    (c .before .before .before .first .result) (c .before .before .before .before .part .ensures) refl e (c .before .before .before .first .ensures))
 
 right-requires-2 : tie.Need-right-requires-2
 right-requires-2 c κs = omega (arith, c .before .before .before .before .before .before .before .before .before .before .before .before .pre .0)
@@ -99,37 +170,163 @@ first-requires-3 : tie.Need-first-requires-3
 first-requires-3 c κs = c .before .before .before .before .before .before .before .before .before .before .before .before .before .before .pre .1
 
 returns-10 : tie.Need-returns-10
-returns-10 c = λ e. sure-both (c .before .before .before .before .before .before .before .before .before .before .before .before .before .before .before .args .t .now) (c .before .before .before .before .before .before .before .before .before .before .before .before .before .before .before .args .mem .now) (c .before .before .before .before .before .before .before .before .before .before .before .before .before .before .before .args .n) (c .before .before .before .before .before .before .before .before .before .before .before .before .before .before .before .args .b) (c .before .before .before .before .before .before .before .before .before .before .before .before .before .before .before .args .x) (c .before .before .before .before .before .before .before .before .before .before .before .op .result) (c .before .before .before .before .before .before .before .before .before .before .left .result) (c .before .before .before .before .before .before .before .before .before .before .before .before .if1 .left) (c .before .before .before .before .before .before .before .before .before .before .before .op .ensures .0) (c .before .before .before .before .before .before .before .before .before .before .left .ensures .0) (c .first3 .result) (c .before .before .before .before .if9 .taken) (at (c .before .before .before .before .before .before .before .before .before .before .before .before .before .before .before .args .t .now) (c .before .before .before .before .before .before .before .before .before .before .before .before .before .before .before .args .mem .now) (c .before .before .before .before .before .before .before .before .before .before .before .before .before .before .before .args .n) (c .before .before .before .before .before .before .before .before .before .before .before .before .before .before .before .args .b) (c .before .before .before .before .before .before .before .part .result) (below (c .before .before .before .before .before .before .before .before .before .before .left .result) (c .before .before .before .before .before .before .before .before .before .before .before .before .before .before .before .args .x - 1)) (c .before .before .before .before .before .before .first .result) 0 (c .before .before .before .before .before .before .before .part .ensures) (c .before .before .before .if10 .left) (omega arith) (c .before .before .before .before .before .before .first .ensures)) (at (c .before .before .before .before .before .before .before .before .before .before .before .before .before .before .before .args .t .now) (c .before .before .before .before .before .before .before .before .before .before .before .before .before .before .before .args .mem .now) (c .before .before .before .before .before .before .before .before .before .before .before .before .before .before .before .args .n) (c .before .before .before .before .before .before .before .before .before .before .before .before .before .before .before .args .b) (c .before .part3 .result) (below (rightOf (c .before .before .before .before .before .before .before .before .before .before .before .before .before .before .before .args .t .now) (c .before .before .before .before .before .before .before .before .before .before .before .before .before .before .before .args .x - 1)) (c .before .before .before .before .before .before .before .before .before .before .before .before .before .before .before .args .x - 1)) (c .first3 .result) (c .first3 .result) (c .before .part3 .ensures ∙ ap (λ (j : ℕ). below j (c .before .before .before .before .before .before .before .before .before .before .before .before .before .before .before .args .x - 1)) (c .before .before .right2 .ensures .0)) refl e (c .first3 .ensures))
+returns-10 c = λ e. sure-both (c .before .before .before .before .before .before .before .before .before .before .before .before .before .before .before .args .t .now)
+    (c .before .before .before .before .before .before .before .before .before .before .before .before .before .before .before .args .mem .now)
+    (c .before .before .before .before .before .before .before .before .before .before .before .before .before .before .before .args .n)
+    (c .before .before .before .before .before .before .before .before .before .before .before .before .before .before .before .args .b)
+    (c .before .before .before .before .before .before .before .before .before .before .before .before .before .before .before .args .x)
+    (c .before .before .before .before .before .before .before .before .before .before .before .op .result)
+    (c .before .before .before .before .before .before .before .before .before .before .left .result)
+    (c .before .before .before .before .before .before .before .before .before .before .before .before .if1 .left)
+    (c .before .before .before .before .before .before .before .before .before .before .before .op .ensures .0)
+    (c .before .before .before .before .before .before .before .before .before .before .left .ensures .0) (c .first3 .result) (c .before .before .before .before .if9 .taken)
+    (at (c .before .before .before .before .before .before .before .before .before .before .before .before .before .before .before .args .t .now)
+    (c .before .before .before .before .before .before .before .before .before .before .before .before .before .before .before .args .mem .now)
+    (c .before .before .before .before .before .before .before .before .before .before .before .before .before .before .before .args .n)
+    (c .before .before .before .before .before .before .before .before .before .before .before .before .before .before .before .args .b)
+    (c .before .before .before .before .before .before .before .part .result)
+    (below (c .before .before .before .before .before .before .before .before .before .before .left .result)
+    (c .before .before .before .before .before .before .before .before .before .before .before .before .before .before .before .args .x - 1))
+    (c .before .before .before .before .before .before .first .result) 0 (c .before .before .before .before .before .before .before .part .ensures)
+    (c .before .before .before .if10 .left) (omega arith) (c .before .before .before .before .before .before .first .ensures))
+    (at (c .before .before .before .before .before .before .before .before .before .before .before .before .before .before .before .args .t .now)
+    (c .before .before .before .before .before .before .before .before .before .before .before .before .before .before .before .args .mem .now)
+    (c .before .before .before .before .before .before .before .before .before .before .before .before .before .before .before .args .n)
+    (c .before .before .before .before .before .before .before .before .before .before .before .before .before .before .before .args .b) (c .before .part3 .result)
+    (below (rightOf (c .before .before .before .before .before .before .before .before .before .before .before .before .before .before .before .args .t .now)
+    (c .before .before .before .before .before .before .before .before .before .before .before .before .before .before .before .args .x - 1))
+    (c .before .before .before .before .before .before .before .before .before .before .before .before .before .before .before .args .x - 1)) (c .first3 .result)
+    (c .first3 .result) (c .before .part3 .ensures ∙ ap (λ (j : ℕ). below j
+    (c .before .before .before .before .before .before .before .before .before .before .before .before .before .before .before .args .x - 1))
+    (c .before .before .right2 .ensures .0)) refl e (c .first3 .ensures))
 
 returns-11 : tie.Need-returns-11
 returns-11 c = λ e. absurd (omega (arith, e))
 
 firm-requires : tie.Need-firm-requires
-firm-requires c κs = omega (arith, below-le (c .before .before .before .before .before .before .before .before .left .result) (c .before .before .before .before .before .before .before .before .before .before .before .before .before .args .x - 1), c .before .before .before .before .before .part .ensures, c .before .before .before .before .before .before .before .before .before .before .before .before .before .pre .0)
+firm-requires c κs = omega (
+  arith,
+  below-le (c .before .before .before .before .before .before .before .before .left .result)
+      (c .before .before .before .before .before .before .before .before .before .before .before .before .before .args .x - 1),
+  c .before .before .before .before .before .part .ensures,
+  c .before .before .before .before .before .before .before .before .before .before .before .before .before .pre .0,
+)
 
 returns-12 : tie.Need-returns-12
-returns-12 c = λ e. firm-ahead (c .before .before .before .before .before .before .before .before .before .before .before .before .before .before .before .before .args .t .now) (c .before .before .before .before .before .before .before .before .before .before .before .before .before .before .before .before .args .mem .now) (c .before .before .before .before .before .before .before .before .before .before .before .before .before .before .before .before .args .n) (c .before .before .before .before .before .before .before .before .before .before .before .before .before .before .before .before .args .b) (c .before .before .before .before .before .before .before .before .before .before .before .before .before .before .before .before .args .x) (c .before .before .before .before .before .before .before .before .before .before .before .before .op .result) (c .before .before .before .before .before .before .before .before .before .before .before .left .result) (c .before .before .before .before .before .before .before .before .before .before .before .before .before .if1 .left) (c .before .before .before .before .before .before .before .before .before .before .before .before .op .ensures .0) (c .before .before .before .before .before .before .before .before .before .before .before .left .ensures .0) (c .if14 .taken) (subst (λ (j : ℕ). Firm (treeOf (c .before .before .before .before .before .before .before .before .before .before .before .before .before .before .before .before .args .t .now) j)) (c .before .before .before .before .before .before .before .before .part .ensures) (c .before .before .firm .ensures (c .before .if13 .taken)))
+returns-12 c = λ e. firm-ahead (c .before .before .before .before .before .before .before .before .before .before .before .before .before .before .before .before .args .t .now)
+    (c .before .before .before .before .before .before .before .before .before .before .before .before .before .before .before .before .args .mem .now)
+    (c .before .before .before .before .before .before .before .before .before .before .before .before .before .before .before .before .args .n)
+    (c .before .before .before .before .before .before .before .before .before .before .before .before .before .before .before .before .args .b)
+    (c .before .before .before .before .before .before .before .before .before .before .before .before .before .before .before .before .args .x)
+    (c .before .before .before .before .before .before .before .before .before .before .before .before .op .result)
+    (c .before .before .before .before .before .before .before .before .before .before .before .left .result)
+    (c .before .before .before .before .before .before .before .before .before .before .before .before .before .if1 .left)
+    (c .before .before .before .before .before .before .before .before .before .before .before .before .op .ensures .0)
+    (c .before .before .before .before .before .before .before .before .before .before .before .left .ensures .0) (c .if14 .taken)
+    (subst (λ (j : ℕ). Firm (treeOf (c .before .before .before .before .before .before .before .before .before .before .before .before .before .before .before .before .args .t .now) j)) (c .before .before .before .before .before .before .before .before .part .ensures) (c .before .before .firm .ensures (c .before .if13 .taken)))
 
 returns-13 : tie.Need-returns-13
-returns-13 c = λ e. firm-never (c .before .before .before .before .before .before .before .before .before .before .before .before .before .before .before .before .args .t .now) (c .before .before .before .before .before .before .before .before .before .before .before .before .before .before .before .before .args .mem .now) (c .before .before .before .before .before .before .before .before .before .before .before .before .before .before .before .before .args .n) (c .before .before .before .before .before .before .before .before .before .before .before .before .before .before .before .before .args .b) (c .before .before .before .before .before .before .before .before .before .before .before .before .before .before .before .before .args .x) (c .before .before .before .before .before .before .before .before .before .before .before .before .op .result) (c .before .before .before .before .before .before .before .before .before .before .before .left .result) (c .before .before .before .before .before .before .before .before .before .before .before .before .before .if1 .left) (c .before .before .before .before .before .before .before .before .before .before .before .before .op .ensures .0) (c .before .before .before .before .before .before .before .before .before .before .before .left .ensures .0) (c .before .before .before .before .before .before .before .before .before .before .if2 .left) (c .before .before .before .before .before .before .before .before .before .if3 .left) (c .before .before .before .before .before .before .if4 .left) (c .before .before .before .before .before .if9 .left) (λ z. omega (arith, z, c .before .before .before .if12 .left)) (λ z. omega (arith, z, c .before .before .before .if12 .left)) (λ z. omega (arith, z, c .before .before .before .if12 .left)) (c .if14 .left) (subst (λ (j : ℕ). Firm (treeOf (c .before .before .before .before .before .before .before .before .before .before .before .before .before .before .before .before .args .t .now) j)) (c .before .before .before .before .before .before .before .before .part .ensures) (c .before .before .firm .ensures (c .before .if13 .taken)))
+returns-13 c = λ e. firm-never (c .before .before .before .before .before .before .before .before .before .before .before .before .before .before .before .before .args .t .now)
+    (c .before .before .before .before .before .before .before .before .before .before .before .before .before .before .before .before .args .mem .now)
+    (c .before .before .before .before .before .before .before .before .before .before .before .before .before .before .before .before .args .n)
+    (c .before .before .before .before .before .before .before .before .before .before .before .before .before .before .before .before .args .b)
+    (c .before .before .before .before .before .before .before .before .before .before .before .before .before .before .before .before .args .x)
+    (c .before .before .before .before .before .before .before .before .before .before .before .before .op .result)
+    (c .before .before .before .before .before .before .before .before .before .before .before .left .result)
+    (c .before .before .before .before .before .before .before .before .before .before .before .before .before .if1 .left)
+    (c .before .before .before .before .before .before .before .before .before .before .before .before .op .ensures .0)
+    (c .before .before .before .before .before .before .before .before .before .before .before .left .ensures .0)
+    (c .before .before .before .before .before .before .before .before .before .before .if2 .left)
+    (c .before .before .before .before .before .before .before .before .before .if3 .left) (c .before .before .before .before .before .before .if4 .left)
+    (c .before .before .before .before .before .if9 .left) (λ z. omega (arith, z, c .before .before .before .if12 .left))
+    (λ z. omega (arith, z, c .before .before .before .if12 .left)) (λ z. omega (arith, z, c .before .before .before .if12 .left)) (c .if14 .left)
+    (subst (λ (j : ℕ). Firm (treeOf (c .before .before .before .before .before .before .before .before .before .before .before .before .before .before .before .before .args .t .now) j)) (c .before .before .before .before .before .before .before .before .part .ensures) (c .before .before .firm .ensures (c .before .if13 .taken)))
 
 returns-14 : tie.Need-returns-14
 returns-14 c = λ e. absurd (omega (arith, e))
 
 returns-15 : tie.Need-returns-15
-returns-15 c = λ e. sure-option (c .before .before .before .before .before .before .before .before .before .before .before .before .before .before .args .t .now) (c .before .before .before .before .before .before .before .before .before .before .before .before .before .before .args .mem .now) (c .before .before .before .before .before .before .before .before .before .before .before .before .before .before .args .n) (c .before .before .before .before .before .before .before .before .before .before .before .before .before .before .args .b) (c .before .before .before .before .before .before .before .before .before .before .before .before .before .before .args .x) (c .before .before .before .before .before .before .before .before .before .before .op .result) (c .before .before .before .before .before .before .before .before .before .left .result) (c .before .before .before .before .before .before .before .before .before .before .before .if1 .left) (c .before .before .before .before .before .before .before .before .before .before .op .ensures .0) (c .before .before .before .before .before .before .before .before .before .left .ensures .0) (c .before .before .before .before .before .first .result) 1 (c .before .if15 .taken) (opt-fails _ _ refl (c .if16 .taken)) (at (c .before .before .before .before .before .before .before .before .before .before .before .before .before .before .args .t .now) (c .before .before .before .before .before .before .before .before .before .before .before .before .before .before .args .mem .now) (c .before .before .before .before .before .before .before .before .before .before .before .before .before .before .args .n) (c .before .before .before .before .before .before .before .before .before .before .before .before .before .before .args .b) (c .before .before .before .before .before .before .part .result) (below (c .before .before .before .before .before .before .before .before .before .left .result) (c .before .before .before .before .before .before .before .before .before .before .before .before .before .before .args .x - 1)) (c .before .before .before .before .before .first .result) (c .before .before .before .before .before .first .result) (c .before .before .before .before .before .before .part .ensures) refl (omega (arith, c .before .before .if11 .left)) (c .before .before .before .before .before .first .ensures))
+returns-15 c = λ e. sure-option (c .before .before .before .before .before .before .before .before .before .before .before .before .before .before .args .t .now)
+    (c .before .before .before .before .before .before .before .before .before .before .before .before .before .before .args .mem .now)
+    (c .before .before .before .before .before .before .before .before .before .before .before .before .before .before .args .n)
+    (c .before .before .before .before .before .before .before .before .before .before .before .before .before .before .args .b)
+    (c .before .before .before .before .before .before .before .before .before .before .before .before .before .before .args .x)
+    (c .before .before .before .before .before .before .before .before .before .before .op .result)
+    (c .before .before .before .before .before .before .before .before .before .left .result)
+    (c .before .before .before .before .before .before .before .before .before .before .before .if1 .left)
+    (c .before .before .before .before .before .before .before .before .before .before .op .ensures .0)
+    (c .before .before .before .before .before .before .before .before .before .left .ensures .0) (c .before .before .before .before .before .first .result) 1
+    (c .before .if15 .taken) (opt-fails _ _ refl (c .if16 .taken))
+    (at (c .before .before .before .before .before .before .before .before .before .before .before .before .before .before .args .t .now)
+    (c .before .before .before .before .before .before .before .before .before .before .before .before .before .before .args .mem .now)
+    (c .before .before .before .before .before .before .before .before .before .before .before .before .before .before .args .n)
+    (c .before .before .before .before .before .before .before .before .before .before .before .before .before .before .args .b)
+    (c .before .before .before .before .before .before .part .result)
+    (below (c .before .before .before .before .before .before .before .before .before .left .result)
+    (c .before .before .before .before .before .before .before .before .before .before .before .before .before .before .args .x - 1))
+    (c .before .before .before .before .before .first .result) (c .before .before .before .before .before .first .result)
+    (c .before .before .before .before .before .before .part .ensures) refl (omega (arith, c .before .before .if11 .left)) (c .before .before .before .before .before .first .ensures))
 
 returns-16 : tie.Need-returns-16
-returns-16 c = λ e. sure-option (c .before .before .before .before .before .before .before .before .before .before .before .before .before .before .args .t .now) (c .before .before .before .before .before .before .before .before .before .before .before .before .before .before .args .mem .now) (c .before .before .before .before .before .before .before .before .before .before .before .before .before .before .args .n) (c .before .before .before .before .before .before .before .before .before .before .before .before .before .before .args .b) (c .before .before .before .before .before .before .before .before .before .before .before .before .before .before .args .x) (c .before .before .before .before .before .before .before .before .before .before .op .result) (c .before .before .before .before .before .before .before .before .before .left .result) (c .before .before .before .before .before .before .before .before .before .before .before .if1 .left) (c .before .before .before .before .before .before .before .before .before .before .op .ensures .0) (c .before .before .before .before .before .before .before .before .before .left .ensures .0) (c .before .before .before .before .before .first .result) (c .before .before .before .before .before .first .result) (c .before .if15 .taken) (opt-takes _ _ refl (c .if16 .left)) (at (c .before .before .before .before .before .before .before .before .before .before .before .before .before .before .args .t .now) (c .before .before .before .before .before .before .before .before .before .before .before .before .before .before .args .mem .now) (c .before .before .before .before .before .before .before .before .before .before .before .before .before .before .args .n) (c .before .before .before .before .before .before .before .before .before .before .before .before .before .before .args .b) (c .before .before .before .before .before .before .part .result) (below (c .before .before .before .before .before .before .before .before .before .left .result) (c .before .before .before .before .before .before .before .before .before .before .before .before .before .before .args .x - 1)) (c .before .before .before .before .before .first .result) (c .before .before .before .before .before .first .result) (c .before .before .before .before .before .before .part .ensures) refl (omega (arith, c .before .before .if11 .left)) (c .before .before .before .before .before .first .ensures))
+returns-16 c = λ e. sure-option (c .before .before .before .before .before .before .before .before .before .before .before .before .before .before .args .t .now)
+    (c .before .before .before .before .before .before .before .before .before .before .before .before .before .before .args .mem .now)
+    (c .before .before .before .before .before .before .before .before .before .before .before .before .before .before .args .n)
+    (c .before .before .before .before .before .before .before .before .before .before .before .before .before .before .args .b)
+    (c .before .before .before .before .before .before .before .before .before .before .before .before .before .before .args .x)
+    (c .before .before .before .before .before .before .before .before .before .before .op .result)
+    (c .before .before .before .before .before .before .before .before .before .left .result)
+    (c .before .before .before .before .before .before .before .before .before .before .before .if1 .left)
+    (c .before .before .before .before .before .before .before .before .before .before .op .ensures .0)
+    (c .before .before .before .before .before .before .before .before .before .left .ensures .0) (c .before .before .before .before .before .first .result)
+    (c .before .before .before .before .before .first .result) (c .before .if15 .taken) (opt-takes _ _ refl (c .if16 .left))
+    (at (c .before .before .before .before .before .before .before .before .before .before .before .before .before .before .args .t .now)
+    (c .before .before .before .before .before .before .before .before .before .before .before .before .before .before .args .mem .now)
+    (c .before .before .before .before .before .before .before .before .before .before .before .before .before .before .args .n)
+    (c .before .before .before .before .before .before .before .before .before .before .before .before .before .before .args .b)
+    (c .before .before .before .before .before .before .part .result)
+    (below (c .before .before .before .before .before .before .before .before .before .left .result)
+    (c .before .before .before .before .before .before .before .before .before .before .before .before .before .before .args .x - 1))
+    (c .before .before .before .before .before .first .result) (c .before .before .before .before .before .first .result)
+    (c .before .before .before .before .before .before .part .ensures) refl (omega (arith, c .before .before .if11 .left)) (c .before .before .before .before .before .first .ensures))
 
 returns-17 : tie.Need-returns-17
-returns-17 c = λ e. sure-star (c .before .before .before .before .before .before .before .before .before .before .before .before .before .before .before .args .t .now) (c .before .before .before .before .before .before .before .before .before .before .before .before .before .before .before .args .mem .now) (c .before .before .before .before .before .before .before .before .before .before .before .before .before .before .before .args .n) (c .before .before .before .before .before .before .before .before .before .before .before .before .before .before .before .args .b) (c .before .before .before .before .before .before .before .before .before .before .before .before .before .before .before .args .x) (c .before .before .before .before .before .before .before .before .before .before .before .op .result) (c .before .before .before .before .before .before .before .before .before .before .left .result) (c .before .before .before .before .before .before .before .before .before .before .before .before .if1 .left) (c .before .before .before .before .before .before .before .before .before .before .before .op .ensures .0) (c .before .before .before .before .before .before .before .before .before .before .left .ensures .0) (c .before .before .before .before .before .before .first .result) (c .before .if17 .taken) (c .if18 .taken) (at (c .before .before .before .before .before .before .before .before .before .before .before .before .before .before .before .args .t .now) (c .before .before .before .before .before .before .before .before .before .before .before .before .before .before .before .args .mem .now) (c .before .before .before .before .before .before .before .before .before .before .before .before .before .before .before .args .n) (c .before .before .before .before .before .before .before .before .before .before .before .before .before .before .before .args .b) (c .before .before .before .before .before .before .before .part .result) (below (c .before .before .before .before .before .before .before .before .before .before .left .result) (c .before .before .before .before .before .before .before .before .before .before .before .before .before .before .before .args .x - 1)) (c .before .before .before .before .before .before .first .result) (c .before .before .before .before .before .before .first .result) (c .before .before .before .before .before .before .before .part .ensures) refl (omega (arith, c .before .before .before .if11 .left)) (c .before .before .before .before .before .before .first .ensures))
+returns-17 c = λ e. sure-star (c .before .before .before .before .before .before .before .before .before .before .before .before .before .before .before .args .t .now)
+    (c .before .before .before .before .before .before .before .before .before .before .before .before .before .before .before .args .mem .now)
+    (c .before .before .before .before .before .before .before .before .before .before .before .before .before .before .before .args .n)
+    (c .before .before .before .before .before .before .before .before .before .before .before .before .before .before .before .args .b)
+    (c .before .before .before .before .before .before .before .before .before .before .before .before .before .before .before .args .x)
+    (c .before .before .before .before .before .before .before .before .before .before .before .op .result)
+    (c .before .before .before .before .before .before .before .before .before .before .left .result)
+    (c .before .before .before .before .before .before .before .before .before .before .before .before .if1 .left)
+    (c .before .before .before .before .before .before .before .before .before .before .before .op .ensures .0)
+    (c .before .before .before .before .before .before .before .before .before .before .left .ensures .0) (c .before .before .before .before .before .before .first .result)
+    (c .before .if17 .taken) (c .if18 .taken) (at (c .before .before .before .before .before .before .before .before .before .before .before .before .before .before .before .args .t .now) (c .before .before .before .before .before .before .before .before .before .before .before .before .before .before .before .args .mem .now) (c .before .before .before .before .before .before .before .before .before .before .before .before .before .before .before .args .n) (c .before .before .before .before .before .before .before .before .before .before .before .before .before .before .before .args .b) (c .before .before .before .before .before .before .before .part .result) (below (c .before .before .before .before .before .before .before .before .before .before .left .result) (c .before .before .before .before .before .before .before .before .before .before .before .before .before .before .before .args .x - 1)) (c .before .before .before .before .before .before .first .result) (c .before .before .before .before .before .before .first .result) (c .before .before .before .before .before .before .before .part .ensures) refl (omega (arith, c .before .before .before .if11 .left)) (c .before .before .before .before .before .before .first .ensures))
 
 returns-18 : tie.Need-returns-18
 returns-18 c = λ e. absurd (omega (arith, e))
 
 returns-19 : tie.Need-returns-19
-returns-19 c = λ e. sure-plus (c .before .before .before .before .before .before .before .before .before .before .before .before .before .before .before .before .args .t .now) (c .before .before .before .before .before .before .before .before .before .before .before .before .before .before .before .before .args .mem .now) (c .before .before .before .before .before .before .before .before .before .before .before .before .before .before .before .before .args .n) (c .before .before .before .before .before .before .before .before .before .before .before .before .before .before .before .before .args .b) (c .before .before .before .before .before .before .before .before .before .before .before .before .before .before .before .before .args .x) (c .before .before .before .before .before .before .before .before .before .before .before .before .op .result) (c .before .before .before .before .before .before .before .before .before .before .before .left .result) (c .before .before .before .before .before .before .before .before .before .before .before .before .before .if1 .left) (c .before .before .before .before .before .before .before .before .before .before .before .before .op .ensures .0) (c .before .before .before .before .before .before .before .before .before .before .before .left .ensures .0) (c .before .before .before .before .before .before .before .first .result) (c .before .if19 .taken) (c .if20 .taken) (at (c .before .before .before .before .before .before .before .before .before .before .before .before .before .before .before .before .args .t .now) (c .before .before .before .before .before .before .before .before .before .before .before .before .before .before .before .before .args .mem .now) (c .before .before .before .before .before .before .before .before .before .before .before .before .before .before .before .before .args .n) (c .before .before .before .before .before .before .before .before .before .before .before .before .before .before .before .before .args .b) (c .before .before .before .before .before .before .before .before .part .result) (below (c .before .before .before .before .before .before .before .before .before .before .before .left .result) (c .before .before .before .before .before .before .before .before .before .before .before .before .before .before .before .before .args .x - 1)) (c .before .before .before .before .before .before .before .first .result) (c .before .before .before .before .before .before .before .first .result) (c .before .before .before .before .before .before .before .before .part .ensures) refl (omega (arith, c .before .before .before .before .if11 .left)) (c .before .before .before .before .before .before .before .first .ensures))
+returns-19 c = λ e. sure-plus (c .before .before .before .before .before .before .before .before .before .before .before .before .before .before .before .before .args .t .now)
+    (c .before .before .before .before .before .before .before .before .before .before .before .before .before .before .before .before .args .mem .now)
+    (c .before .before .before .before .before .before .before .before .before .before .before .before .before .before .before .before .args .n)
+    (c .before .before .before .before .before .before .before .before .before .before .before .before .before .before .before .before .args .b)
+    (c .before .before .before .before .before .before .before .before .before .before .before .before .before .before .before .before .args .x)
+    (c .before .before .before .before .before .before .before .before .before .before .before .before .op .result)
+    (c .before .before .before .before .before .before .before .before .before .before .before .left .result)
+    (c .before .before .before .before .before .before .before .before .before .before .before .before .before .if1 .left)
+    (c .before .before .before .before .before .before .before .before .before .before .before .before .op .ensures .0)
+    (c .before .before .before .before .before .before .before .before .before .before .before .left .ensures .0)
+    (c .before .before .before .before .before .before .before .first .result) (c .before .if19 .taken) (c .if20 .taken)
+    (at (c .before .before .before .before .before .before .before .before .before .before .before .before .before .before .before .before .args .t .now)
+    (c .before .before .before .before .before .before .before .before .before .before .before .before .before .before .before .before .args .mem .now)
+    (c .before .before .before .before .before .before .before .before .before .before .before .before .before .before .before .before .args .n)
+    (c .before .before .before .before .before .before .before .before .before .before .before .before .before .before .before .before .args .b)
+    (c .before .before .before .before .before .before .before .before .part .result)
+    (below (c .before .before .before .before .before .before .before .before .before .before .before .left .result)
+    (c .before .before .before .before .before .before .before .before .before .before .before .before .before .before .before .before .args .x - 1))
+    (c .before .before .before .before .before .before .before .first .result) (c .before .before .before .before .before .before .before .first .result)
+    (c .before .before .before .before .before .before .before .before .part .ensures) refl (omega (arith, c .before .before .before .before .if11 .left))
+    (c .before .before .before .before .before .before .before .first .ensures))
 
 returns-20 : tie.Need-returns-20
 returns-20 c = λ e. absurd (omega (arith, e))

@@ -26,7 +26,20 @@ word-requires : tie.Need-word-requires Inv-loop μ-loop
 word-requires c κs = search needs
 
 decide-body-requires : tie.Need-decide-body-requires Inv-loop μ-loop
-decide-body-requires c κs = ((c .before .before .before .before .before .before .before .pre .0 .0, c .before .before .before .before .before .before .before .pre .0 .1, omega (arith, c .before .word .ensures .0, c .before .before .before .before .before .before .before .pre .0 .2 (c .before .before .before .loop .j) (c .before .before .loop-test .taken), c .before .before .before .before .before .before .before .pre .0 .0)), c .before .before .before .loop .inv .1)
+decide-body-requires c κs = (
+  (
+    c .before .before .before .before .before .before .before .pre .0 .0,
+    c .before .before .before .before .before .before .before .pre .0 .1,
+    omega (
+      arith,
+      c .before .word .ensures .0,
+      c .before .before .before .before .before .before .before .pre .0 .2 (c .before .before .before .loop .j)
+          (c .before .before .loop-test .taken),
+      c .before .before .before .before .before .before .before .pre .0 .0,
+    ),
+  ),
+  c .before .before .before .loop .inv .1,
+)
 
 add-j : tie.Need-add-j Inv-loop μ-loop
 add-j c = omega (arith, c .before .before .before .before .before .loop-test .taken, c .before .before .before .before .before .before .before .before .before .before .pre .0 .0)

@@ -29,7 +29,10 @@ loop-holds : tie.Need-loop-holds Inv-loop μ-loop
 loop-holds c = (refl, omega (arith, c .begin .ensures), c .before .before .before .before .pre .1)
 
 decide-part-requires : tie.Need-decide-part-requires Inv-loop μ-loop
-decide-part-requires c κs = ((c .before .before .before .before .before .before .before .pre .0 .0, c .before .before .before .before .before .before .before .pre .0 .1), c .before .before .loop .inv .2)
+decide-part-requires c κs = (
+  (c .before .before .before .before .before .before .before .pre .0 .0, c .before .before .before .before .before .before .before .pre .0 .1),
+  c .before .before .loop .inv .2,
+)
 
 add-x : tie.Need-add-x Inv-loop μ-loop
 add-x c = omega (arith, c .before .before .before .before .loop-test .taken, c .before .before .before .before .before .before .before .body .ensures .1)
@@ -38,7 +41,12 @@ loop-less : tie.Need-loop-less Inv-loop μ-loop
 loop-less c = omega (arith, c .before .before .before .before .loop-test .taken)
 
 loop-again : tie.Need-loop-again Inv-loop μ-loop
-loop-again c = (c .before .before .decide-part .kept .1 .0 ∙ c .before .before .before .before .before .loop .inv .0, omega (arith, c .before .before .before .before .loop-test .taken), c .before .before .decide-part .ensures)
+loop-again c = (
+  c .before .before .decide-part .kept .1 .0 ∙ c .before .before .before .before .before .loop .inv .0,
+  omega
+      (arith, c .before .before .before .before .loop-test .taken),
+  c .before .before .decide-part .ensures,
+)
 
 same-length : tie.Need-same-length Inv-loop μ-loop
 same-length c = c .before .loop .inv .0

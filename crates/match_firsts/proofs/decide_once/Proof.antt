@@ -29,10 +29,27 @@ put-requires : tie.Need-put-requires
 put-requires c κs = search needs
 
 decide-part-requires : tie.Need-decide-part-requires
-decide-part-requires c κs = ((c .before .before .before .before .before .before .before .before .before .before .before .pre .0 .0, c .before .before .before .before .before .before .before .before .before .before .before .pre .0 .1), subst (λ (v : List ℕ). Ready (c .before .before .before .before .before .before .before .before .before .before .before .args .t .now) (c .before .before .before .before .before .before .before .before .before .before .before .args .n) v) (sym (c .before .before .before .put .ensures)) (ready-seen (c .before .before .before .before .before .before .before .before .before .before .before .args .t .now) (c .before .before .before .before .before .before .before .before .before .before .before .args .mem .now) (c .before .before .before .before .before .before .before .before .before .before .before .args .n) (c .before .before .before .before .before .before .before .before .before .before .before .pre .1) (c .before .before .before .before .before .before .before .before .before .before .before .args .b) (omega (arith, c .before .before .before .before .before .before .before .before .before .before .before .pre .0 .1)) 1))
+decide-part-requires c κs = (
+  (
+    c .before .before .before .before .before .before .before .before .before .before .before .pre .0 .0,
+    c .before .before .before .before .before .before .before .before .before .before .before .pre .0 .1,
+  ),
+  subst
+      (λ (v : List ℕ). Ready (c .before .before .before .before .before .before .before .before .before .before .before .args .t .now)
+      (c .before .before .before .before .before .before .before .before .before .before .before .args .n) v) (sym (c .before .before .before .put .ensures))
+      (ready-seen (c .before .before .before .before .before .before .before .before .before .before .before .args .t .now)
+      (c .before .before .before .before .before .before .before .before .before .before .before .args .mem .now)
+      (c .before .before .before .before .before .before .before .before .before .before .before .args .n)
+      (c .before .before .before .before .before .before .before .before .before .before .before .pre .1)
+      (c .before .before .before .before .before .before .before .before .before .before .before .args .b)
+      (omega (arith, c .before .before .before .before .before .before .before .before .before .before .before .pre .0 .1)) 1),
+)
 
 decide-bodies-requires : tie.Need-decide-bodies-requires
-decide-bodies-requires c κs = (c .before .before .before .before .before .before .before .before .before .before .before .before .before .before .before .pre .0, c .before .before .before .decide-part .ensures)
+decide-bodies-requires c κs = (
+  c .before .before .before .before .before .before .before .before .before .before .before .before .before .before .before .pre .0,
+  c .before .before .before .decide-part .ensures,
+)
 
 decide-bodies-requires-2 : tie.Need-decide-bodies-requires-2
 decide-bodies-requires-2 c κs = (c .before .before .before .before .before .before .before .before .before .before .before .before .before .before .before .before .before .before .before .pre .0, c .before .before .before .decide-bodies .ensures)

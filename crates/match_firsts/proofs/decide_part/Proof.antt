@@ -13,13 +13,24 @@ decide-requires : tie.Need-decide-requires
 decide-requires c κs = ((c .before .before .before .before .pre .0 .0, omega (arith, c .before .if1 .taken), c .before .before .before .before .pre .0 .1), c .before .before .before .before .pre .1)
 
 say-requires : tie.Need-say-requires
-say-requires c κs = (omega (arith, c .before .before .before .before .if1 .taken), c .before .before .before .before .before .before .before .pre .0 .1, c .before .if2 .taken, c .before .before .before .before .before .before .before .pre .1 .room)
+say-requires c κs = (
+  omega (arith, c .before .before .before .before .if1 .taken),
+  c .before .before .before .before .before .before .before .pre .0 .1,
+  c .before .if2 .taken,
+  c .before .before .before .before .before .before .before .pre .1 .room,
+)
 
 same-length : tie.Need-same-length
 same-length c = search needs
 
 returns : tie.Need-returns
-returns c = ready-said (c .before .before .before .before .before .before .before .before .before .before .args .t .now) (c .before .before .before .before .before .before .before .before .before .before .args .mem .now) _ (c .before .before .before .before .before .before .before .before .before .before .args .n) (c .before .before .before .before .before .before .before .before .before .before .args .b) (c .before .before .before .before .before .before .before .before .before .before .args .x) (c .before .before .before .before .before .decide .result) (c .before .before .before .before .before .before .before .before .before .before .pre .1) (c .before .before .before .before .before .decide .ensures (c .before .before .before .before .if2 .taken)) (c .before .before .say .ensures)
+returns c = ready-said (c .before .before .before .before .before .before .before .before .before .before .args .t .now)
+    (c .before .before .before .before .before .before .before .before .before .before .args .mem .now) _
+    (c .before .before .before .before .before .before .before .before .before .before .args .n)
+    (c .before .before .before .before .before .before .before .before .before .before .args .b)
+    (c .before .before .before .before .before .before .before .before .before .before .args .x) (c .before .before .before .before .before .decide .result)
+    (c .before .before .before .before .before .before .before .before .before .before .pre .1)
+    (c .before .before .before .before .before .decide .ensures (c .before .before .before .before .if2 .taken)) (c .before .before .say .ensures)
 
 same-length-2 : tie.Need-same-length-2
 same-length-2 c = search needs

@@ -27,7 +27,15 @@ cast-b : tie.Need-cast-b Inv-loop μ-loop
 cast-b c = omega (arith, c .shared-slice-known4 .given (c .before .before .loop .p))
 
 decide-once-requires : tie.Need-decide-once-requires Inv-loop μ-loop
-decide-once-requires c κs = ((c .before .before .before .before .before .before .before .before .pre .0 .0, omega (arith, c .before .shared-slice-known4 .given (c .before .before .before .loop .p)), c .before .before .before .before .before .before .before .before .pre .0 .2), c .before .before .before .loop .inv .2)
+decide-once-requires c κs = (
+  (
+    c .before .before .before .before .before .before .before .before .pre .0 .0,
+    omega
+        (arith, c .before .shared-slice-known4 .given (c .before .before .before .loop .p)),
+    c .before .before .before .before .before .before .before .before .pre .0 .2,
+  ),
+  c .before .before .before .loop .inv .2,
+)
 
 add-p : tie.Need-add-p Inv-loop μ-loop
 add-p c = omega (arith, c .before .before .before .before .before .loop-test .taken, c .before .before .before .before .before .before .before .before .before .before .before .pre .0 .1)
@@ -36,7 +44,12 @@ loop-less : tie.Need-loop-less Inv-loop μ-loop
 loop-less c = omega (arith, c .before .before .before .before .before .loop-test .taken)
 
 loop-again : tie.Need-loop-again Inv-loop μ-loop
-loop-again c = (c .before .before .decide-once .kept .1 .0 ∙ c .before .before .before .before .before .before .loop .inv .0, omega (arith, c .before .before .before .before .before .loop-test .taken), c .before .before .decide-once .ensures)
+loop-again c = (
+  c .before .before .decide-once .kept .1 .0 ∙ c .before .before .before .before .before .before .loop .inv .0,
+  omega
+      (arith, c .before .before .before .before .before .loop-test .taken),
+  c .before .before .decide-once .ensures,
+)
 
 same-length : tie.Need-same-length Inv-loop μ-loop
 same-length c = c .before .loop .inv .0

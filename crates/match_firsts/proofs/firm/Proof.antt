@@ -19,10 +19,12 @@ op-requires : tie.Need-op-requires
 op-requires c κs = omega (arith, c .before .before .pre)
 
 returns-2 : tie.Need-returns-2
-returns-2 c = λ e. firm-option (c .before .before .before .before .args .t .now) (c .before .before .before .before .args .x) (c .before .op .result) (c .before .before .if1 .left) (c .before .op .ensures .0) (c .match .keys1)
+returns-2 c = λ e. firm-option (c .before .before .before .before .args .t .now) (c .before .before .before .before .args .x) (c .before .op .result) (c .before .before .if1 .left)
+    (c .before .op .ensures .0) (c .match .keys1)
 
 returns-3 : tie.Need-returns-3
-returns-3 c = λ e. firm-star (c .before .before .before .before .args .t .now) (c .before .before .before .before .args .x) (c .before .op .result) (c .before .before .if1 .left) (c .before .op .ensures .0) (c .match .keys2)
+returns-3 c = λ e. firm-star (c .before .before .before .before .args .t .now) (c .before .before .before .before .args .x) (c .before .op .result) (c .before .before .if1 .left)
+    (c .before .op .ensures .0) (c .match .keys2)
 
 returns-4 : tie.Need-returns-4
 returns-4 c = λ e. absurd (false≢true e)

@@ -19,7 +19,8 @@ sub-result : tie.Need-sub-result
 sub-result c = search needs
 
 returns-2 : tie.Need-returns-2
-returns-2 c = λ e. c .before .before .before .before .pre .words (c .before .before .before .before .args .b) (c .before .before .before .before .args .x) (c .before .said .result - 1) (sym (c .before .said .ensures) ∙ omega (arith, c .if1 .left))
+returns-2 c = λ e. c .before .before .before .before .pre .words (c .before .before .before .before .args .b) (c .before .before .before .before .args .x)
+    (c .before .said .result - 1) (sym (c .before .said .ensures) ∙ omega (arith, c .if1 .left))
 
 pub first-spec : {M : Type 1} → statement M
 first-spec = tie.close (tie.spec said-requires returns sub-result returns-2)

@@ -22,7 +22,8 @@ returns-2 : tie.Need-returns-2
 returns-2 c = λ e. absurd (false≢true e)
 
 returns-3 : tie.Need-returns-3
-returns-3 c = λ e. guards-node (c .before .before .before .before .args .t .now) (c .before .before .before .before .args .x) (c .before .op .result) (c .before .before .if1 .left) (c .before .op .ensures .0) (omega (arith, c .if2 .left))
+returns-3 c = λ e. guards-node (c .before .before .before .before .args .t .now) (c .before .before .before .before .args .x) (c .before .op .result) (c .before .before .if1 .left)
+    (c .before .op .ensures .0) (omega (arith, c .if2 .left))
 
 pub guards-spec : {M : Type 1} → statement M
 guards-spec = tie.close (tie.spec returns sub-op op-requires returns-2 returns-3)

@@ -28,31 +28,63 @@ leaf-length-requires : tie.Need-leaf-length-requires
 leaf-length-requires c κs = omega (arith, c .before .before .before .pre .0)
 
 returns : tie.Need-returns
-returns c = λ e. subst (λ (l : Leaf). LeafSure (c .before .before .before .before .before .args .b) l 1) (is-literal (c .before .before .before .before .before .args .t .now) (c .before .before .before .before .before .args .x) (c .before .before .before .leaf-kind .result) (c .before .before .before .leaf-kind .ensures .0) (c .before .leaf-length .result) (c .before .leaf-length .ensures .0) (c .before .before .if1 .taken)) (empty-sure (c .before .before .before .before .before .args .t .now) (contentAt (c .before .before .before .before .before .args .x)) (c .before .leaf-length .result) (c .before .before .before .before .before .args .b) (c .if2 .taken))
+returns c = λ e. subst (λ (l : Leaf). LeafSure (c .before .before .before .before .before .args .b) l 1)
+    (is-literal (c .before .before .before .before .before .args .t .now) (c .before .before .before .before .before .args .x) (c .before .before .before .leaf-kind .result)
+    (c .before .before .before .leaf-kind .ensures .0) (c .before .leaf-length .result) (c .before .leaf-length .ensures .0) (c .before .before .if1 .taken))
+    (empty-sure (c .before .before .before .before .before .args .t .now) (contentAt (c .before .before .before .before .before .args .x)) (c .before .leaf-length .result)
+    (c .before .before .before .before .before .args .b) (c .if2 .taken))
 
 leaf-word-requires : tie.Need-leaf-word-requires
 leaf-word-requires c κs = omega (arith, c .before .before .before .before .before .pre .0)
 
 returns-2 : tie.Need-returns-2
-returns-2 c = λ e. subst (λ (l : Leaf). LeafSure (c .before .before .before .before .before .before .before .args .b) l 0) (is-literal (c .before .before .before .before .before .before .before .args .t .now) (c .before .before .before .before .before .before .before .args .x) (c .before .before .before .before .before .leaf-kind .result) (c .before .before .before .before .before .leaf-kind .ensures .0) (c .before .before .before .leaf-length .result) (c .before .before .before .leaf-length .ensures .0) (c .before .before .before .before .if1 .taken)) (literal-off (c .before .before .before .before .before .before .before .args .t .now) (contentAt (c .before .before .before .before .before .before .before .args .x)) (c .before .before .before .leaf-length .result) (c .before .before .before .before .before .before .before .args .b) (c .before .leaf-word .result) (omega (arith, c .before .before .if2 .left)) (first-word (c .before .before .before .before .before .before .before .args .t .now) (c .before .before .before .before .before .before .before .args .x) (c .before .leaf-word .ensures .0)) (c .if3 .taken))
+returns-2 c = λ e. subst (λ (l : Leaf). LeafSure (c .before .before .before .before .before .before .before .args .b) l 0)
+    (is-literal (c .before .before .before .before .before .before .before .args .t .now) (c .before .before .before .before .before .before .before .args .x)
+    (c .before .before .before .before .before .leaf-kind .result) (c .before .before .before .before .before .leaf-kind .ensures .0)
+    (c .before .before .before .leaf-length .result) (c .before .before .before .leaf-length .ensures .0) (c .before .before .before .before .if1 .taken))
+    (literal-off (c .before .before .before .before .before .before .before .args .t .now) (contentAt (c .before .before .before .before .before .before .before .args .x))
+    (c .before .before .before .leaf-length .result) (c .before .before .before .before .before .before .before .args .b) (c .before .leaf-word .result)
+    (omega (arith, c .before .before .if2 .left)) (first-word (c .before .before .before .before .before .before .before .args .t .now)
+    (c .before .before .before .before .before .before .before .args .x) (c .before .leaf-word .ensures .0)) (c .if3 .taken))
 
 returns-3 : tie.Need-returns-3
 returns-3 c = λ e. absurd (omega (arith, e))
 
 returns-4 : tie.Need-returns-4
-returns-4 c = λ e. subst (λ (l : Leaf). LeafSure (c .before .before .before .before .before .before .before .before .args .b) l 2) (is-literal (c .before .before .before .before .before .before .before .before .args .t .now) (c .before .before .before .before .before .before .before .before .args .x) (c .before .before .before .before .before .before .leaf-kind .result) (c .before .before .before .before .before .before .leaf-kind .ensures .0) (c .before .before .before .before .leaf-length .result) (c .before .before .before .before .leaf-length .ensures .0) (c .before .before .before .before .before .if1 .taken)) (literal-sure (c .before .before .before .before .before .before .before .before .args .t .now) (contentAt (c .before .before .before .before .before .before .before .before .args .x)) (c .before .before .before .before .leaf-length .result) (c .before .before .before .before .before .before .before .before .args .b) (c .before .before .leaf-word .result) (omega (arith, c .before .before .before .if2 .left, c .if4 .left)) (first-word (c .before .before .before .before .before .before .before .before .args .t .now) (c .before .before .before .before .before .before .before .before .args .x) (c .before .before .leaf-word .ensures .0)) (c .before .if3 .left) (c .before .before .before .before .before .before .before .before .pre .1))
+returns-4 c = λ e. subst (λ (l : Leaf). LeafSure (c .before .before .before .before .before .before .before .before .args .b) l 2)
+    (is-literal (c .before .before .before .before .before .before .before .before .args .t .now) (c .before .before .before .before .before .before .before .before .args .x)
+    (c .before .before .before .before .before .before .leaf-kind .result) (c .before .before .before .before .before .before .leaf-kind .ensures .0)
+    (c .before .before .before .before .leaf-length .result) (c .before .before .before .before .leaf-length .ensures .0) (c .before .before .before .before .before .if1 .taken))
+    (literal-sure (c .before .before .before .before .before .before .before .before .args .t .now)
+    (contentAt (c .before .before .before .before .before .before .before .before .args .x)) (c .before .before .before .before .leaf-length .result)
+    (c .before .before .before .before .before .before .before .before .args .b) (c .before .before .leaf-word .result)
+    (omega (arith, c .before .before .before .if2 .left, c .if4 .left))
+    (first-word (c .before .before .before .before .before .before .before .before .args .t .now) (c .before .before .before .before .before .before .before .before .args .x)
+    (c .before .before .leaf-word .ensures .0)) (c .before .if3 .left) (c .before .before .before .before .before .before .before .before .pre .1))
 
 returns-5 : tie.Need-returns-5
-returns-5 c = λ e. subst (λ (l : Leaf). LeafSure (c .before .before .before .before .args .b) l 2) (is-any (c .before .before .before .before .args .t .now) (c .before .before .before .before .args .x) (c .before .before .leaf-kind .result) (c .before .before .leaf-kind .ensures .0) (c .if5 .taken)) (any-sure (c .before .before .before .before .args .b) (c .before .before .before .before .pre .1))
+returns-5 c = λ e. subst (λ (l : Leaf). LeafSure (c .before .before .before .before .args .b) l 2)
+    (is-any (c .before .before .before .before .args .t .now) (c .before .before .before .before .args .x) (c .before .before .leaf-kind .result)
+    (c .before .before .leaf-kind .ensures .0) (c .if5 .taken)) (any-sure (c .before .before .before .before .args .b) (c .before .before .before .before .pre .1))
 
 leaf-word-requires-2 : tie.Need-leaf-word-requires-2
 leaf-word-requires-2 c κs = omega (arith, c .before .before .before .before .pre .0, c .before .before .before .before .pre .1)
 
 returns-6 : tie.Need-returns-6
-returns-6 c = λ e. subst (λ (l : Leaf). LeafSure (c .before .before .before .before .before .before .args .b) l 0) (is-class (c .before .before .before .before .before .before .args .t .now) (c .before .before .before .before .before .before .args .x) (c .before .before .before .before .leaf-kind .result) (c .before .before .before .before .leaf-kind .ensures .0) (c .before .before .if5 .left) (c .before .before .before .if1 .left)) (class-off (c .before .before .before .before .before .before .args .t .now) (contentAt (c .before .before .before .before .before .before .args .x)) (c .before .before .before .before .before .before .args .b) (c .before .before .before .before .before .before .pre .1) (sym (c .before .leaf-word2 .ensures .0) ∙ c .if6 .taken))
+returns-6 c = λ e. subst (λ (l : Leaf). LeafSure (c .before .before .before .before .before .before .args .b) l 0)
+    (is-class (c .before .before .before .before .before .before .args .t .now) (c .before .before .before .before .before .before .args .x)
+    (c .before .before .before .before .leaf-kind .result) (c .before .before .before .before .leaf-kind .ensures .0) (c .before .before .if5 .left)
+    (c .before .before .before .if1 .left)) (class-off (c .before .before .before .before .before .before .args .t .now)
+    (contentAt (c .before .before .before .before .before .before .args .x)) (c .before .before .before .before .before .before .args .b)
+    (c .before .before .before .before .before .before .pre .1) (sym (c .before .leaf-word2 .ensures .0) ∙ c .if6 .taken))
 
 returns-7 : tie.Need-returns-7
-returns-7 c = λ e. subst (λ (l : Leaf). LeafSure (c .before .before .before .before .before .before .args .b) l 2) (is-class (c .before .before .before .before .before .before .args .t .now) (c .before .before .before .before .before .before .args .x) (c .before .before .before .before .leaf-kind .result) (c .before .before .before .before .leaf-kind .ensures .0) (c .before .before .if5 .left) (c .before .before .before .if1 .left)) (class-sure (c .before .before .before .before .before .before .args .t .now) (contentAt (c .before .before .before .before .before .before .args .x)) (c .before .before .before .before .before .before .args .b) (c .before .before .before .before .before .before .pre .1) (λ z. c .if6 .left (c .before .leaf-word2 .ensures .0 ∙ z)))
+returns-7 c = λ e. subst (λ (l : Leaf). LeafSure (c .before .before .before .before .before .before .args .b) l 2)
+    (is-class (c .before .before .before .before .before .before .args .t .now) (c .before .before .before .before .before .before .args .x)
+    (c .before .before .before .before .leaf-kind .result) (c .before .before .before .before .leaf-kind .ensures .0) (c .before .before .if5 .left)
+    (c .before .before .before .if1 .left)) (class-sure (c .before .before .before .before .before .before .args .t .now)
+    (contentAt (c .before .before .before .before .before .before .args .x)) (c .before .before .before .before .before .before .args .b)
+    (c .before .before .before .before .before .before .pre .1) (λ z. c .if6 .left (c .before .leaf-word2 .ensures .0 ∙ z)))
 
 pub leaf-first-spec : {M : Type 1} → statement M
 leaf-first-spec =

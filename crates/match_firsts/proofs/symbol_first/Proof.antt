@@ -28,7 +28,12 @@ sub-result : tie.Need-sub-result
 sub-result c = omega (arith, c .if2 .left)
 
 returns-3 : tie.Need-returns-3
-returns-3 c = λ e. symbol-sure (c .before .before .before .before .before .before .args .t .now) (c .before .before .before .before .before .before .args .mem .now) (c .before .before .before .before .before .before .args .n) (c .before .before .before .before .before .before .args .b) (c .before .before .before .before .before .before .args .r) (c .before .said .result - 1) (omega (arith, c .before .before .before .if1 .left)) (c .before .before .before .before .before .before .pre .1) e (ap (saidOf (c .before .before .before .before .before .before .args .mem .now) (c .before .before .before .before .before .before .args .b)) (sym (c .before .before .body .ensures .0)) ∙ sym (c .before .said .ensures) ∙ omega (arith, c .if2 .left))
+returns-3 c = λ e. symbol-sure (c .before .before .before .before .before .before .args .t .now) (c .before .before .before .before .before .before .args .mem .now)
+    (c .before .before .before .before .before .before .args .n) (c .before .before .before .before .before .before .args .b)
+    (c .before .before .before .before .before .before .args .r) (c .before .said .result - 1) (omega (arith, c .before .before .before .if1 .left))
+    (c .before .before .before .before .before .before .pre .1) e
+    (ap (saidOf (c .before .before .before .before .before .before .args .mem .now) (c .before .before .before .before .before .before .args .b))
+    (sym (c .before .before .body .ensures .0)) ∙ sym (c .before .said .ensures) ∙ omega (arith, c .if2 .left))
 
 pub symbol-first-spec : {M : Type 1} → statement M
 symbol-first-spec = tie.close (tie.spec returns body-requires said-requires returns-2 sub-result returns-3)

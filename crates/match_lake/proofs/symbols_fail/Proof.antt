@@ -24,7 +24,11 @@ symbol-fails-requires : tie.Need-symbol-fails-requires Inv-loop μ-loop
 symbol-fails-requires c κs = search needs
 
 returns : tie.Need-returns Inv-loop μ-loop
-returns c = symbols-found (c .before .before .before .before .before .before .before .args .s .now) (c .before .before .before .before .before .before .before .args .cells .now) (c .before .before .before .before .before .before .before .args .n) (c .before .before .before .before .before .before .before .args .p) (c .before .before .before .before .before .before .before .args .alt) (c .before .before .before .before .before .before .before .args .t .now) (c .before .before .before .before .before .before .before .args .n) (c .before .before .before .loop .i) (c .before .symbol-fails .result) (c .before .before .loop-test .taken) (c .before .symbol-fails .ensures) (not-true (c .before .symbol-fails .result) (c .if1 .taken)) ∙ c .before .before .before .loop .inv .1
+returns c = symbols-found (c .before .before .before .before .before .before .before .args .s .now) (c .before .before .before .before .before .before .before .args .cells .now)
+    (c .before .before .before .before .before .before .before .args .n) (c .before .before .before .before .before .before .before .args .p)
+    (c .before .before .before .before .before .before .before .args .alt) (c .before .before .before .before .before .before .before .args .t .now)
+    (c .before .before .before .before .before .before .before .args .n) (c .before .before .before .loop .i) (c .before .symbol-fails .result)
+    (c .before .before .loop-test .taken) (c .before .symbol-fails .ensures) (not-true (c .before .symbol-fails .result) (c .if1 .taken)) ∙ c .before .before .before .loop .inv .1
 
 add-i : tie.Need-add-i Inv-loop μ-loop
 add-i c = search needs
@@ -33,10 +37,20 @@ loop-less : tie.Need-loop-less Inv-loop μ-loop
 loop-less c = search needs
 
 loop-again : tie.Need-loop-again Inv-loop μ-loop
-loop-again c = (omega (arith, c .before .before .loop-test .taken), symbols-on (c .before .before .before .before .before .before .before .args .s .now) (c .before .before .before .before .before .before .before .args .cells .now) (c .before .before .before .before .before .before .before .args .n) (c .before .before .before .before .before .before .before .args .p) (c .before .before .before .before .before .before .before .args .alt) (c .before .before .before .before .before .before .before .args .t .now) (c .before .before .before .before .before .before .before .args .n) (c .before .before .before .loop .i) (c .before .symbol-fails .result) (c .before .before .loop-test .taken) (c .before .symbol-fails .ensures) (not-false (c .before .symbol-fails .result) (c .if1 .left)) ∙ c .before .before .before .loop .inv .1)
+loop-again c = (
+  omega (arith, c .before .before .loop-test .taken),
+  symbols-on (c .before .before .before .before .before .before .before .args .s .now)
+      (c .before .before .before .before .before .before .before .args .cells .now) (c .before .before .before .before .before .before .before .args .n)
+      (c .before .before .before .before .before .before .before .args .p) (c .before .before .before .before .before .before .before .args .alt)
+      (c .before .before .before .before .before .before .before .args .t .now) (c .before .before .before .before .before .before .before .args .n)
+      (c .before .before .before .loop .i) (c .before .symbol-fails .result) (c .before .before .loop-test .taken) (c .before .symbol-fails .ensures)
+      (not-false (c .before .symbol-fails .result) (c .if1 .left)) ∙ c .before .before .before .loop .inv .1,
+)
 
 returns-2 : tie.Need-returns-2 Inv-loop μ-loop
-returns-2 c = symbols-end (c .before .before .before .before .before .args .s .now) (c .before .before .before .before .before .args .cells .now) (c .before .before .before .before .before .args .n) (c .before .before .before .before .before .args .p) (c .before .before .before .before .before .args .alt) (c .before .before .before .before .before .args .t .now) (c .before .before .before .before .before .args .n) (c .before .loop .i) (omega (arith, c .loop-test .left)) ∙ c .before .loop .inv .1
+returns-2 c = symbols-end (c .before .before .before .before .before .args .s .now) (c .before .before .before .before .before .args .cells .now)
+    (c .before .before .before .before .before .args .n) (c .before .before .before .before .before .args .p) (c .before .before .before .before .before .args .alt)
+    (c .before .before .before .before .before .args .t .now) (c .before .before .before .before .before .args .n) (c .before .loop .i) (omega (arith, c .loop-test .left)) ∙ c .before .loop .inv .1
 
 pub symbols-fail-spec : {M : Type 1} → statement M
 symbols-fail-spec =

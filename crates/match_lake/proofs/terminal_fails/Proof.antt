@@ -17,13 +17,17 @@ member-requires : tie.Need-member-requires
 member-requires c κs = search needs
 
 returns : tie.Need-returns
-returns c = λ cells n. terminal-not (c .before .before .before .before .args .t .now) (c .before .before .before .before .args .s .now) cells n (c .before .before .before .before .args .alt) (c .before .before .before .before .args .i) (c .before .before .before .before .args .p) (sym (c .before .member .ensures) ∙ not-true (c .before .member .result) (c .if1 .taken))
+returns c = λ cells n. terminal-not (c .before .before .before .before .args .t .now) (c .before .before .before .before .args .s .now) cells n
+    (c .before .before .before .before .args .alt) (c .before .before .before .before .args .i) (c .before .before .before .before .args .p)
+    (sym (c .before .member .ensures) ∙ not-true (c .before .member .result) (c .if1 .taken))
 
 leaf-at-requires : tie.Need-leaf-at-requires
 leaf-at-requires c κs = search needs
 
 returns-2 : tie.Need-returns-2
-returns-2 c = λ cells n. terminal-asked (c .before .before .before .before .before .args .t .now) (c .before .before .before .before .before .args .s .now) cells n (c .before .before .before .before .before .args .alt) (c .before .before .before .before .before .args .i) (c .before .before .before .before .before .args .p) (c .leaf-at .result) (sym (c .before .before .member .ensures) ∙ not-false (c .before .before .member .result) (c .before .if1 .left)) (c .leaf-at .ensures)
+returns-2 c = λ cells n. terminal-asked (c .before .before .before .before .before .args .t .now) (c .before .before .before .before .before .args .s .now) cells n
+    (c .before .before .before .before .before .args .alt) (c .before .before .before .before .before .args .i) (c .before .before .before .before .before .args .p)
+    (c .leaf-at .result) (sym (c .before .before .member .ensures) ∙ not-false (c .before .before .member .result) (c .before .if1 .left)) (c .leaf-at .ensures)
 
 pub terminal-fails-spec : {M : Type 1} → statement M
 terminal-fails-spec =

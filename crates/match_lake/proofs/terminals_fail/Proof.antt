@@ -25,7 +25,10 @@ terminal-fails-requires : tie.Need-terminal-fails-requires Inv-loop μ-loop
 terminal-fails-requires c κs = search needs
 
 returns : tie.Need-returns Inv-loop μ-loop
-returns c = λ cells n. terminals-found (c .before .before .before .before .before .before .args .s .now) cells n (c .before .before .before .before .before .before .args .p) (c .before .before .before .before .before .before .args .alt) (c .before .before .before .before .before .before .args .t .now) (c .before .before .before .before .before .before .args .m) (c .before .before .before .loop .i) (c .before .terminal-fails .result) (c .before .before .loop-test .taken) (c .before .terminal-fails .ensures cells n) (not-true (c .before .terminal-fails .result) (c .if1 .taken)) ∙ c .before .before .before .loop .inv .1 cells n
+returns c = λ cells n. terminals-found (c .before .before .before .before .before .before .args .s .now) cells n (c .before .before .before .before .before .before .args .p)
+    (c .before .before .before .before .before .before .args .alt) (c .before .before .before .before .before .before .args .t .now)
+    (c .before .before .before .before .before .before .args .m) (c .before .before .before .loop .i) (c .before .terminal-fails .result) (c .before .before .loop-test .taken)
+    (c .before .terminal-fails .ensures cells n) (not-true (c .before .terminal-fails .result) (c .if1 .taken)) ∙ c .before .before .before .loop .inv .1 cells n
 
 add-i : tie.Need-add-i Inv-loop μ-loop
 add-i c = search needs
@@ -34,10 +37,19 @@ loop-less : tie.Need-loop-less Inv-loop μ-loop
 loop-less c = search needs
 
 loop-again : tie.Need-loop-again Inv-loop μ-loop
-loop-again c = (omega (arith, c .before .before .loop-test .taken), λ cells n. terminals-on (c .before .before .before .before .before .before .args .s .now) cells n (c .before .before .before .before .before .before .args .p) (c .before .before .before .before .before .before .args .alt) (c .before .before .before .before .before .before .args .t .now) (c .before .before .before .before .before .before .args .m) (c .before .before .before .loop .i) (c .before .terminal-fails .result) (c .before .before .loop-test .taken) (c .before .terminal-fails .ensures cells n) (not-false (c .before .terminal-fails .result) (c .if1 .left)) ∙ c .before .before .before .loop .inv .1 cells n)
+loop-again c = (
+  omega (arith, c .before .before .loop-test .taken),
+  λ cells n. terminals-on (c .before .before .before .before .before .before .args .s .now) cells n
+      (c .before .before .before .before .before .before .args .p) (c .before .before .before .before .before .before .args .alt)
+      (c .before .before .before .before .before .before .args .t .now) (c .before .before .before .before .before .before .args .m) (c .before .before .before .loop .i)
+      (c .before .terminal-fails .result) (c .before .before .loop-test .taken) (c .before .terminal-fails .ensures cells n)
+      (not-false (c .before .terminal-fails .result) (c .if1 .left)) ∙ c .before .before .before .loop .inv .1 cells n,
+)
 
 returns-2 : tie.Need-returns-2 Inv-loop μ-loop
-returns-2 c = λ cells n. terminals-end (c .before .before .before .before .args .s .now) cells n (c .before .before .before .before .args .p) (c .before .before .before .before .args .alt) (c .before .before .before .before .args .t .now) (c .before .before .before .before .args .m) (c .before .loop .i) (omega (arith, c .loop-test .left)) ∙ c .before .loop .inv .1 cells n
+returns-2 c = λ cells n. terminals-end (c .before .before .before .before .args .s .now) cells n (c .before .before .before .before .args .p)
+    (c .before .before .before .before .args .alt) (c .before .before .before .before .args .t .now) (c .before .before .before .before .args .m) (c .before .loop .i)
+    (omega (arith, c .loop-test .left)) ∙ c .before .loop .inv .1 cells n
 
 pub terminals-fail-spec : {M : Type 1} → statement M
 terminals-fail-spec =

@@ -27,7 +27,8 @@ is-water-requires : tie.Need-is-water-requires Inv-loop μ-loop
 is-water-requires c κs = search needs
 
 returns : tie.Need-returns Inv-loop μ-loop
-returns c = water-found (c .before .before .before .before .before .args .t .now) (c .before .before .before .before .before .args .n) (c .before .before .before .loop .i) (c .before .before .loop-test .taken) (c .before .before .before .loop .inv .1) (sym (c .before .is-water .ensures) ∙ c .if1 .taken)
+returns c = water-found (c .before .before .before .before .before .args .t .now) (c .before .before .before .before .before .args .n) (c .before .before .before .loop .i)
+    (c .before .before .loop-test .taken) (c .before .before .before .loop .inv .1) (sym (c .before .is-water .ensures) ∙ c .if1 .taken)
 
 add-i : tie.Need-add-i Inv-loop μ-loop
 add-i c = search needs
@@ -36,10 +37,15 @@ loop-less : tie.Need-loop-less Inv-loop μ-loop
 loop-less c = search needs
 
 loop-again : tie.Need-loop-again Inv-loop μ-loop
-loop-again c = (omega (arith, c .before .before .loop-test .taken), not-before (c .before .before .before .before .before .args .t .now) (c .before .before .before .before .before .args .n) (c .before .before .before .loop .i) (c .before .before .before .loop .inv .1) (sym (c .before .is-water .ensures) ∙ c .if1 .left))
+loop-again c = (
+  omega (arith, c .before .before .loop-test .taken),
+  not-before (c .before .before .before .before .before .args .t .now)
+      (c .before .before .before .before .before .args .n) (c .before .before .before .loop .i) (c .before .before .before .loop .inv .1) (sym (c .before .is-water .ensures) ∙ c .if1 .left),
+)
 
 returns-2 : tie.Need-returns-2 Inv-loop μ-loop
-returns-2 c = water-missing (c .before .before .before .args .t .now) (c .before .before .before .args .n) (c .before .loop .i) (c .before .loop .inv .0) (omega (arith, c .loop-test .left)) (c .before .loop .inv .1)
+returns-2 c = water-missing (c .before .before .before .args .t .now) (c .before .before .before .args .n) (c .before .loop .i) (c .before .loop .inv .0)
+    (omega (arith, c .loop-test .left)) (c .before .loop .inv .1)
 
 pub water-at-spec : {M : Type 1} → statement M
 water-at-spec =

@@ -23,11 +23,15 @@ node-word-requires-2 c κs = (omega (arith, c .before .if1 .left), omega arith)
 
 returns-2 : tie.Need-returns-2
 unfolding nodeWords
-returns-2 c = sound-turned (c .before .before .before .before .before .args .nodes .now) (c .before .before .before .before .before .args .k) (c .before .before .before .before .before .args .n) (c .before .before .node-word .result) (c .before .node-word2 .result) (omega (arith, c .before .before .before .if1 .left)) (c .before .before .node-word .ensures) (c .before .node-word2 .ensures) (c .if2 .taken)
+returns-2 c = sound-turned (c .before .before .before .before .before .args .nodes .now) (c .before .before .before .before .before .args .k)
+    (c .before .before .before .before .before .args .n) (c .before .before .node-word .result) (c .before .node-word2 .result)
+    (omega (arith, c .before .before .before .if1 .left)) (c .before .before .node-word .ensures) (c .before .node-word2 .ensures) (c .if2 .taken)
 
 returns-3 : tie.Need-returns-3
 unfolding nodeWords
-returns-3 c = sound-else (c .before .before .before .before .before .args .nodes .now) (c .before .before .before .before .before .args .k) (c .before .before .before .before .before .args .n) (c .before .before .node-word .result) (c .before .node-word2 .result) (omega (arith, c .before .before .before .if1 .left)) (c .before .before .node-word .ensures) (c .before .node-word2 .ensures) (omega (arith, c .if2 .left))
+returns-3 c = sound-else (c .before .before .before .before .before .args .nodes .now) (c .before .before .before .before .before .args .k)
+    (c .before .before .before .before .before .args .n) (c .before .before .node-word .result) (c .before .node-word2 .result)
+    (omega (arith, c .before .before .before .if1 .left)) (c .before .before .node-word .ensures) (c .before .node-word2 .ensures) (omega (arith, c .if2 .left))
 
 pub sound-spec : {M : Type 1} → statement M
 sound-spec = tie.close (tie.spec returns node-word-requires node-word-requires-2 returns-2 returns-3)

@@ -22,7 +22,11 @@ part-result-end : tie.Need-part-result-end
 part-result-end c = search needs
 
 returns : tie.Need-returns
-returns c = record { bytes = c .before .span .ensures .text (c .before .before .before .before .args .input .now) refl; place = ap (λ (j : ℕ). (c .before .before .before .before .args .input .ptr .0, j)) (omega (arith, c .before .span .ensures .from)) }
+returns c = record {
+  bytes = c .before .span .ensures .text (c .before .before .before .before .args .input .now) refl;
+  place = ap
+      (λ (j : ℕ). (c .before .before .before .before .args .input .ptr .0, j)) (omega (arith, c .before .span .ensures .from));
+}
 
 pub text-spec : {M : Type 1} → statement M
 text-spec = tie.close (tie.spec span-requires sub-result part-result-start part-result-end returns)

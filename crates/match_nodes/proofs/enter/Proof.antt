@@ -17,16 +17,49 @@ cell-at-requires : tie.Need-cell-at-requires
 cell-at-requires c κs = search needs
 
 body-requires : tie.Need-body-requires
-body-requires c κs = omega (arith, symbol-in (c .before .before .before .before .before .before .args .t .now) (c .before .before .before .before .before .before .args .s .now) (c .before .before .before .before .before .before .args .cells .now) (c .before .before .before .before .before .before .args .g .n) (c .before .before .before .before .before .before .pre .0) (c .before .before .before .before .before .before .args .e .symbol) (c .before .before .before .before .before .before .args .e .place) (c .before .before .before .before .before .before .pre .6), c .before .before .before .before .before .before .pre .0 .few)
+body-requires c κs = omega (
+  arith,
+  symbol-in (c .before .before .before .before .before .before .args .t .now) (c .before .before .before .before .before .before .args .s .now)
+      (c .before .before .before .before .before .before .args .cells .now) (c .before .before .before .before .before .before .args .g .n)
+      (c .before .before .before .before .before .before .pre .0) (c .before .before .before .before .before .before .args .e .symbol)
+      (c .before .before .before .before .before .before .args .e .place) (c .before .before .before .before .before .before .pre .6),
+  c .before .before .before .before .before .before .pre .0 .few,
+)
 
 sub-note : tie.Need-sub-note
 sub-note c = search needs
 
 add-note : tie.Need-add-note
-add-note c = omega (arith, c .before .before .cell-at .ensures, cell-within (c .before .before .before .before .before .before .before .before .args .s .now) (c .before .before .before .before .before .before .before .before .args .cells .now) (c .before .before .before .before .before .before .before .before .args .g .n) (c .before .before .before .before .before .before .before .before .args .e .symbol) (c .before .before .before .before .before .before .before .before .args .e .place) (c .before .before .before .before .before .before .before .before .pre .5), c .before .before .before .before .before .before .before .before .pre .0 .short)
+add-note c = omega (
+  arith,
+  c .before .before .cell-at .ensures,
+  cell-within (c .before .before .before .before .before .before .before .before .args .s .now)
+      (c .before .before .before .before .before .before .before .before .args .cells .now) (c .before .before .before .before .before .before .before .before .args .g .n)
+      (c .before .before .before .before .before .before .before .before .args .e .symbol) (c .before .before .before .before .before .before .before .before .args .e .place)
+      (c .before .before .before .before .before .before .before .before .pre .5),
+  c .before .before .before .before .before .before .before .before .pre .0 .short,
+)
 
 note-requires : tie.Need-note-requires
-note-requires c κs = omega (arith, c .before .before .cell-at .ensures, cell-within (c .before .before .before .before .before .before .before .before .args .s .now) (c .before .before .before .before .before .before .before .before .args .cells .now) (c .before .before .before .before .before .before .before .before .args .g .n) (c .before .before .before .before .before .before .before .before .args .e .symbol) (c .before .before .before .before .before .before .before .before .args .e .place) (c .before .before .before .before .before .before .before .before .pre .5), c .before .before .before .before .before .before .before .before .pre .0 .short, symbol-in (c .before .before .before .before .before .before .before .before .args .t .now) (c .before .before .before .before .before .before .before .before .args .s .now) (c .before .before .before .before .before .before .before .before .args .cells .now) (c .before .before .before .before .before .before .before .before .args .g .n) (c .before .before .before .before .before .before .before .before .pre .0) (c .before .before .before .before .before .before .before .before .args .e .symbol) (c .before .before .before .before .before .before .before .before .args .e .place) (c .before .before .before .before .before .before .before .before .pre .6), c .before .before .before .before .before .before .before .before .pre .0 .few, c .before .before .before .before .before .before .before .before .pre .2, c .before .before .before .before .before .before .before .before .pre .3, c .before .before .before .before .before .before .before .before .pre .5)
+note-requires c κs = omega (
+  arith,
+  c .before .before .cell-at .ensures,
+  cell-within (c .before .before .before .before .before .before .before .before .args .s .now)
+      (c .before .before .before .before .before .before .before .before .args .cells .now) (c .before .before .before .before .before .before .before .before .args .g .n)
+      (c .before .before .before .before .before .before .before .before .args .e .symbol) (c .before .before .before .before .before .before .before .before .args .e .place)
+      (c .before .before .before .before .before .before .before .before .pre .5),
+  c .before .before .before .before .before .before .before .before .pre .0 .short,
+  symbol-in
+      (c .before .before .before .before .before .before .before .before .args .t .now) (c .before .before .before .before .before .before .before .before .args .s .now)
+      (c .before .before .before .before .before .before .before .before .args .cells .now) (c .before .before .before .before .before .before .before .before .args .g .n)
+      (c .before .before .before .before .before .before .before .before .pre .0) (c .before .before .before .before .before .before .before .before .args .e .symbol)
+      (c .before .before .before .before .before .before .before .before .args .e .place)
+      (c .before .before .before .before .before .before .before .before .pre .6),
+  c .before .before .before .before .before .before .before .before .pre .0 .few,
+  c .before .before .before .before .before .before .before .before .pre .2,
+  c .before .before .before .before .before .before .before .before .pre .3,
+  c .before .before .before .before .before .before .before .before .pre .5,
+)
 
 word-requires : tie.Need-word-requires
 word-requires c κs = search needs
@@ -35,7 +68,18 @@ sub-t22 : tie.Need-sub-t22
 sub-t22 c = search needs
 
 add-t23 : tie.Need-add-t23
-add-t23 c = omega (arith, c .before .before .before .before .before .before .before .before .cell-at .ensures, cell-within (c .before .before .before .before .before .before .before .before .before .before .before .before .before .before .args .s .now) (c .before .before .before .before .before .before .before .before .before .before .before .before .before .before .args .cells .now) (c .before .before .before .before .before .before .before .before .before .before .before .before .before .before .args .g .n) (c .before .before .before .before .before .before .before .before .before .before .before .before .before .before .args .e .symbol) (c .before .before .before .before .before .before .before .before .before .before .before .before .before .before .args .e .place) (c .before .before .before .before .before .before .before .before .before .before .before .before .before .before .pre .5), c .before .before .before .before .before .before .before .before .before .before .before .before .before .before .pre .0 .short)
+add-t23 c = omega (
+  arith,
+  c .before .before .before .before .before .before .before .before .cell-at .ensures,
+  cell-within
+      (c .before .before .before .before .before .before .before .before .before .before .before .before .before .before .args .s .now)
+      (c .before .before .before .before .before .before .before .before .before .before .before .before .before .before .args .cells .now)
+      (c .before .before .before .before .before .before .before .before .before .before .before .before .before .before .args .g .n)
+      (c .before .before .before .before .before .before .before .before .before .before .before .before .before .before .args .e .symbol)
+      (c .before .before .before .before .before .before .before .before .before .before .before .before .before .before .args .e .place)
+      (c .before .before .before .before .before .before .before .before .before .before .before .before .before .before .pre .5),
+  c .before .before .before .before .before .before .before .before .before .before .before .before .before .before .pre .0 .short,
+)
 
 same-length : tie.Need-same-length
 same-length c = search needs
@@ -44,7 +88,46 @@ same-length-2 : tie.Need-same-length-2
 same-length-2 c = search needs
 
 returns : tie.Need-returns
-returns c = passed (c .before .before .before .before .before .before .before .before .before .before .before .before .before .before .args .t .now) (c .before .before .before .before .before .before .before .before .before .before .before .before .before .before .args .s .now) (c .before .before .before .before .before .before .before .before .before .before .before .before .before .before .args .cells .now) (c .before .before .before .before .before .before .before .before .before .before .before .before .before .before .args .g .n) (c .before .before .before .before .before .before .before .before .before .before .before .before .before .before .pre .0) (c .before .before .before .before .before .before .before .before .before .before .before .before .before .before .args .g .room) (c .before .before .before .before .before .before .before .before .before .before .before .before .before .before .args .g .write) (c .before .before .before .before .before .before .before .before .before .before .before .before .before .before .args .e .level) (c .before .before .before .before .before .before .before .before .before .before .before .before .before .before .args .e .symbol) (c .before .before .before .before .before .before .before .before .before .before .before .before .before .before .args .e .place) (c .before .before .before .before .before .before .before .before .before .before .before .before .before .before .args .e .at) (c .before .before .before .before .before .before .before .before .cell-at .result) (c .before .before .before .before .before .before .before .body .result) _ (c .before .before .before .before .before .before .before .before .before .before .before .before .before .before .args .nodes .now) (c .before .before .before .before .before .before .before .before .before .before .before .before .before .before .pre .5) (c .before .before .before .before .before .before .before .before .before .before .before .before .before .before .pre .6) (c .before .before .before .before .before .before .before .before .before .before .before .before .before .before .pre .3) (c .before .before .before .before .before .before .before .before .before .before .before .before .before .before .pre .2) (c .before .before .before .before .before .before .before .before .cell-at .ensures) (c .before .before .before .before .before .before .before .body .ensures .0) (c .before .before .before .before .before .note .ensures) (c .before .before .before .before .before .before .before .before .before .before .before .before .before .before .args .desk .now) (c .before .before .before .before .before .before .before .before .before .before .before .before .before .before .args .e .x) (c .before .before .before .before .before .before .before .before .before .before .before .before .before .before .pre .1) (c .before .before .before .before .before .before .before .before .before .before .before .before .before .before .pre .4) (c .before .before .before .before .before .before .before .before .before .before .before .before .before .before .pre .7) (c .before .before .before .before .before .before .before .before .before .before .before .before .before .before .pre .1 .silent (c .before .before .before .before .before .before .before .body .result) (omega (arith, c .before .before .before .before .before .before .before .body .ensures .0, c .before .before .before .before .before .before .before .before .before .before .before .before .before .before .pre .0 .small (c .before .before .before .before .before .before .before .before .before .before .before .before .before .before .args .e .symbol) (symbol-in (c .before .before .before .before .before .before .before .before .before .before .before .before .before .before .args .t .now) (c .before .before .before .before .before .before .before .before .before .before .before .before .before .before .args .s .now) (c .before .before .before .before .before .before .before .before .before .before .before .before .before .before .args .cells .now) (c .before .before .before .before .before .before .before .before .before .before .before .before .before .before .args .g .n) (c .before .before .before .before .before .before .before .before .before .before .before .before .before .before .pre .0) (c .before .before .before .before .before .before .before .before .before .before .before .before .before .before .args .e .symbol) (c .before .before .before .before .before .before .before .before .before .before .before .before .before .before .args .e .place) (c .before .before .before .before .before .before .before .before .before .before .before .before .before .before .pre .6)))) (sym (c .before .word .ensures .0) ∙ c .if1 .taken))
+returns c = passed (c .before .before .before .before .before .before .before .before .before .before .before .before .before .before .args .t .now)
+    (c .before .before .before .before .before .before .before .before .before .before .before .before .before .before .args .s .now)
+    (c .before .before .before .before .before .before .before .before .before .before .before .before .before .before .args .cells .now)
+    (c .before .before .before .before .before .before .before .before .before .before .before .before .before .before .args .g .n)
+    (c .before .before .before .before .before .before .before .before .before .before .before .before .before .before .pre .0)
+    (c .before .before .before .before .before .before .before .before .before .before .before .before .before .before .args .g .room)
+    (c .before .before .before .before .before .before .before .before .before .before .before .before .before .before .args .g .write)
+    (c .before .before .before .before .before .before .before .before .before .before .before .before .before .before .args .e .level)
+    (c .before .before .before .before .before .before .before .before .before .before .before .before .before .before .args .e .symbol)
+    (c .before .before .before .before .before .before .before .before .before .before .before .before .before .before .args .e .place)
+    (c .before .before .before .before .before .before .before .before .before .before .before .before .before .before .args .e .at)
+    (c .before .before .before .before .before .before .before .before .cell-at .result) (c .before .before .before .before .before .before .before .body .result) _
+    (c .before .before .before .before .before .before .before .before .before .before .before .before .before .before .args .nodes .now)
+    (c .before .before .before .before .before .before .before .before .before .before .before .before .before .before .pre .5)
+    (c .before .before .before .before .before .before .before .before .before .before .before .before .before .before .pre .6)
+    (c .before .before .before .before .before .before .before .before .before .before .before .before .before .before .pre .3)
+    (c .before .before .before .before .before .before .before .before .before .before .before .before .before .before .pre .2)
+    (c .before .before .before .before .before .before .before .before .cell-at .ensures) (c .before .before .before .before .before .before .before .body .ensures .0)
+    (c .before .before .before .before .before .note .ensures)
+    (c .before .before .before .before .before .before .before .before .before .before .before .before .before .before .args .desk .now)
+    (c .before .before .before .before .before .before .before .before .before .before .before .before .before .before .args .e .x)
+    (c .before .before .before .before .before .before .before .before .before .before .before .before .before .before .pre .1)
+    (c .before .before .before .before .before .before .before .before .before .before .before .before .before .before .pre .4)
+    (c .before .before .before .before .before .before .before .before .before .before .before .before .before .before .pre .7)
+    (c .before .before .before .before .before .before .before .before .before .before .before .before .before .before .pre .1 .silent
+    (c .before .before .before .before .before .before .before .body .result)
+    (omega (
+      arith,
+      c .before .before .before .before .before .before .before .body .ensures .0,
+      c .before .before .before .before .before .before .before .before .before .before .before .before .before .before .pre .0 .small
+          (c .before .before .before .before .before .before .before .before .before .before .before .before .before .before .args .e .symbol)
+          (symbol-in (c .before .before .before .before .before .before .before .before .before .before .before .before .before .before .args .t .now)
+          (c .before .before .before .before .before .before .before .before .before .before .before .before .before .before .args .s .now)
+          (c .before .before .before .before .before .before .before .before .before .before .before .before .before .before .args .cells .now)
+          (c .before .before .before .before .before .before .before .before .before .before .before .before .before .before .args .g .n)
+          (c .before .before .before .before .before .before .before .before .before .before .before .before .before .before .pre .0)
+          (c .before .before .before .before .before .before .before .before .before .before .before .before .before .before .args .e .symbol)
+          (c .before .before .before .before .before .before .before .before .before .before .before .before .before .before .args .e .place)
+          (c .before .before .before .before .before .before .before .before .before .before .before .before .before .before .pre .6)),
+    )) (sym (c .before .word .ensures .0) ∙ c .if1 .taken))
 
 add-put : tie.Need-add-put
 add-put c = search needs

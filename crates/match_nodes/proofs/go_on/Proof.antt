@@ -16,7 +16,10 @@ use Rattle.match_nodes.proofs.go_on.Lts as lts
 use Rattle.match_nodes.proofs.turn.Reads as turn-reads
 
 abbrev Inv-loop : tie.InvT-loop
-Inv-loop t s cells mem nodes₀ desk₀ g at₀ mode₀ d₀ x₀ p₀ nodes desk at mode d x p = (at < 4611686018427387904) × (length nodes ≡ length nodes₀) × (length desk ≡ length desk₀) × State t s cells (g .n) desk mode d x p × (run (g .room) (g .write) (out nodes at) (listed t s cells (g .n) (tasksOf t desk mode d x) p) ≡ run (g .room) (g .write) (out nodes₀ at₀) (listed t s cells (g .n) (tasksOf t desk₀ mode₀ d₀ x₀) p₀))
+Inv-loop t s cells mem nodes₀ desk₀ g at₀ mode₀ d₀ x₀ p₀ nodes desk at mode d x p = (at < 4611686018427387904) × (length nodes ≡ length nodes₀) ×
+    (length desk ≡ length desk₀) × State t s cells (g .n) desk mode d x p ×
+    (run (g .room) (g .write) (out nodes at) (listed t s cells (g .n) (tasksOf t desk mode d x) p) ≡ run (g .room) (g .write) (out nodes₀ at₀)
+    (listed t s cells (g .n) (tasksOf t desk₀ mode₀ d₀ x₀) p₀))
 
 abbrev μ-loop : tie.MeasureT-loop
 μ-loop t s cells mem nodes₀ desk₀ g at₀ mode₀ d₀ x₀ p₀ nodes desk at mode d x p = turns t s cells (g .n) desk mode d x p
@@ -25,7 +28,13 @@ loop-holds : tie.Need-loop-holds Inv-loop μ-loop
 loop-holds c = (c .before .before .before .before .before .before .before .before .pre .1, refl, refl, c .before .before .before .before .before .before .before .before .pre .2, refl)
 
 turn-requires : tie.Need-turn-requires Inv-loop μ-loop
-turn-requires c κs = (c .before .before .before .before .before .before .before .before .before .before .before .before .pre .0, c .before .before .before .loop .inv .0, c .before .before .loop-test .taken, c .before .before .before .loop .inv .3, c .before .before .before .before .before .before .before .before .before .before .before .before .pre .3)
+turn-requires c κs = (
+  c .before .before .before .before .before .before .before .before .before .before .before .before .pre .0,
+  c .before .before .before .loop .inv .0,
+  c .before .before .loop-test .taken,
+  c .before .before .before .loop .inv .3,
+  c .before .before .before .before .before .before .before .before .before .before .before .before .pre .3,
+)
 
 same-length : tie.Need-same-length Inv-loop μ-loop
 same-length c = c .before .before .before .before .before .turn .kept .1 .1 .1 .1 .0 ∙ c .before .before .before .before .before .before .before .before .before .loop .inv .1
@@ -41,7 +50,16 @@ unfolding turns
 loop-less c = c .before .before .before .before .before .turn .ensures .less (omega (arith, c .if1 .left))
 
 loop-again : tie.Need-loop-again Inv-loop μ-loop
-loop-again c = (omega (arith, c .if1 .left), c .before .before .before .before .before .turn .kept .1 .1 .1 .1 .0 ∙ c .before .before .before .before .before .before .before .before .before .loop .inv .1, c .before .before .before .before .before .turn .kept .1 .1 .1 .1 .1 .0 ∙ c .before .before .before .before .before .before .before .before .before .loop .inv .2, c .before .before .before .before .before .turn .ensures .state (omega (arith, c .if1 .left)), c .before .before .before .before .before .turn .ensures .same ∙ c .before .before .before .before .before .before .before .before .before .loop .inv .4)
+loop-again c = (
+  omega (arith, c .if1 .left),
+  c .before .before .before .before .before .turn .kept .1 .1 .1 .1 .0 ∙
+      c .before .before .before .before .before .before .before .before .before .loop .inv .1,
+  c .before .before .before .before .before .turn .kept .1 .1 .1 .1 .1 .0 ∙
+      c .before .before .before .before .before .before .before .before .before .loop .inv .2,
+  c .before .before .before .before .before .turn .ensures .state
+      (omega (arith, c .if1 .left)),
+  c .before .before .before .before .before .turn .ensures .same ∙ c .before .before .before .before .before .before .before .before .before .loop .inv .4,
+)
 
 same-length-3 : tie.Need-same-length-3 Inv-loop μ-loop
 same-length-3 c = c .before .loop .inv .1
@@ -50,7 +68,16 @@ same-length-4 : tie.Need-same-length-4 Inv-loop μ-loop
 same-length-4 c = c .before .loop .inv .2
 
 returns-2 : tie.Need-returns-2 Inv-loop μ-loop
-returns-2 c = (sym (end-list (c .before .before .before .before .before .before .before .before .before .before .args .t .now) (c .before .before .before .before .before .before .before .before .before .before .args .s .now) (c .before .before .before .before .before .before .before .before .before .before .args .cells .now) (c .before .before .before .before .before .before .before .before .before .before .args .tour .setting .n) _ (c .before .before .before .before .before .before .before .before .before .before .args .tour .setting .write) (c .before .loop .mode) (c .before .loop .d) (c .before .loop .x) (c .before .loop .p) (out (c .before .loop .nodes) (c .before .loop .at)) (c .before .loop .desk) (omega (arith, c .loop-test .left))) ∙ c .before .loop .inv .4, c .before .loop .inv .3 .desk)
+returns-2 c = (
+  sym (end-list (c .before .before .before .before .before .before .before .before .before .before .args .t .now)
+      (c .before .before .before .before .before .before .before .before .before .before .args .s .now)
+      (c .before .before .before .before .before .before .before .before .before .before .args .cells .now)
+      (c .before .before .before .before .before .before .before .before .before .before .args .tour .setting .n) _
+      (c .before .before .before .before .before .before .before .before .before .before .args .tour .setting .write) (c .before .loop .mode) (c .before .loop .d)
+      (c .before .loop .x) (c .before .loop .p) (out (c .before .loop .nodes) (c .before .loop .at)) (c .before .loop .desk)
+      (omega (arith, c .loop-test .left))) ∙ c .before .loop .inv .4,
+  c .before .loop .inv .3 .desk,
+)
 
 pub go-on-spec : {M : Type 1} → statement M
 go-on-spec =

@@ -24,13 +24,22 @@ slice-aggregate-learn-all : tie.Need-slice-aggregate-learn-all
 slice-aggregate-learn-all c = search needs
 
 learn-all-requires : tie.Need-learn-all-requires
-learn-all-requires c κs = (c .before .before .before .before .before .before .pre .0 .fits, c .before .before .before .before .before .before .pre .0 .forest, desk-empty (c .before .before .before .before .before .before .args .t .now))
+learn-all-requires c κs = (
+  c .before .before .before .before .before .before .pre .0 .fits,
+  c .before .before .before .before .before .before .pre .0 .forest,
+  desk-empty
+      (c .before .before .before .before .before .before .args .t .now),
+)
 
 slice-aggregate-pass : tie.Need-slice-aggregate-pass
 slice-aggregate-pass c = search needs
 
 pass-requires : tie.Need-pass-requires
-pass-requires c κs = (c .before .before .before .before .before .before .before .before .before .before .pre .0, c .before .before .before .learn-all .ensures, c .before .before .before .before .before .before .before .before .before .before .pre .1)
+pass-requires c κs = (
+  c .before .before .before .before .before .before .before .before .before .before .pre .0,
+  c .before .before .before .learn-all .ensures,
+  c .before .before .before .before .before .before .before .before .before .before .pre .1,
+)
 
 answer-requires : tie.Need-answer-requires
 answer-requires c κs = search needs
@@ -46,7 +55,11 @@ slice-aggregate-pass-2 : tie.Need-slice-aggregate-pass-2
 slice-aggregate-pass-2 c = search needs
 
 pass-requires-2 : tie.Need-pass-requires-2
-pass-requires-2 c κs = (c .before .before .before .before .before .before .before .before .before .before .before .before .before .before .before .before .before .pre .0, c .before .before .before .before .before .before .pass .ensures .1, c .before .before .before .before .before .before .before .before .before .before .before .before .before .before .before .before .before .pre .1)
+pass-requires-2 c κs = (
+  c .before .before .before .before .before .before .before .before .before .before .before .before .before .before .before .before .before .pre .0,
+  c .before .before .before .before .before .before .pass .ensures .1,
+  c .before .before .before .before .before .before .before .before .before .before .before .before .before .before .before .before .before .pre .1,
+)
 
 answer-requires-2 : tie.Need-answer-requires-2
 answer-requires-2 c κs = search needs

@@ -19,18 +19,31 @@ add-result c = search needs
 
 returns : tie.Need-returns
 unfolding depthBound
-returns c = note-deep (c .before .before .args .g .room) (c .before .before .args .g .write) (c .before .before .args .nodes .now) (c .before .before .args .at) (nd (c .before .before .args .r) (c .before .before .args .p) (c .before .before .args .q) (c .before .before .args .d)) (omega (arith, c .before .before .pre)) (c .if1 .taken)
+returns c = note-deep (c .before .before .args .g .room) (c .before .before .args .g .write) (c .before .before .args .nodes .now) (c .before .before .args .at)
+    (nd (c .before .before .args .r) (c .before .before .args .p) (c .before .before .args .q) (c .before .before .args .d)) (omega (arith, c .before .before .pre)) (c .if1 .taken)
 
 returns-2 : tie.Need-returns-2
 unfolding depthBound
-returns-2 c = note-full (c .before .before .before .before .args .g .room) (c .before .before .before .before .args .g .write) (c .before .before .before .before .args .nodes .now) (c .before .before .before .before .args .at) (nd (c .before .before .before .before .args .r) (c .before .before .before .before .args .p) (c .before .before .before .before .args .q) (c .before .before .before .before .args .d)) (omega (arith, c .before .before .before .before .pre)) (omega (arith, c .before .before .if1 .left)) (c .if2 .taken)
+returns-2 c = note-full (c .before .before .before .before .args .g .room) (c .before .before .before .before .args .g .write) (c .before .before .before .before .args .nodes .now)
+    (c .before .before .before .before .args .at) (nd (c .before .before .before .before .args .r) (c .before .before .before .before .args .p)
+    (c .before .before .before .before .args .q) (c .before .before .before .before .args .d)) (omega (arith, c .before .before .before .before .pre))
+    (omega (arith, c .before .before .if1 .left)) (c .if2 .taken)
 
 add-result-2 : tie.Need-add-result-2
 add-result-2 c = search needs
 
 returns-3 : tie.Need-returns-3
 unfolding depthBound
-returns-3 c = ap (λ (x : List ℕ). out x (c .before .before .before .before .before .before .args .at + 1)) (put-off (c .before .before .before .before .before .before .args .g .write) (c .before .before .before .before .before .before .args .nodes .now) (c .before .before .before .before .before .before .args .at) (nd (c .before .before .before .before .before .before .args .r) (c .before .before .before .before .before .before .args .p) (c .before .before .before .before .before .before .args .q) (c .before .before .before .before .before .before .args .d)) (c .if3 .taken)) ∙ note-one (c .before .before .before .before .before .before .args .g .room) (c .before .before .before .before .before .before .args .g .write) (c .before .before .before .before .before .before .args .nodes .now) (c .before .before .before .before .before .before .args .at) (nd (c .before .before .before .before .before .before .args .r) (c .before .before .before .before .before .before .args .p) (c .before .before .before .before .before .before .args .q) (c .before .before .before .before .before .before .args .d)) (omega (arith, c .before .before .before .before .before .before .pre)) (omega (arith, c .before .before .before .before .if1 .left)) (omega (arith, c .before .before .if2 .left))
+returns-3 c = ap (λ (x : List ℕ). out x (c .before .before .before .before .before .before .args .at + 1))
+    (put-off (c .before .before .before .before .before .before .args .g .write) (c .before .before .before .before .before .before .args .nodes .now)
+    (c .before .before .before .before .before .before .args .at)
+    (nd (c .before .before .before .before .before .before .args .r) (c .before .before .before .before .before .before .args .p)
+    (c .before .before .before .before .before .before .args .q) (c .before .before .before .before .before .before .args .d)) (c .if3 .taken)) ∙ note-one
+    (c .before .before .before .before .before .before .args .g .room) (c .before .before .before .before .before .before .args .g .write)
+    (c .before .before .before .before .before .before .args .nodes .now) (c .before .before .before .before .before .before .args .at)
+    (nd (c .before .before .before .before .before .before .args .r) (c .before .before .before .before .before .before .args .p)
+    (c .before .before .before .before .before .before .args .q) (c .before .before .before .before .before .before .args .d))
+    (omega (arith, c .before .before .before .before .before .before .pre)) (omega (arith, c .before .before .before .before .if1 .left)) (omega (arith, c .before .before .if2 .left))
 
 put-node-requires : tie.Need-put-node-requires
 put-node-requires c κs = search needs
@@ -43,7 +56,24 @@ same-length c = search needs
 
 returns-4 : tie.Need-returns-4
 unfolding depthBound
-returns-4 c = ap (λ (x : List ℕ). out x (c .before .before .before .before .before .before .before .before .before .before .args .at + 1)) (c .before .before .put-node .ensures ∙ put-on (c .before .before .before .before .before .before .before .before .before .before .args .g .write) (c .before .before .before .before .before .before .before .before .before .before .args .nodes .now) (c .before .before .before .before .before .before .before .before .before .before .args .at) (nd (c .before .before .before .before .before .before .before .before .before .before .args .r) (c .before .before .before .before .before .before .before .before .before .before .args .p) (c .before .before .before .before .before .before .before .before .before .before .args .q) (c .before .before .before .before .before .before .before .before .before .before .args .d)) (c .before .before .before .before .if3 .left)) ∙ note-one (c .before .before .before .before .before .before .before .before .before .before .args .g .room) (c .before .before .before .before .before .before .before .before .before .before .args .g .write) (c .before .before .before .before .before .before .before .before .before .before .args .nodes .now) (c .before .before .before .before .before .before .before .before .before .before .args .at) (nd (c .before .before .before .before .before .before .before .before .before .before .args .r) (c .before .before .before .before .before .before .before .before .before .before .args .p) (c .before .before .before .before .before .before .before .before .before .before .args .q) (c .before .before .before .before .before .before .before .before .before .before .args .d)) (omega (arith, c .before .before .before .before .before .before .before .before .before .before .pre)) (omega (arith, c .before .before .before .before .before .before .before .before .if1 .left)) (omega (arith, c .before .before .before .before .before .before .if2 .left))
+returns-4 c = ap (λ (x : List ℕ). out x (c .before .before .before .before .before .before .before .before .before .before .args .at + 1))
+    (c .before .before .put-node .ensures ∙ put-on (c .before .before .before .before .before .before .before .before .before .before .args .g .write)
+    (c .before .before .before .before .before .before .before .before .before .before .args .nodes .now)
+    (c .before .before .before .before .before .before .before .before .before .before .args .at)
+    (nd (c .before .before .before .before .before .before .before .before .before .before .args .r)
+    (c .before .before .before .before .before .before .before .before .before .before .args .p)
+    (c .before .before .before .before .before .before .before .before .before .before .args .q)
+    (c .before .before .before .before .before .before .before .before .before .before .args .d)) (c .before .before .before .before .if3 .left)) ∙ note-one
+    (c .before .before .before .before .before .before .before .before .before .before .args .g .room)
+    (c .before .before .before .before .before .before .before .before .before .before .args .g .write)
+    (c .before .before .before .before .before .before .before .before .before .before .args .nodes .now)
+    (c .before .before .before .before .before .before .before .before .before .before .args .at)
+    (nd (c .before .before .before .before .before .before .before .before .before .before .args .r)
+    (c .before .before .before .before .before .before .before .before .before .before .args .p)
+    (c .before .before .before .before .before .before .before .before .before .before .args .q)
+    (c .before .before .before .before .before .before .before .before .before .before .args .d))
+    (omega (arith, c .before .before .before .before .before .before .before .before .before .before .pre))
+    (omega (arith, c .before .before .before .before .before .before .before .before .if1 .left)) (omega (arith, c .before .before .before .before .before .before .if2 .left))
 
 pub note-spec : {M : Type 1} → statement M
 note-spec =

@@ -16,10 +16,34 @@ cell-at-requires : tie.Need-cell-at-requires
 cell-at-requires c κs = search needs
 
 returns : tie.Need-returns
-returns c = (fail-list (c .before .before .before .before .before .before .before .before .args .t .now) (c .before .before .before .before .before .before .before .before .args .s .now) (c .before .before .before .before .before .before .before .before .args .cells .now) (c .before .before .before .before .before .before .before .before .args .g .n) (c .before .before .before .before .before .before .before .before .args .g .room) (c .before .before .before .before .before .before .before .before .args .g .write) (c .before .cell-at .result) (out (c .before .before .before .before .before .before .before .before .args .nodes .now) 0) (c .before .before .before .before .before .before .before .before .pre .0 .count) (c .before .cell-at .ensures) (c .if1 .taken), c .before .before .before .before .before .before .before .before .pre .1)
+returns c = (
+  fail-list (c .before .before .before .before .before .before .before .before .args .t .now)
+      (c .before .before .before .before .before .before .before .before .args .s .now) (c .before .before .before .before .before .before .before .before .args .cells .now)
+      (c .before .before .before .before .before .before .before .before .args .g .n) (c .before .before .before .before .before .before .before .before .args .g .room)
+      (c .before .before .before .before .before .before .before .before .args .g .write) (c .before .cell-at .result)
+      (out (c .before .before .before .before .before .before .before .before .args .nodes .now) 0) (c .before .before .before .before .before .before .before .before .pre .0 .count)
+      (c .before .cell-at .ensures) (c .if1 .taken),
+  c .before .before .before .before .before .before .before .before .pre .1,
+)
 
 enter-requires : tie.Need-enter-requires
-enter-requires c κs = (c .before .before .before .before .before .before .before .before .before .before .pre .0, c .before .before .before .before .before .before .before .before .before .before .pre .1, omega arith, omega arith, omega arith, omega arith, λ z. c .before .before .if1 .left (c .before .before .before .cell-at .ensures ∙ z), start-able (c .before .before .before .before .before .before .before .before .before .before .args .t .now) (c .before .before .before .before .before .before .before .before .before .before .args .s .now) (c .before .before .before .before .before .before .before .before .before .before .args .cells .now) (c .before .before .before .before .before .before .before .before .before .before .args .g .n) (c .before .before .before .before .before .before .before .before .before .before .args .desk .now) 2047 (c .before .before .before .before .before .before .before .before .before .before .pre .1) (c .before .before .before .before .before .before .before .before .before .before .pre .0 .fits) (omega arith) _)
+enter-requires c κs = (
+  c .before .before .before .before .before .before .before .before .before .before .pre .0,
+  c .before .before .before .before .before .before .before .before .before .before .pre .1,
+  omega arith,
+  omega arith,
+  omega arith,
+  omega arith,
+  λ z. c .before .before .if1 .left
+      (c .before .before .before .cell-at .ensures ∙ z),
+  start-able (c .before .before .before .before .before .before .before .before .before .before .args .t .now)
+      (c .before .before .before .before .before .before .before .before .before .before .args .s .now)
+      (c .before .before .before .before .before .before .before .before .before .before .args .cells .now)
+      (c .before .before .before .before .before .before .before .before .before .before .args .g .n)
+      (c .before .before .before .before .before .before .before .before .before .before .args .desk .now) 2047
+      (c .before .before .before .before .before .before .before .before .before .before .pre .1)
+      (c .before .before .before .before .before .before .before .before .before .before .pre .0 .fits) (omega arith) _,
+)
 
 same-length : tie.Need-same-length
 same-length c = search needs
@@ -40,7 +64,12 @@ same-length-4 : tie.Need-same-length-4
 same-length-4 c = search needs
 
 returns-3 : tie.Need-returns-3
-returns-3 c = (c .before .before .before .before .go-on .ensures .0 ∙ c .before .before .before .before .before .before .before .before .before .before .before .before .before .enter .ensures .same ∙ ap (run _ (c .before .before .before .before .before .before .before .before .before .before .before .before .before .before .before .before .before .before .before .before .before .before .before .before .args .g .write) (out (c .before .before .before .before .before .before .before .before .before .before .before .before .before .before .before .before .before .before .before .before .before .before .before .before .args .nodes .now) 0)) (start-list (c .before .before .before .before .before .before .before .before .before .before .before .before .before .before .before .before .before .before .before .before .before .before .before .before .args .t .now) (c .before .before .before .before .before .before .before .before .before .before .before .before .before .before .before .before .before .before .before .before .before .before .before .before .args .s .now) (c .before .before .before .before .before .before .before .before .before .before .before .before .before .before .before .before .before .before .before .before .before .before .before .before .args .cells .now) (c .before .before .before .before .before .before .before .before .before .before .before .before .before .before .before .before .before .before .before .before .before .before .before .before .args .g .n) (c .before .before .before .before .before .before .before .before .before .before .before .before .before .before .before .before .before .before .before .before .before .before .before .before .args .desk .now) 2047 (c .before .before .before .before .before .before .before .before .before .before .before .before .before .before .before .before .before .before .before .before .before .before .before .before .pre .1) (c .before .before .before .before .before .before .before .before .before .before .before .before .before .before .before .before .before .before .before .before .before .before .before .before .pre .0 .fits) (omega arith)), c .before .before .before .before .go-on .ensures .1)
+returns-3 c = (
+  c .before .before .before .before .go-on .ensures .0 ∙
+      c .before .before .before .before .before .before .before .before .before .before .before .before .before .enter .ensures .same ∙ ap
+      (run _ (c .before .before .before .before .before .before .before .before .before .before .before .before .before .before .before .before .before .before .before .before .before .before .before .before .args .g .write) (out (c .before .before .before .before .before .before .before .before .before .before .before .before .before .before .before .before .before .before .before .before .before .before .before .before .args .nodes .now) 0)) (start-list (c .before .before .before .before .before .before .before .before .before .before .before .before .before .before .before .before .before .before .before .before .before .before .before .before .args .t .now) (c .before .before .before .before .before .before .before .before .before .before .before .before .before .before .before .before .before .before .before .before .before .before .before .before .args .s .now) (c .before .before .before .before .before .before .before .before .before .before .before .before .before .before .before .before .before .before .before .before .before .before .before .before .args .cells .now) (c .before .before .before .before .before .before .before .before .before .before .before .before .before .before .before .before .before .before .before .before .before .before .before .before .args .g .n) (c .before .before .before .before .before .before .before .before .before .before .before .before .before .before .before .before .before .before .before .before .before .before .before .before .args .desk .now) 2047 (c .before .before .before .before .before .before .before .before .before .before .before .before .before .before .before .before .before .before .before .before .before .before .before .before .pre .1) (c .before .before .before .before .before .before .before .before .before .before .before .before .before .before .before .before .before .before .before .before .before .before .before .before .pre .0 .fits) (omega arith)),
+  c .before .before .before .before .go-on .ensures .1,
+)
 
 pub pass-spec : {M : Type 1} → statement M
 pass-spec =

@@ -5,7 +5,7 @@ use native.Mathlib.Omega.{arith}
 use lib.ListN.{length}
 use Rattle.match_nodes.specs.steps.Turns.{Ready}
 use Rattle.match_run.specs.laws.Runs.{need-small, ran-long, ran-few, ran-none, ready, ran-all}
-use Rattle.match_cells.specs.laws.Keys.{fresh-none}
+use Rattle.match_keys.specs.laws.Keys.{fresh-none}
 use Rattle.match_cells.specs.laws.Runs.{knows-count}
 use borrow.Author.Needs.{needs}
 use Rattle.match_run.proofs.run.Statement.{statement}
@@ -23,7 +23,8 @@ not-matched-requires : tie.Need-not-matched-requires
 not-matched-requires c κs = search needs
 
 returns : tie.Need-returns
-returns c = ran-long (c .before .before .before .before .before .args .t .now) (c .before .before .before .before .before .args .input .now) (c .before .before .before .before .before .args .cells .now) (c .before .before .before .before .before .args .nodes .now) (c .not-matched .ensures) (c .before .if1 .taken)
+returns c = ran-long (c .before .before .before .before .before .args .t .now) (c .before .before .before .before .before .args .input .now)
+    (c .before .before .before .before .before .args .cells .now) (c .before .before .before .before .before .args .nodes .now) (c .not-matched .ensures) (c .before .if1 .taken)
 
 symbols-requires : tie.Need-symbols-requires
 symbols-requires c κs = search needs
@@ -32,19 +33,32 @@ add-need : tie.Need-add-need
 add-need c = search needs
 
 mul-need : tie.Need-mul-need
-mul-need c = omega (arith, need-small (c .symbols .result) (length (c .before .before .before .before .before .args .input .now)) (omega (arith, c .symbols .ensures, c .before .before .before .before .before .pre .plain .holds .few-symbols)) (omega (arith, c .before .if1 .left)))
+mul-need c = omega (
+  arith,
+  need-small (c .symbols .result) (length (c .before .before .before .before .before .args .input .now))
+      (omega (arith, c .symbols .ensures, c .before .before .before .before .before .pre .plain .holds .few-symbols)) (omega (arith, c .before .if1 .left)),
+)
 
 not-matched-requires-2 : tie.Need-not-matched-requires-2
 not-matched-requires-2 c κs = search needs
 
 returns-2 : tie.Need-returns-2
-returns-2 c = ran-few (c .before .before .before .before .before .before .before .args .t .now) (c .before .before .before .before .before .before .before .args .input .now) (c .before .before .before .before .before .before .before .args .cells .now) (c .before .before .before .before .before .before .before .args .nodes .now) (c .before .before .symbols .result) _ (c .before .before .symbols .ensures) (omega (arith, c .before .before .before .if1 .left)) refl (c .not-matched2 .ensures) (c .before .if2 .taken)
+returns-2 c = ran-few (c .before .before .before .before .before .before .before .args .t .now) (c .before .before .before .before .before .before .before .args .input .now)
+    (c .before .before .before .before .before .before .before .args .cells .now) (c .before .before .before .before .before .before .before .args .nodes .now)
+    (c .before .before .symbols .result) _ (c .before .before .symbols .ensures) (omega (arith, c .before .before .before .if1 .left)) refl (c .not-matched2 .ensures) (c .before .if2 .taken)
 
 slice-aggregate-fill : tie.Need-slice-aggregate-fill
 slice-aggregate-fill c = search needs
 
 fill-requires : tie.Need-fill-requires
-fill-requires c κs = ((c .before .before .before .before .before .before .before .before .before .pre .plain .holds .few-symbols, omega (arith, c .before .before .before .before .before .if1 .left)), fresh-none (c .before .before .before .before .before .before .before .before .before .args .t .now) 26901 (omega arith))
+fill-requires c κs = (
+  (
+    c .before .before .before .before .before .before .before .before .before .pre .plain .holds .few-symbols,
+    omega
+        (arith, c .before .before .before .before .before .if1 .left),
+  ),
+  fresh-none (c .before .before .before .before .before .before .before .before .before .args .t .now) 26901 (omega arith),
+)
 
 word-requires : tie.Need-word-requires
 word-requires c κs = search needs
@@ -53,7 +67,15 @@ same-length : tie.Need-same-length
 same-length c = search needs
 
 returns-3 : tie.Need-returns-3
-returns-3 c = ran-none (c .before .before .before .before .before .before .before .before .before .before .before .before .before .before .before .before .args .t .now) (c .before .before .before .before .before .before .before .before .before .before .before .before .before .before .before .before .args .input .now) (c .before .before .before .before .before .before .before .before .before .before .before .before .before .before .before .before .args .cells .now) (c .before .before .before .before .before .before .before .before .before .before .before .before .before .before .before .before .args .nodes .now) (c .before .before .before .before .before .before .before .before .before .before .before .symbols .result) _ (c .before .before .before .before .before .before .before .before .before .before .before .symbols .ensures) (omega (arith, c .before .before .before .before .before .before .before .before .before .before .before .before .if1 .left)) refl (omega (arith, c .before .before .before .before .before .before .before .before .before .before .if2 .left)) _ (c .before .before .before .before .before .before .fill .ensures .0) (c .before .word .result) (c .before .word .ensures .0) (c .if3 .taken)
+returns-3 c = ran-none (c .before .before .before .before .before .before .before .before .before .before .before .before .before .before .before .before .args .t .now)
+    (c .before .before .before .before .before .before .before .before .before .before .before .before .before .before .before .before .args .input .now)
+    (c .before .before .before .before .before .before .before .before .before .before .before .before .before .before .before .before .args .cells .now)
+    (c .before .before .before .before .before .before .before .before .before .before .before .before .before .before .before .before .args .nodes .now)
+    (c .before .before .before .before .before .before .before .before .before .before .before .symbols .result) _
+    (c .before .before .before .before .before .before .before .before .before .before .before .symbols .ensures)
+    (omega (arith, c .before .before .before .before .before .before .before .before .before .before .before .before .if1 .left)) refl
+    (omega (arith, c .before .before .before .before .before .before .before .before .before .before .if2 .left)) _
+    (c .before .before .before .before .before .before .fill .ensures .0) (c .before .word .result) (c .before .word .ensures .0) (c .if3 .taken)
 
 slice-aggregate-list : tie.Need-slice-aggregate-list
 slice-aggregate-list c = search needs

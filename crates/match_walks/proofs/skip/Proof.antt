@@ -17,7 +17,12 @@ look-requires : tie.Need-look-requires
 look-requires c κs = search needs
 
 returns-2 : tie.Need-returns-2
-returns-2 c = walk-guard (c .before .before .before .before .before .before .before .before .args .t .now) (c .before .before .before .before .before .before .before .before .args .s .now) (c .before .before .before .before .before .before .before .before .args .cells .now) (c .before .before .before .before .before .before .before .before .args .n) (c .before .before .before .before .before .before .before .before .args .desk .now) (c .before .before .before .before .before .before .before .before .args .st .x) (c .before .before .before .before .before .before .before .before .args .st .place) (c .before .before .before .before .before .before .before .before .pre .0) (c .before .look .result .op) (c .before .look .result .left) (c .before .look .result .y) (c .before .look .result .z) (c .before .look .ensures) (c .if2 .taken)
+returns-2 c = walk-guard (c .before .before .before .before .before .before .before .before .args .t .now)
+    (c .before .before .before .before .before .before .before .before .args .s .now) (c .before .before .before .before .before .before .before .before .args .cells .now)
+    (c .before .before .before .before .before .before .before .before .args .n) (c .before .before .before .before .before .before .before .before .args .desk .now)
+    (c .before .before .before .before .before .before .before .before .args .st .x) (c .before .before .before .before .before .before .before .before .args .st .place)
+    (c .before .before .before .before .before .before .before .before .pre .0) (c .before .look .result .op) (c .before .look .result .left) (c .before .look .result .y)
+    (c .before .look .result .z) (c .before .look .ensures) (c .if2 .taken)
 
 across-requires-2 : tie.Need-across-requires-2
 across-requires-2 c κs = c .before .before .before .before .before .before .before .before .pre

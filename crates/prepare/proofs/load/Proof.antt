@@ -18,7 +18,8 @@ refusal-requires : tie.Need-refusal-requires
 refusal-requires c κs = search needs
 
 returns : tie.Need-returns
-returns c = loads-refused (c .refusal .ensures) (early (c .before .before .before .before .before .args .mode) (c .before .before .before .before .before .args .text .now) (c .before .before .before .refused .result) (c .before .before .before .refused .ensures) (c .before .if1 .taken))
+returns c = loads-refused (c .refusal .ensures) (early (c .before .before .before .before .before .args .mode) (c .before .before .before .before .before .args .text .now)
+    (c .before .before .before .refused .result) (c .before .before .before .refused .ensures) (c .before .if1 .taken))
 
 gather-requires : tie.Need-gather-requires
 gather-requires c κs = (c .before .before .before .before .before .pre, sym (ap (λ (f : Found). f .number) (c .before .before .before .refused .ensures)) ∙ c .before .if1 .left)

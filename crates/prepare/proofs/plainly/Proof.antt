@@ -24,7 +24,12 @@ refusal-requires : tie.Need-refusal-requires
 refusal-requires c κs = search needs
 
 returns : tie.Need-returns
-returns c = refused-plainly (c .before .before .before .before .before .args .mode) (c .before .before .before .before .before .args .text .now) _ _ (c .refusal .result) (ap (λ (r : Counted). isRefused (r .verdict)) (c .refusal .ensures)) (first-six (c .before .before .before .before .before .args .mode) (c .before .before .before .before .before .args .text .now) (c .before .before .before .before .before .args .t .now) (c .refusal .result) (loads-refused (c .refusal .ensures) (early (c .before .before .before .before .before .args .mode) (c .before .before .before .before .before .args .text .now) (c .before .before .before .refused .result) (c .before .before .before .refused .ensures) (c .before .if1 .taken))) (ap (λ (r : Counted). isRefused (r .verdict)) (c .refusal .ensures)))
+returns c = refused-plainly (c .before .before .before .before .before .args .mode) (c .before .before .before .before .before .args .text .now) _ _ (c .refusal .result)
+    (ap (λ (r : Counted). isRefused (r .verdict)) (c .refusal .ensures))
+    (first-six (c .before .before .before .before .before .args .mode) (c .before .before .before .before .before .args .text .now)
+    (c .before .before .before .before .before .args .t .now) (c .refusal .result)
+    (loads-refused (c .refusal .ensures) (early (c .before .before .before .before .before .args .mode) (c .before .before .before .before .before .args .text .now)
+    (c .before .before .before .refused .result) (c .before .before .before .refused .ensures) (c .before .if1 .taken))) (ap (λ (r : Counted). isRefused (r .verdict)) (c .refusal .ensures)))
 
 gather-requires : tie.Need-gather-requires
 gather-requires c κs = (c .before .before .before .before .before .pre, sym (ap (λ (f : Found). f .number) (c .before .before .before .refused .ensures)) ∙ c .before .if1 .left)
@@ -33,7 +38,11 @@ is-refused-requires : tie.Need-is-refused-requires
 is-refused-requires c κs = search needs
 
 returns-2 : tie.Need-returns-2
-returns-2 c = refused-plainly (c .before .before .before .before .before .before .before .before .args .mode) (c .before .before .before .before .before .before .before .before .args .text .now) _ _ (c .before .before .gather .result) (sym (c .before .is-refused .ensures) ∙ c .if2 .taken) (first-six (c .before .before .before .before .before .before .before .before .args .mode) (c .before .before .before .before .before .before .before .before .args .text .now) _ (c .before .before .gather .result) (c .before .before .gather .ensures) (sym (c .before .is-refused .ensures) ∙ c .if2 .taken))
+returns-2 c = refused-plainly (c .before .before .before .before .before .before .before .before .args .mode)
+    (c .before .before .before .before .before .before .before .before .args .text .now) _ _ (c .before .before .gather .result)
+    (sym (c .before .is-refused .ensures) ∙ c .if2 .taken) (first-six (c .before .before .before .before .before .before .before .before .args .mode)
+    (c .before .before .before .before .before .before .before .before .args .text .now) _ (c .before .before .gather .result) (c .before .before .gather .ensures)
+    (sym (c .before .is-refused .ensures) ∙ c .if2 .taken))
 
 alternatives-requires : tie.Need-alternatives-requires
 alternatives-requires c κs = search needs

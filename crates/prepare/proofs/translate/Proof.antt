@@ -15,7 +15,8 @@ step-two-requires : tie.Need-step-two-requires
 step-two-requires c κs = search needs
 
 returns-2 : tie.Need-returns-2
-returns-2 c = translates (c .before .before .before .args .mid .now) (c .before .before .before .args .alts .now) _ (c .before .before .before .args .n) (c .step-two .result) (omega (arith, c .before .before .if1 .left)) (c .step-two .ensures)
+returns-2 c = translates (c .before .before .before .args .mid .now) (c .before .before .before .args .alts .now) _ (c .before .before .before .args .n) (c .step-two .result)
+    (omega (arith, c .before .before .if1 .left)) (c .step-two .ensures)
 
 pub translate-spec : {M : Type 1} → statement M
 translate-spec = tie.close (tie.spec returns step-two-requires returns-2)

@@ -20,7 +20,8 @@ token-at-requires : tie.Need-token-at-requires
 token-at-requires c κs = search needs
 
 returns : tie.Need-returns
-returns c = ap (λ (x : ℕ). eqb x 11) (kind-there (c .before .before .args .mode) (c .before .before .args .text .now) (c .before .before .args .at) (c .token-at .result) (c .token-at .ensures)) ∙ arrow-kind (toksAt (c .before .before .args .mode) (c .before .before .args .text .now) (c .before .before .args .at))
+returns c = ap (λ (x : ℕ). eqb x 11) (kind-there (c .before .before .args .mode) (c .before .before .args .text .now) (c .before .before .args .at) (c .token-at .result)
+    (c .token-at .ensures)) ∙ arrow-kind (toksAt (c .before .before .args .mode) (c .before .before .args .text .now) (c .before .before .args .at))
 
 pub arrow-at-spec : {M : Type 1} → statement M
 arrow-at-spec = tie.close (tie.spec token-at-requires returns)

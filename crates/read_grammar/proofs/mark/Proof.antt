@@ -22,34 +22,76 @@ token-at-requires : tie.Need-token-at-requires
 token-at-requires c κs = search needs
 
 returns : tie.Need-returns
-returns c = mark-end (c .before .before .before .before .args .every) (c .before .before .before .before .args .mode) (c .before .before .before .before .args .text .now) (c .before .before .before .before .args .at) (c .before .token-at .result) (c .before .token-at .ensures) _ (c .if1 .taken) (c .before .before .before .before .pre .0)
+returns c = mark-end (c .before .before .before .before .args .every) (c .before .before .before .before .args .mode) (c .before .before .before .before .args .text .now)
+    (c .before .before .before .before .args .at) (c .before .token-at .result) (c .before .token-at .ensures) _ (c .if1 .taken) (c .before .before .before .before .pre .0)
 
 returns-2 : tie.Need-returns-2
-returns-2 c = mark-other (c .before .before .before .before .before .args .every) (c .before .before .before .before .before .args .mode) (c .before .before .before .before .before .args .text .now) (c .before .before .before .before .before .args .at) (c .before .before .token-at .result) (c .before .before .token-at .ensures) _ (c .before .if1 .left) (c .if2 .taken)
+returns-2 c = mark-other (c .before .before .before .before .before .args .every) (c .before .before .before .before .before .args .mode)
+    (c .before .before .before .before .before .args .text .now) (c .before .before .before .before .before .args .at) (c .before .before .token-at .result)
+    (c .before .before .token-at .ensures) _ (c .before .if1 .left) (c .if2 .taken)
 
 note-symbol-requires : tie.Need-note-symbol-requires
-note-symbol-requires c κs = omega (arith, room (c .before .before .before .before .before .before .before .args .mode) (c .before .before .before .before .before .before .before .args .text .now) (c .before .before .before .before .before .before .before .args .at) (c .before .before .before .before .token-at .result) (c .before .before .before .before .token-at .ensures) (c .before .before .before .if1 .left) (omega (arith, c .before .before .if2 .left)), c .before .before .before .before .before .before .before .pre .1)
+note-symbol-requires c κs = omega (
+  arith,
+  room (c .before .before .before .before .before .before .before .args .mode)
+      (c .before .before .before .before .before .before .before .args .text .now) (c .before .before .before .before .before .before .before .args .at)
+      (c .before .before .before .before .token-at .result) (c .before .before .before .before .token-at .ensures) (c .before .before .before .if1 .left)
+      (omega (arith, c .before .before .if2 .left)),
+  c .before .before .before .before .before .before .before .pre .1,
+)
 
 same-length : tie.Need-same-length
 same-length c = search needs
 
 returns-3 : tie.Need-returns-3
-returns-3 c = mark-yes (c .before .before .before .before .before .before .before .before .before .before .args .every) (c .before .before .before .before .before .before .before .before .before .before .args .mode) (c .before .before .before .before .before .before .before .before .before .before .args .text .now) (c .before .before .before .before .before .before .before .before .before .before .args .at) (c .before .before .before .before .before .before .before .token-at .result) (c .before .before .before .before .before .before .before .token-at .ensures) (c .before .before .before .before .before .before .if1 .left) (omega (arith, c .before .before .before .before .before .if2 .left)) _ _ _ (ap (λ (b : Bool). b || isArrow (toksAt (c .before .before .before .before .before .before .before .before .before .before .args .mode) (c .before .before .before .before .before .before .before .before .before .before .args .text .now) (c .before .before .before .before .before .before .before .token-at .result .next))) (c .before .before .before .before .if3 .taken)) (c .before .before .note-symbol .ensures)
+returns-3 c = mark-yes (c .before .before .before .before .before .before .before .before .before .before .args .every)
+    (c .before .before .before .before .before .before .before .before .before .before .args .mode)
+    (c .before .before .before .before .before .before .before .before .before .before .args .text .now)
+    (c .before .before .before .before .before .before .before .before .before .before .args .at) (c .before .before .before .before .before .before .before .token-at .result)
+    (c .before .before .before .before .before .before .before .token-at .ensures) (c .before .before .before .before .before .before .if1 .left)
+    (omega (arith, c .before .before .before .before .before .if2 .left)) _ _ _
+    (ap (λ (b : Bool). b || isArrow (toksAt (c .before .before .before .before .before .before .before .before .before .before .args .mode)
+    (c .before .before .before .before .before .before .before .before .before .before .args .text .now)
+    (c .before .before .before .before .before .before .before .token-at .result .next))) (c .before .before .before .before .if3 .taken)) (c .before .before .note-symbol .ensures)
 
 arrow-at-requires : tie.Need-arrow-at-requires
 arrow-at-requires c κs = search needs
 
 note-symbol-requires-2 : tie.Need-note-symbol-requires-2
-note-symbol-requires-2 c κs = omega (arith, room (c .before .before .before .before .before .before .before .before .before .args .mode) (c .before .before .before .before .before .before .before .before .before .args .text .now) (c .before .before .before .before .before .before .before .before .before .args .at) (c .before .before .before .before .before .before .token-at .result) (c .before .before .before .before .before .before .token-at .ensures) (c .before .before .before .before .before .if1 .left) (omega (arith, c .before .before .before .before .if2 .left)), c .before .before .before .before .before .before .before .before .before .pre .1)
+note-symbol-requires-2 c κs = omega (
+  arith,
+  room (c .before .before .before .before .before .before .before .before .before .args .mode)
+      (c .before .before .before .before .before .before .before .before .before .args .text .now)
+      (c .before .before .before .before .before .before .before .before .before .args .at) (c .before .before .before .before .before .before .token-at .result)
+      (c .before .before .before .before .before .before .token-at .ensures) (c .before .before .before .before .before .if1 .left)
+      (omega (arith, c .before .before .before .before .if2 .left)),
+  c .before .before .before .before .before .before .before .before .before .pre .1,
+)
 
 same-length-2 : tie.Need-same-length-2
 same-length-2 c = search needs
 
 returns-4 : tie.Need-returns-4
-returns-4 c = mark-yes (c .before .before .before .before .before .before .before .before .before .before .before .before .args .every) (c .before .before .before .before .before .before .before .before .before .before .before .before .args .mode) (c .before .before .before .before .before .before .before .before .before .before .before .before .args .text .now) (c .before .before .before .before .before .before .before .before .before .before .before .before .args .at) (c .before .before .before .before .before .before .before .before .before .token-at .result) (c .before .before .before .before .before .before .before .before .before .token-at .ensures) (c .before .before .before .before .before .before .before .before .if1 .left) (omega (arith, c .before .before .before .before .before .before .before .if2 .left)) _ _ _ (ap (λ (b : Bool). b || isArrow (toksAt (c .before .before .before .before .before .before .before .before .before .before .before .before .args .mode) (c .before .before .before .before .before .before .before .before .before .before .before .before .args .text .now) (c .before .before .before .before .before .before .before .before .before .token-at .result .next))) (c .before .before .before .before .before .before .if3 .left) ∙ sym (c .before .before .before .before .before .arrow-at .ensures) ∙ c .before .before .before .before .if4 .taken) (c .before .before .note-symbol2 .ensures)
+returns-4 c = mark-yes (c .before .before .before .before .before .before .before .before .before .before .before .before .args .every)
+    (c .before .before .before .before .before .before .before .before .before .before .before .before .args .mode)
+    (c .before .before .before .before .before .before .before .before .before .before .before .before .args .text .now)
+    (c .before .before .before .before .before .before .before .before .before .before .before .before .args .at)
+    (c .before .before .before .before .before .before .before .before .before .token-at .result)
+    (c .before .before .before .before .before .before .before .before .before .token-at .ensures) (c .before .before .before .before .before .before .before .before .if1 .left)
+    (omega (arith, c .before .before .before .before .before .before .before .if2 .left)) _ _ _
+    (ap (λ (b : Bool). b || isArrow (toksAt (c .before .before .before .before .before .before .before .before .before .before .before .before .args .mode)
+    (c .before .before .before .before .before .before .before .before .before .before .before .before .args .text .now)
+    (c .before .before .before .before .before .before .before .before .before .token-at .result .next))) (c .before .before .before .before .before .before .if3 .left) ∙ sym
+    (c .before .before .before .before .before .arrow-at .ensures) ∙ c .before .before .before .before .if4 .taken) (c .before .before .note-symbol2 .ensures)
 
 returns-5 : tie.Need-returns-5
-returns-5 c = mark-no (c .before .before .before .before .before .before .before .before .args .every) (c .before .before .before .before .before .before .before .before .args .mode) (c .before .before .before .before .before .before .before .before .args .text .now) (c .before .before .before .before .before .before .before .before .args .at) (c .before .before .before .before .before .token-at .result) (c .before .before .before .before .before .token-at .ensures) (c .before .before .before .before .if1 .left) (omega (arith, c .before .before .before .if2 .left)) _ (ap (λ (b : Bool). b || isArrow (toksAt (c .before .before .before .before .before .before .before .before .args .mode) (c .before .before .before .before .before .before .before .before .args .text .now) (c .before .before .before .before .before .token-at .result .next))) (c .before .before .if3 .left) ∙ sym (c .before .arrow-at .ensures) ∙ c .if4 .left)
+returns-5 c = mark-no (c .before .before .before .before .before .before .before .before .args .every)
+    (c .before .before .before .before .before .before .before .before .args .mode) (c .before .before .before .before .before .before .before .before .args .text .now)
+    (c .before .before .before .before .before .before .before .before .args .at) (c .before .before .before .before .before .token-at .result)
+    (c .before .before .before .before .before .token-at .ensures) (c .before .before .before .before .if1 .left) (omega (arith, c .before .before .before .if2 .left)) _
+    (ap (λ (b : Bool). b || isArrow (toksAt (c .before .before .before .before .before .before .before .before .args .mode)
+    (c .before .before .before .before .before .before .before .before .args .text .now) (c .before .before .before .before .before .token-at .result .next)))
+    (c .before .before .if3 .left) ∙ sym (c .before .arrow-at .ensures) ∙ c .if4 .left)
 
 pub mark-spec : {M : Type 1} → statement M
 mark-spec =

@@ -33,10 +33,19 @@ returns : tie.Need-returns Inv-loop μ-loop
 returns c = end-n (c .before .before .before .before .before .loop .inv .2) (c .before .before .before .mark .ensures) (c .if1 .taken)
 
 loop-less : tie.Need-loop-less Inv-loop μ-loop
-loop-less c = omega (arith, c .before .before .before .mark .ensures .high, strict (c .before .before .before .before .before .loop .i) (c .before .before .before .mark .result) (c .before .before .before .mark .ensures .low) (c .if1 .left))
+loop-less c = omega (
+  arith,
+  c .before .before .before .mark .ensures .high,
+  strict (c .before .before .before .before .before .loop .i) (c .before .before .before .mark .result)
+      (c .before .before .before .mark .ensures .low) (c .if1 .left),
+)
 
 loop-again : tie.Need-loop-again Inv-loop μ-loop
-loop-again c = (c .before .before .before .mark .ensures .high, c .before .before .before .mark .kept .1 .1 .1 .1 .0 ∙ c .before .before .before .before .before .loop .inv .1, more-n (c .before .before .before .before .before .loop .inv .2) (c .before .before .before .mark .ensures))
+loop-again c = (
+  c .before .before .before .mark .ensures .high,
+  c .before .before .before .mark .kept .1 .1 .1 .1 .0 ∙ c .before .before .before .before .before .loop .inv .1,
+  more-n (c .before .before .before .before .before .loop .inv .2) (c .before .before .before .mark .ensures),
+)
 
 pub mark-all-spec : {M : Type 1} → statement M
 mark-all-spec =

@@ -17,10 +17,12 @@ token-at-requires : tie.Need-token-at-requires
 token-at-requires c κs = search needs
 
 returns : tie.Need-returns
-returns c = over-end (c .before .before .before .args .mode) (c .before .before .before .args .text .now) (c .before .before .before .args .at) (c .before .token-at .result) (c .before .token-at .ensures) (c .if1 .taken) (c .before .before .before .pre)
+returns c = over-end (c .before .before .before .args .mode) (c .before .before .before .args .text .now) (c .before .before .before .args .at) (c .before .token-at .result)
+    (c .before .token-at .ensures) (c .if1 .taken) (c .before .before .before .pre)
 
 returns-2 : tie.Need-returns-2
-returns-2 c = over-next (c .before .before .before .args .mode) (c .before .before .before .args .text .now) (c .before .before .before .args .at) (c .before .token-at .result) (c .before .token-at .ensures) (c .if1 .left)
+returns-2 c = over-next (c .before .before .before .args .mode) (c .before .before .before .args .text .now) (c .before .before .before .args .at) (c .before .token-at .result)
+    (c .before .token-at .ensures) (c .if1 .left)
 
 pub over-spec : {M : Type 1} → statement M
 over-spec = tie.close (tie.spec token-at-requires returns returns-2)

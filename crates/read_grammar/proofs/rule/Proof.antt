@@ -31,7 +31,8 @@ same-length : tie.Need-same-length
 same-length c = c .before .before .set-body .kept .0 ∙ c .before .before .before .before .before .before .choice .kept .1 .1 .1 .0
 
 returns : tie.Need-returns
-returns c = one-rule (c .before .before .before .before .before .before .before .before .before .over .ensures) (c .before .before .before .before .before .before .before .before .over2 .ensures) (c .before .before .before .before .before .before .choice .ensures) (c .before .before .set-body .ensures)
+returns c = one-rule (c .before .before .before .before .before .before .before .before .before .over .ensures)
+    (c .before .before .before .before .before .before .before .before .over2 .ensures) (c .before .before .before .before .before .before .choice .ensures) (c .before .before .set-body .ensures)
 
 pub rule-spec : {M : Type 1} → statement M
 rule-spec =

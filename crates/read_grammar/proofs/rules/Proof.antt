@@ -32,19 +32,49 @@ same-length : tie.Need-same-length Inv-loop μ-loop
 same-length c = c .before .before .loop .inv .2
 
 returns : tie.Need-returns Inv-loop μ-loop
-returns c = end-r (c .before .before .loop .inv .3) (no-token (c .before .before .before .before .before .args .mode) (c .before .before .before .before .before .args .text .now) (c .before .before .loop .i) (c .before .token-at .result) (c .before .token-at .ensures) (c .if1 .taken))
+returns c = end-r (c .before .before .loop .inv .3) (no-token (c .before .before .before .before .before .args .mode) (c .before .before .before .before .before .args .text .now)
+    (c .before .before .loop .i) (c .before .token-at .result) (c .before .token-at .ensures) (c .if1 .taken))
 
 rule-requires : tie.Need-rule-requires Inv-loop μ-loop
 rule-requires c κs = (c .before .before .before .loop .inv .1, c .before .before .before .before .before .before .pre)
 
 add-k : tie.Need-add-k Inv-loop μ-loop
-add-k c = omega (arith, c .before .before .before .before .before .before .loop .inv .0, c .before .before .before .before .before .before .loop .inv .1, c .before .before .before .before .before .before .before .before .before .pre)
+add-k c = omega (
+  arith,
+  c .before .before .before .before .before .before .loop .inv .0,
+  c .before .before .before .before .before .before .loop .inv .1,
+  c .before .before .before .before .before .before .before .before .before .pre,
+)
 
 loop-less : tie.Need-loop-less Inv-loop μ-loop
-loop-less c = omega (arith, c .before .before .rule .ensures .high, c .before .before .rule .ensures .forth (λ e. c .before .before .before .before .if1 .left (kind-there (c .before .before .before .before .before .before .before .before .before .args .mode) (c .before .before .before .before .before .before .before .before .before .args .text .now) (c .before .before .before .before .before .before .loop .i) (c .before .before .before .before .before .token-at .result) (c .before .before .before .before .before .token-at .ensures) ∙ ap kindL e)))
+loop-less c = omega (
+  arith,
+  c .before .before .rule .ensures .high,
+  c .before .before .rule .ensures .forth
+      (λ e. c .before .before .before .before .if1 .left (kind-there (c .before .before .before .before .before .before .before .before .before .args .mode)
+      (c .before .before .before .before .before .before .before .before .before .args .text .now) (c .before .before .before .before .before .before .loop .i)
+      (c .before .before .before .before .before .token-at .result) (c .before .before .before .before .before .token-at .ensures) ∙ ap kindL e)),
+)
 
 loop-again : tie.Need-loop-again Inv-loop μ-loop
-loop-again c = (omega (arith, c .before .before .before .before .before .before .loop .inv .0, c .before .before .rule .ensures .forth (λ e. c .before .before .before .before .if1 .left (kind-there (c .before .before .before .before .before .before .before .before .before .args .mode) (c .before .before .before .before .before .before .before .before .before .args .text .now) (c .before .before .before .before .before .before .loop .i) (c .before .before .before .before .before .token-at .result) (c .before .before .before .before .before .token-at .ensures) ∙ ap kindL e))), c .before .before .rule .ensures .high, c .before .before .rule .kept .1 .1 .1 .1 .0 ∙ c .before .before .before .before .before .before .loop .inv .2, more-r (c .before .before .before .before .before .before .loop .inv .3) (λ e. c .before .before .before .before .if1 .left (kind-there (c .before .before .before .before .before .before .before .before .before .args .mode) (c .before .before .before .before .before .before .before .before .before .args .text .now) (c .before .before .before .before .before .before .loop .i) (c .before .before .before .before .before .token-at .result) (c .before .before .before .before .before .token-at .ensures) ∙ ap kindL e)) (c .before .before .rule .ensures))
+loop-again c = (
+  omega (
+    arith,
+    c .before .before .before .before .before .before .loop .inv .0,
+    c .before .before .rule .ensures .forth
+        (λ e. c .before .before .before .before .if1 .left (kind-there (c .before .before .before .before .before .before .before .before .before .args .mode)
+        (c .before .before .before .before .before .before .before .before .before .args .text .now) (c .before .before .before .before .before .before .loop .i)
+        (c .before .before .before .before .before .token-at .result)
+        (c .before .before .before .before .before .token-at .ensures) ∙ ap kindL e)),
+  ),
+  c .before .before .rule .ensures .high,
+  c .before .before .rule .kept .1 .1 .1 .1 .0 ∙
+      c .before .before .before .before .before .before .loop .inv .2,
+  more-r (c .before .before .before .before .before .before .loop .inv .3)
+      (λ e. c .before .before .before .before .if1 .left (kind-there (c .before .before .before .before .before .before .before .before .before .args .mode)
+      (c .before .before .before .before .before .before .before .before .before .args .text .now) (c .before .before .before .before .before .before .loop .i)
+      (c .before .before .before .before .before .token-at .result) (c .before .before .before .before .before .token-at .ensures) ∙ ap kindL e)) (c .before .before .rule .ensures),
+)
 
 pub rules-spec : {M : Type 1} → statement M
 rules-spec =

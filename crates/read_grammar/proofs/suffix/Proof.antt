@@ -23,7 +23,10 @@ suffix-op-requires : tie.Need-suffix-op-requires
 suffix-op-requires c κs = search needs
 
 returns : tie.Need-returns
-returns c = suf-no (c .before .suffix-op .ensures .0 ∙ ap suffixOp (kind-there (c .before .before .before .before .before .args .mode) (c .before .before .before .before .before .args .text .now) (c .before .before .before .before .before .args .at) (c .before .before .token-at .result) (c .before .before .token-at .ensures))) (c .if1 .taken) (c .before .before .before .before .before .pre)
+returns c = suf-no (c .before .suffix-op .ensures .0 ∙ ap suffixOp
+    (kind-there (c .before .before .before .before .before .args .mode) (c .before .before .before .before .before .args .text .now)
+    (c .before .before .before .before .before .args .at) (c .before .before .token-at .result) (c .before .before .token-at .ensures))) (c .if1 .taken)
+    (c .before .before .before .before .before .pre)
 
 add-over-requires : tie.Need-add-over-requires
 add-over-requires c κs = search needs
@@ -32,7 +35,16 @@ same-length : tie.Need-same-length
 same-length c = search needs
 
 returns-2 : tie.Need-returns-2
-returns-2 c = suf-yes (c .before .before .before .before .before .suffix-op .ensures .0 ∙ ap suffixOp (kind-there (c .before .before .before .before .before .before .before .before .before .args .mode) (c .before .before .before .before .before .before .before .before .before .args .text .now) (c .before .before .before .before .before .before .before .before .before .args .at) (c .before .before .before .before .before .before .token-at .result) (c .before .before .before .before .before .before .token-at .ensures))) (c .before .before .before .before .if1 .left) (over-next (c .before .before .before .before .before .before .before .before .before .args .mode) (c .before .before .before .before .before .before .before .before .before .args .text .now) (c .before .before .before .before .before .before .before .before .before .args .at) (c .before .before .before .before .before .before .token-at .result) (c .before .before .before .before .before .before .token-at .ensures) (suffix-some _ _ (c .before .before .before .before .before .suffix-op .ensures .0) (c .before .before .before .before .if1 .left))) (c .before .before .add-over .ensures)
+returns-2 c = suf-yes (c .before .before .before .before .before .suffix-op .ensures .0 ∙ ap suffixOp
+    (kind-there (c .before .before .before .before .before .before .before .before .before .args .mode)
+    (c .before .before .before .before .before .before .before .before .before .args .text .now)
+    (c .before .before .before .before .before .before .before .before .before .args .at) (c .before .before .before .before .before .before .token-at .result)
+    (c .before .before .before .before .before .before .token-at .ensures))) (c .before .before .before .before .if1 .left)
+    (over-next (c .before .before .before .before .before .before .before .before .before .args .mode)
+    (c .before .before .before .before .before .before .before .before .before .args .text .now)
+    (c .before .before .before .before .before .before .before .before .before .args .at) (c .before .before .before .before .before .before .token-at .result)
+    (c .before .before .before .before .before .before .token-at .ensures)
+    (suffix-some _ _ (c .before .before .before .before .before .suffix-op .ensures .0) (c .before .before .before .before .if1 .left))) (c .before .before .add-over .ensures)
 
 pub suffix-spec : {M : Type 1} → statement M
 suffix-spec =

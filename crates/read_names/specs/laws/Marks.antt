@@ -20,7 +20,7 @@ use Rattle.read_syntax.specs.Reading.{before, leftBy, leftsIn, lacks}
 use Rattle.read_walks.specs.steps.Names.{bytesAt, symbolBy, begun, bad4, reservedBy}
 use Rattle.read_walks.specs.laws.Offences.{said, not-symbol, reserved-here, used-here, left-here, no-name, no-use, name-use}
 use Rattle.read_order.specs.steps.Order.{symbolIn, inText, Packs, within, findIn}
-use Rattle.read_names.specs.steps.Lefts.{found, Knows, Entered, leftAt, MetAll, Used, UsedAll, Whole}
+use Rattle.read_names.specs.steps.Lefts.{found, Finds, Entered, leftAt, MetAll, Used, UsedAll, Whole}
 
 -- ── the same symbol ──
 bytes-same : (v w : List ℕ) → sameBytes v w ≡ true → v ≡ w
@@ -42,7 +42,7 @@ same-is (lake v) (name w) e = absurd (false≢true e)
 same-is (lake v) (lake w) e = ap lake (bytes-same v w e)
 
 -- ── marks ──
-pub knows-none : (s a : List ℕ) (low high n k : ℕ) → Knows s a low high n [] (replicate k false)
+pub knows-none : (s a : List ℕ) (low high n k : ℕ) → Finds s a low high n [] (replicate k false)
 unfolding isIn
 knows-none s a low high n k x h = sym (ap (λ (b : Bool). found s a n x && b) unmarked ∙ and-false (found s a n x))
   where
@@ -56,8 +56,8 @@ knows-none s a low high n k x h = sym (ap (λ (b : Bool). found s a n x && b) un
         go true e = getD-replicate k i false false (ltb-true i k e)
         go false e = List·getD-eq-default (replicate k false) false (omega (arith, length-replicate k false, ltb-false i k e))
 
-module _ (s a : List ℕ) (low high n : ℕ) (seen : List Symbol) (marks : List Bool) (k : Knows s a low high n seen marks) where
-  pub knows-out : (y : Symbol) → within s low high y ≡ false → Knows s a low high n (y ∷ seen) marks
+module _ (s a : List ℕ) (low high n : ℕ) (seen : List Symbol) (marks : List Bool) (k : Finds s a low high n seen marks) where
+  pub knows-out : (y : Symbol) → within s low high y ≡ false → Finds s a low high n (y ∷ seen) marks
   unfolding isIn
   knows-out y f x h = go (sameSymbol x y) refl
     where
@@ -72,7 +72,7 @@ module _ (s a : List ℕ) (low high n : ℕ) (seen : List Symbol) (marks : List 
     pub knows-fine : r ≡ 0 → isIn sameSymbol y seen ≡ false
     knows-fine z = k y h ∙ ap₂ (λ (b d : Bool). b && d) (p .there (omega arith)) (p .fine z)
 
-    pub knows-in : r ≡ 0 → Knows s a low high n (y ∷ seen) marks′
+    pub knows-in : r ≡ 0 → Finds s a low high n (y ∷ seen) marks′
     unfolding isIn
     knows-in z x w = go (sameSymbol x y) refl
       where
@@ -182,7 +182,7 @@ module _ (m : Mode) (s : List ℕ) (at : ℕ) (t : Token) (e : t ≡ coded (toke
     met-other h u q seen k =
         record {
           fine = λ z x p w. sym (not-symbol m s at t e f seen (leftAt m s at) h u q);
-          more = λ z. subst (λ (l : List Symbol). Knows s a low high n l marks) (sym (no-left h (leftAt m s at) seen u q)) k;
+          more = λ z. subst (λ (l : List Symbol). Finds s a low high n l marks) (sym (no-left h (leftAt m s at) seen u q)) k;
           bad = λ z. absurd (omega (arith, z));
         }
 
@@ -207,7 +207,7 @@ module _ (m : Mode) (s : List ℕ) (at : ℕ) (t : Token) (e : t ≡ coded (toke
       met-use l r u q seen k =
           record {
             fine = λ z x p w. sym (used-here m s at t e f h seen (leftAt m s at) (reserved-is ∙ r) (left-is ∙ l) u q);
-            more = λ z. subst (λ (g : List Symbol). Knows s a low high n g marks) (sym (ap (λ (b : Bool). leftBy u b seen) (left-is ∙ l) ∙ use-left seen u)) k;
+            more = λ z. subst (λ (g : List Symbol). Finds s a low high n g marks) (sym (ap (λ (b : Bool). leftBy u b seen) (left-is ∙ l) ∙ use-left seen u)) k;
             bad = λ z. absurd (omega (arith, z));
           }
 
@@ -224,14 +224,14 @@ module _ (m : Mode) (s : List ℕ) (at : ℕ) (t : Token) (e : t ≡ coded (toke
         met-out w u q seen k =
             record {
               fine = λ z x g i. absurd (false≢true (sym out ∙ ap (within s low high) (symbol-is y x (said-y u q ∙ g)) ∙ i));
-              more = λ z. subst (λ (x : Tok). Knows s a low high n (leftBy x (leftAt m s at) seen) marks) (said-y u q) (go (leftAt m s at));
+              more = λ z. subst (λ (x : Tok). Finds s a low high n (leftBy x (leftAt m s at) seen) marks) (said-y u q) (go (leftAt m s at));
               bad = λ z. absurd (omega (arith, z));
             }
           where
             out : within s low high y ≡ false
             out = ap (within s low high) (sym (p .says)) ∙ sym w
 
-            go : (b : Bool) → Knows s a low high n (leftBy (symbol y) b seen) marks
+            go : (b : Bool) → Finds s a low high n (leftBy (symbol y) b seen) marks
             go true = knows-out s a low high n seen marks k y out
             go false = k
 
@@ -240,7 +240,7 @@ module _ (m : Mode) (s : List ℕ) (at : ℕ) (t : Token) (e : t ≡ coded (toke
         met-enter r marks′ l g w i u q seen k =
             record {
               fine = λ z x g′ j. sym (left-here m s at t e f h seen (leftAt m s at) (reserved-is ∙ g) (left-is ∙ l) u q) ∙ begun-y ∙ knows-fine s a low high n seen marks k y in-y r marks′ entered z;
-              more = λ z. subst (λ (l′ : List Symbol). Knows s a low high n l′ marks′)
+              more = λ z. subst (λ (l′ : List Symbol). Finds s a low high n l′ marks′)
                   (ap (λ (x : Tok). leftBy x true seen) (said-y u q) ∙ ap (λ (b : Bool). leftBy u b seen) (sym (left-is ∙ l))) (knows-in s a low high n seen marks k y in-y r marks′ entered z);
               bad = λ z. sym (left-here m s at t e f h seen (leftAt m s at) (reserved-is ∙ g) (left-is ∙ l) u q) ∙ begun-y ∙ knows-bad s a low high n seen marks k y in-y r marks′ entered z;
             }

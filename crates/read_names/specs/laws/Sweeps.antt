@@ -23,8 +23,8 @@ use Rattle.read_walks.specs.laws.Walks.{in-left, next-none, next-some, moves, s
 use Rattle.read_tokens.specs.laws.Here.{is-end, is-token}
 use Rattle.read_walks.specs.laws.Hits.{all-none, all-next}
 use Rattle.read_walks.specs.laws.Offences.{walked, at-token, walked-into, none-lacks, this-lacks, later-lacks}
-use Rattle.read_order.specs.steps.Order.{above, upTo, within}
-use Rattle.read_names.specs.steps.Lefts.{Knows, leftAt, Met, MetAll, UsedAll, placeBy, second4, lacks5, Clear, Struck, Swept, Whole, Answer}
+use Rattle.read_order.specs.steps.Order.{above, notAbove, within}
+use Rattle.read_names.specs.steps.Lefts.{Finds, leftAt, Met, MetAll, UsedAll, placeBy, second4, lacks5, Clear, Struck, Swept, Whole, Answer}
 use Rattle.read_order.specs.laws.Order.{above-none, above-or, up-none}
 
 -- ── all left sides ──
@@ -160,9 +160,9 @@ module _ (m : Mode) (s a : List ℕ) (low high n : ℕ) where
   -- the marks are those of the left sides that are passed
   pub record Sweeping (at : ℕ) (marks : List Bool) : Type 0 where
     pub walk : Going m s (second4 m s) names at
-    pub knows : Knows s a low high n (walkTo m s (walk .k) .seen) marks
+    pub knows : Finds s a low high n (walkTo m s (walk .k) .seen) marks
 
-  pub sweeping : (marks : List Bool) → Knows s a low high n [] marks → Sweeping 0 marks
+  pub sweeping : (marks : List Bool) → Finds s a low high n [] marks → Sweeping 0 marks
   unfolding walkTo going
   sweeping marks k = record { walk = going m s (second4 m s) names; knows = k }
 
@@ -206,7 +206,7 @@ module _ (m : Mode) (s a : List ℕ) (low high n : ℕ) where
           let w = goes m s (second4 m s) names (g .walk) t e (here .0) (here .1) (λ h i j. ap (bad4 m (walkTo m s (g .walk .k) .seen) (here .0)) left-here ∙ met .fine z h i j) in
           record {
             walk = w;
-            knows = subst (λ (l : List Symbol). Knows s a low high n l marks′)
+            knows = subst (λ (l : List Symbol). Finds s a low high n l marks′)
                 (sym (ap (λ (x : Walk). x .seen) (next-some m s (g .walk .k) (here .0) (ap (λ (i : ℕ). tokenAt m s i .is) (g .walk .place) ∙ here .1))
                 ∙ ap (λ (b : Bool). leftBy (here .0) b (walkTo m s (g .walk .k) .seen)) left-here)) (met .more z);
           }
@@ -250,7 +250,7 @@ module _ (m : Mode) (s : List ℕ) (bad : ℕ → Tok → Bool) where
         (λ (k : Struck m s bad r). inr k) (p .why)
 
     -- a symbol is up to the lower bound, or in the range
-    either : (names : Symbol → Bool) → ((x : Symbol) → names x ≡ true → upTo s high x ≡ true) → Clear m s bad names r
+    either : (names : Symbol → Bool) → ((x : Symbol) → names x ≡ true → notAbove s high x ≡ true) → Clear m s bad names r
     either names f j h l q w = go (above s low h) refl
       where
         go : (b : Bool) → above s low h ≡ b → bad j (symbol h) ≡ false

@@ -19,13 +19,15 @@ plain-requires : tie.Need-plain-requires
 plain-requires c κs = search needs
 
 returns : tie.Need-returns
-returns c = c .plain .ensures ∙ bad-is (c .before .before .before .before .args .at) ∙ token-bad (c .before .before .before .before .args .mode) (c .before .before .before .before .args .text .now) (c .before .before .before .before .args .at) _ (c .before .before .class-at .ensures) (c .before .if1 .taken)
+returns c = c .plain .ensures ∙ bad-is (c .before .before .before .before .args .at) ∙ token-bad (c .before .before .before .before .args .mode)
+    (c .before .before .before .before .args .text .now) (c .before .before .before .before .args .at) _ (c .before .before .class-at .ensures) (c .before .if1 .taken)
 
 plain-requires-2 : tie.Need-plain-requires-2
 plain-requires-2 c κs = search needs
 
 returns-2 : tie.Need-returns-2
-returns-2 c = c .plain2 .ensures ∙ token-class (c .before .before .before .before .args .mode) (c .before .before .before .before .args .text .now) (c .before .before .before .before .args .at) _ (c .before .before .class-at .ensures) (c .before .if1 .left)
+returns-2 c = c .plain2 .ensures ∙ token-class (c .before .before .before .before .args .mode) (c .before .before .before .before .args .text .now)
+    (c .before .before .before .before .args .at) _ (c .before .before .class-at .ensures) (c .before .if1 .left)
 
 pub class-token-spec : {M : Type 1} → statement M
 class-token-spec =

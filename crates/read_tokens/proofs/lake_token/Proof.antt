@@ -34,7 +34,9 @@ plain-requires-2 : tie.Need-plain-requires-2
 plain-requires-2 c κs = search needs
 
 returns-2 : tie.Need-returns-2
-returns-2 c = c .plain2 .ensures ∙ bad-is (c .before .before .before .before .before .before .args .at) ∙ lake-first (c .before .before .before .before .before .before .args .text .now) (c .before .before .before .before .before .before .args .at) (c .before .before .before .before .if1 .left) (λ x. c .before .if2 .taken (c .before .before .kind-of .ensures ∙ x))
+returns-2 c = c .plain2 .ensures ∙ bad-is (c .before .before .before .before .before .before .args .at) ∙ lake-first
+    (c .before .before .before .before .before .before .args .text .now) (c .before .before .before .before .before .before .args .at)
+    (c .before .before .before .before .if1 .left) (λ x. c .before .if2 .taken (c .before .before .kind-of .ensures ∙ x))
 
 name-end-requires : tie.Need-name-end-requires
 name-end-requires c κs = search needs
@@ -46,10 +48,18 @@ plain-requires-3 : tie.Need-plain-requires-3
 plain-requires-3 c κs = search needs
 
 returns-3 : tie.Need-returns-3
-returns-3 c = c .plain3 .ensures ∙ bad-is (c .before .before .before .before .before .before .before .before .before .args .at) ∙ lake-open (c .before .before .before .before .before .before .before .before .before .args .text .now) (c .before .before .before .before .before .before .before .before .before .args .at) (c .before .before .before .before .before .before .before .if1 .left) (sym (c .before .before .before .before .before .kind-of .ensures) ∙ c .before .before .before .before .if2 .left) _ (c .before .before .before .name-end .ensures) (λ x. c .before .if3 .taken (c .before .before .byte-at .ensures .0 ∙ x))
+returns-3 c = c .plain3 .ensures ∙ bad-is (c .before .before .before .before .before .before .before .before .before .args .at) ∙ lake-open
+    (c .before .before .before .before .before .before .before .before .before .args .text .now)
+    (c .before .before .before .before .before .before .before .before .before .args .at) (c .before .before .before .before .before .before .before .if1 .left)
+    (sym (c .before .before .before .before .before .kind-of .ensures) ∙ c .before .before .before .before .if2 .left) _ (c .before .before .before .name-end .ensures)
+    (λ x. c .before .if3 .taken (c .before .before .byte-at .ensures .0 ∙ x))
 
 add-sized : tie.Need-add-sized
-add-sized c = omega (arith, inside (c .before .before .before .before .before .before .before .before .args .text .now) (c .before .before .name-end .result) 62 (sym (c .before .byte-at .ensures .0) ∙ c .if3 .left) (omega arith))
+add-sized c = omega (
+  arith,
+  inside (c .before .before .before .before .before .before .before .before .args .text .now) (c .before .before .name-end .result) 62
+      (sym (c .before .byte-at .ensures .0) ∙ c .if3 .left) (omega arith),
+)
 
 sub-sized : tie.Need-sub-sized
 sub-sized c = search needs
@@ -58,7 +68,10 @@ sized-requires : tie.Need-sized-requires
 sized-requires c κs = search needs
 
 returns-4 : tie.Need-returns-4
-returns-4 c = c .sized .ensures ∙ lake-is (c .before .before .before .before .before .before .before .before .before .args .text .now) (c .before .before .before .before .before .before .before .before .before .args .at) (c .before .before .before .before .before .before .before .if1 .left) (sym (c .before .before .before .before .before .kind-of .ensures) ∙ c .before .before .before .before .if2 .left) _ (c .before .before .before .name-end .ensures) (sym (c .before .before .byte-at .ensures .0) ∙ c .before .if3 .left)
+returns-4 c = c .sized .ensures ∙ lake-is (c .before .before .before .before .before .before .before .before .before .args .text .now)
+    (c .before .before .before .before .before .before .before .before .before .args .at) (c .before .before .before .before .before .before .before .if1 .left)
+    (sym (c .before .before .before .before .before .kind-of .ensures) ∙ c .before .before .before .before .if2 .left) _ (c .before .before .before .name-end .ensures)
+    (sym (c .before .before .byte-at .ensures .0) ∙ c .before .if3 .left)
 
 pub lake-token-spec : {M : Type 1} → statement M
 lake-token-spec =

@@ -28,7 +28,8 @@ plain-requires : tie.Need-plain-requires
 plain-requires c κs = search needs
 
 returns : tie.Need-returns
-returns c = c .plain .ensures ∙ less-arrow (c .before .before .before .before .args .text .now) (c .before .before .before .before .args .at) (c .before .before .before .before .args .mode) (sym (c .before .before .byte-at .ensures .0) ∙ c .before .if1 .taken)
+returns c = c .plain .ensures ∙ less-arrow (c .before .before .before .before .args .text .now) (c .before .before .before .before .args .at)
+    (c .before .before .before .before .args .mode) (sym (c .before .before .byte-at .ensures .0) ∙ c .before .if1 .taken)
 
 enum-told : tie.Need-enum-told
 enum-told c = search needs
@@ -43,10 +44,17 @@ plain-requires-2 : tie.Need-plain-requires-2
 plain-requires-2 c κs = search needs
 
 returns-2 : tie.Need-returns-2
-returns-2 c = c .lake-token .ensures ∙ less-lake (c .before .before .before .before .before .before .args .text .now) (c .before .before .before .before .before .before .args .at) (λ x. c .before .before .before .if1 .left (c .before .before .before .before .byte-at .ensures .0 ∙ x)) ∙ ap (λ (m : Mode). coded (angle m (c .before .before .before .before .before .before .args .at) (drop (suc (c .before .before .before .before .before .before .args .at)) (c .before .before .before .before .before .before .args .text .now)))) (sym (c .before .enum-told .given .1))
+returns-2 c = c .lake-token .ensures ∙ less-lake (c .before .before .before .before .before .before .args .text .now) (c .before .before .before .before .before .before .args .at)
+    (λ x. c .before .before .before .if1 .left (c .before .before .before .before .byte-at .ensures .0 ∙ x)) ∙ ap
+    (λ (m : Mode). coded (angle m (c .before .before .before .before .before .before .args .at)
+    (drop (suc (c .before .before .before .before .before .before .args .at)) (c .before .before .before .before .before .before .args .text .now)))) (sym (c .before .enum-told .given .1))
 
 returns-3 : tie.Need-returns-3
-returns-3 c = c .plain2 .ensures ∙ bad-is (c .before .before .before .before .before .before .args .at) ∙ less-plain (c .before .before .before .before .before .before .args .text .now) (c .before .before .before .before .before .before .args .at) (λ x. c .before .before .before .if1 .left (c .before .before .before .before .byte-at .ensures .0 ∙ x)) ∙ ap (λ (m : Mode). coded (angle m (c .before .before .before .before .before .before .args .at) (drop (suc (c .before .before .before .before .before .before .args .at)) (c .before .before .before .before .before .before .args .text .now)))) (sym (c .before .enum-told2 .given .1))
+returns-3 c = c .plain2 .ensures ∙ bad-is (c .before .before .before .before .before .before .args .at) ∙ less-plain
+    (c .before .before .before .before .before .before .args .text .now) (c .before .before .before .before .before .before .args .at)
+    (λ x. c .before .before .before .if1 .left (c .before .before .before .before .byte-at .ensures .0 ∙ x)) ∙ ap
+    (λ (m : Mode). coded (angle m (c .before .before .before .before .before .before .args .at)
+    (drop (suc (c .before .before .before .before .before .before .args .at)) (c .before .before .before .before .before .before .args .text .now)))) (sym (c .before .enum-told2 .given .1))
 
 pub less-token-spec : {M : Type 1} → statement M
 less-token-spec =

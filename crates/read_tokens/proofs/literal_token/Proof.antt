@@ -26,13 +26,17 @@ plain-requires : tie.Need-plain-requires
 plain-requires c κs = search needs
 
 returns : tie.Need-returns
-returns c = c .plain .ensures ∙ bad-is (c .before .before .before .before .args .at) ∙ literal-none (c .before .before .before .before .args .at) _ (c .before .before .literal-at .ensures) (c .before .if1 .taken) ∙ ap (λ (o : Body). coded (literalBy (c .before .before .before .before .args .at) o)) (ap (λ (n : ℕ). from (c .before .before .before .before .args .q) single (c .before .before .before .before .args .text .now) n) (add-one (c .before .before .before .before .args .at)))
+returns c = c .plain .ensures ∙ bad-is (c .before .before .before .before .args .at) ∙ literal-none (c .before .before .before .before .args .at) _
+    (c .before .before .literal-at .ensures) (c .before .if1 .taken) ∙ ap (λ (o : Body). coded (literalBy (c .before .before .before .before .args .at) o))
+    (ap (λ (n : ℕ). from (c .before .before .before .before .args .q) single (c .before .before .before .before .args .text .now) n) (add-one (c .before .before .before .before .args .at)))
 
 sized-requires : tie.Need-sized-requires
 sized-requires c κs = search needs
 
 returns-2 : tie.Need-returns-2
-returns-2 c = c .sized .ensures ∙ literal-some (c .before .before .before .before .args .at) _ (c .before .before .literal-at .ensures) (c .before .if1 .left) ∙ ap (λ (o : Body). coded (literalBy (c .before .before .before .before .args .at) o)) (ap (λ (n : ℕ). from (c .before .before .before .before .args .q) single (c .before .before .before .before .args .text .now) n) (add-one (c .before .before .before .before .args .at)))
+returns-2 c = c .sized .ensures ∙ literal-some (c .before .before .before .before .args .at) _ (c .before .before .literal-at .ensures) (c .before .if1 .left) ∙ ap
+    (λ (o : Body). coded (literalBy (c .before .before .before .before .args .at) o))
+    (ap (λ (n : ℕ). from (c .before .before .before .before .args .q) single (c .before .before .before .before .args .text .now) n) (add-one (c .before .before .before .before .args .at)))
 
 pub literal-token-spec : {M : Type 1} → statement M
 literal-token-spec =

@@ -29,7 +29,8 @@ plain-requires : tie.Need-plain-requires
 plain-requires c κs = search needs
 
 returns : tie.Need-returns
-returns c = c .plain .ensures ∙ token-end (c .before .before .before .before .args .mode) (c .before .before .before .before .args .text .now) (c .before .before .before .before .args .at) _ (c .before .before .blanks .ensures) (c .before .if1 .taken)
+returns c = c .plain .ensures ∙ token-end (c .before .before .before .before .args .mode) (c .before .before .before .before .args .text .now)
+    (c .before .before .before .before .args .at) _ (c .before .before .blanks .ensures) (c .before .if1 .taken)
 
 shared-slice-read-b : tie.Need-shared-slice-read-b
 shared-slice-read-b c = search needs
@@ -81,46 +82,74 @@ plain-requires-8 c κs = search needs
 
 returns-2 : tie.Need-returns-2
 unfolding byKind
-returns-2 c = c .name-token .ensures ∙ ap (λ (l : List ℕ). coded (named (c .before .before .before .before .before .blanks .result) (nameSpan l))) (drop-cons (c .before .before .before .before .before .before .before .args .text .now) (c .before .before .before .before .before .blanks .result) 0 (c .before .before .before .before .if1 .left)) ∙ token-is (c .before .before .before .before .before .before .before .args .mode) (c .before .before .before .before .before .before .before .args .text .now) (c .before .before .before .before .before .before .before .args .at) _ 2 (c .before .before .before .before .before .blanks .ensures) (c .before .before .before .before .if1 .left) (sym (c .before .before .kind-of .ensures) ∙ c .before .match .keys1)
+returns-2 c = c .name-token .ensures ∙ ap (λ (l : List ℕ). coded (named (c .before .before .before .before .before .blanks .result) (nameSpan l)))
+    (drop-cons (c .before .before .before .before .before .before .before .args .text .now) (c .before .before .before .before .before .blanks .result) 0
+    (c .before .before .before .before .if1 .left)) ∙ token-is (c .before .before .before .before .before .before .before .args .mode)
+    (c .before .before .before .before .before .before .before .args .text .now) (c .before .before .before .before .before .before .before .args .at) _ 2
+    (c .before .before .before .before .before .blanks .ensures) (c .before .before .before .before .if1 .left) (sym (c .before .before .kind-of .ensures) ∙ c .before .match .keys1)
 
 returns-3 : tie.Need-returns-3
 unfolding byKind
-returns-3 c = c .plain2 .ensures ∙ one-is 13 _ ∙ token-is (c .before .before .before .before .before .before .before .args .mode) (c .before .before .before .before .before .before .before .args .text .now) (c .before .before .before .before .before .before .before .args .at) _ 5 (c .before .before .before .before .before .blanks .ensures) (c .before .before .before .before .if1 .left) (sym (c .before .before .kind-of .ensures) ∙ c .before .match .keys2)
+returns-3 c = c .plain2 .ensures ∙ one-is 13 _ ∙ token-is (c .before .before .before .before .before .before .before .args .mode)
+    (c .before .before .before .before .before .before .before .args .text .now) (c .before .before .before .before .before .before .before .args .at) _ 5
+    (c .before .before .before .before .before .blanks .ensures) (c .before .before .before .before .if1 .left) (sym (c .before .before .kind-of .ensures) ∙ c .before .match .keys2)
 
 returns-4 : tie.Need-returns-4
 unfolding byKind
-returns-4 c = c .plain3 .ensures ∙ one-is 14 _ ∙ token-is (c .before .before .before .before .before .before .before .args .mode) (c .before .before .before .before .before .before .before .args .text .now) (c .before .before .before .before .before .before .before .args .at) _ 6 (c .before .before .before .before .before .blanks .ensures) (c .before .before .before .before .if1 .left) (sym (c .before .before .kind-of .ensures) ∙ c .before .match .keys3)
+returns-4 c = c .plain3 .ensures ∙ one-is 14 _ ∙ token-is (c .before .before .before .before .before .before .before .args .mode)
+    (c .before .before .before .before .before .before .before .args .text .now) (c .before .before .before .before .before .before .before .args .at) _ 6
+    (c .before .before .before .before .before .blanks .ensures) (c .before .before .before .before .if1 .left) (sym (c .before .before .kind-of .ensures) ∙ c .before .match .keys3)
 
 returns-5 : tie.Need-returns-5
 unfolding byKind
-returns-5 c = c .plain4 .ensures ∙ one-is 12 _ ∙ token-is (c .before .before .before .before .before .before .before .args .mode) (c .before .before .before .before .before .before .before .args .text .now) (c .before .before .before .before .before .before .before .args .at) _ 7 (c .before .before .before .before .before .blanks .ensures) (c .before .before .before .before .if1 .left) (sym (c .before .before .kind-of .ensures) ∙ c .before .match .keys4)
+returns-5 c = c .plain4 .ensures ∙ one-is 12 _ ∙ token-is (c .before .before .before .before .before .before .before .args .mode)
+    (c .before .before .before .before .before .before .before .args .text .now) (c .before .before .before .before .before .before .before .args .at) _ 7
+    (c .before .before .before .before .before .blanks .ensures) (c .before .before .before .before .if1 .left) (sym (c .before .before .kind-of .ensures) ∙ c .before .match .keys4)
 
 returns-6 : tie.Need-returns-6
 unfolding byKind
-returns-6 c = c .plain5 .ensures ∙ one-is _ _ ∙ ap (λ (k : ℕ). made k (c .before .before .before .before .before .before .blanks .result) (suc (c .before .before .before .before .before .before .blanks .result)) 0) (c .before .prefix-of .ensures) ∙ token-is (c .before .before .before .before .before .before .before .before .args .mode) (c .before .before .before .before .before .before .before .before .args .text .now) (c .before .before .before .before .before .before .before .before .args .at) _ 8 (c .before .before .before .before .before .before .blanks .ensures) (c .before .before .before .before .before .if1 .left) (sym (c .before .before .before .kind-of .ensures) ∙ c .before .before .match .keys5)
+returns-6 c = c .plain5 .ensures ∙ one-is _ _ ∙ ap (λ (k : ℕ). made k (c .before .before .before .before .before .before .blanks .result)
+    (suc (c .before .before .before .before .before .before .blanks .result)) 0) (c .before .prefix-of .ensures) ∙ token-is
+    (c .before .before .before .before .before .before .before .before .args .mode) (c .before .before .before .before .before .before .before .before .args .text .now)
+    (c .before .before .before .before .before .before .before .before .args .at) _ 8 (c .before .before .before .before .before .before .blanks .ensures)
+    (c .before .before .before .before .before .if1 .left) (sym (c .before .before .before .kind-of .ensures) ∙ c .before .before .match .keys5)
 
 returns-7 : tie.Need-returns-7
 unfolding byKind
-returns-7 c = c .plain6 .ensures ∙ one-is _ _ ∙ ap (λ (k : ℕ). made k (c .before .before .before .before .before .before .blanks .result) (suc (c .before .before .before .before .before .before .blanks .result)) 0) (c .before .suffix-of .ensures) ∙ token-is (c .before .before .before .before .before .before .before .before .args .mode) (c .before .before .before .before .before .before .before .before .args .text .now) (c .before .before .before .before .before .before .before .before .args .at) _ 9 (c .before .before .before .before .before .before .blanks .ensures) (c .before .before .before .before .before .if1 .left) (sym (c .before .before .before .kind-of .ensures) ∙ c .before .before .match .keys6)
+returns-7 c = c .plain6 .ensures ∙ one-is _ _ ∙ ap (λ (k : ℕ). made k (c .before .before .before .before .before .before .blanks .result)
+    (suc (c .before .before .before .before .before .before .blanks .result)) 0) (c .before .suffix-of .ensures) ∙ token-is
+    (c .before .before .before .before .before .before .before .before .args .mode) (c .before .before .before .before .before .before .before .before .args .text .now)
+    (c .before .before .before .before .before .before .before .before .args .at) _ 9 (c .before .before .before .before .before .before .blanks .ensures)
+    (c .before .before .before .before .before .if1 .left) (sym (c .before .before .before .kind-of .ensures) ∙ c .before .before .match .keys6)
 
 returns-8 : tie.Need-returns-8
 unfolding byKind
-returns-8 c = c .plain7 .ensures ∙ one-is 3 _ ∙ token-is (c .before .before .before .before .before .before .before .args .mode) (c .before .before .before .before .before .before .before .args .text .now) (c .before .before .before .before .before .before .before .args .at) _ 10 (c .before .before .before .before .before .blanks .ensures) (c .before .before .before .before .if1 .left) (sym (c .before .before .kind-of .ensures) ∙ c .before .match .keys7)
+returns-8 c = c .plain7 .ensures ∙ one-is 3 _ ∙ token-is (c .before .before .before .before .before .before .before .args .mode)
+    (c .before .before .before .before .before .before .before .args .text .now) (c .before .before .before .before .before .before .before .args .at) _ 10
+    (c .before .before .before .before .before .blanks .ensures) (c .before .before .before .before .if1 .left) (sym (c .before .before .kind-of .ensures) ∙ c .before .match .keys7)
 
 returns-9 : tie.Need-returns-9
 unfolding byKind
-returns-9 c = c .literal-token .ensures ∙ token-is (c .before .before .before .before .before .before .before .args .mode) (c .before .before .before .before .before .before .before .args .text .now) (c .before .before .before .before .before .before .before .args .at) _ 11 (c .before .before .before .before .before .blanks .ensures) (c .before .before .before .before .if1 .left) (sym (c .before .before .kind-of .ensures) ∙ c .before .match .keys8)
+returns-9 c = c .literal-token .ensures ∙ token-is (c .before .before .before .before .before .before .before .args .mode)
+    (c .before .before .before .before .before .before .before .args .text .now) (c .before .before .before .before .before .before .before .args .at) _ 11
+    (c .before .before .before .before .before .blanks .ensures) (c .before .before .before .before .if1 .left) (sym (c .before .before .kind-of .ensures) ∙ c .before .match .keys8)
 
 returns-10 : tie.Need-returns-10
 unfolding byKind
-returns-10 c = c .class-token .ensures ∙ token-is (c .before .before .before .before .before .before .before .args .mode) (c .before .before .before .before .before .before .before .args .text .now) (c .before .before .before .before .before .before .before .args .at) _ 12 (c .before .before .before .before .before .blanks .ensures) (c .before .before .before .before .if1 .left) (sym (c .before .before .kind-of .ensures) ∙ c .before .match .keys9)
+returns-10 c = c .class-token .ensures ∙ token-is (c .before .before .before .before .before .before .before .args .mode)
+    (c .before .before .before .before .before .before .before .args .text .now) (c .before .before .before .before .before .before .before .args .at) _ 12
+    (c .before .before .before .before .before .blanks .ensures) (c .before .before .before .before .if1 .left) (sym (c .before .before .kind-of .ensures) ∙ c .before .match .keys9)
 
 returns-11 : tie.Need-returns-11
 unfolding byKind
-returns-11 c = c .less-token .ensures ∙ token-is (c .before .before .before .before .before .before .before .args .mode) (c .before .before .before .before .before .before .before .args .text .now) (c .before .before .before .before .before .before .before .args .at) _ 13 (c .before .before .before .before .before .blanks .ensures) (c .before .before .before .before .if1 .left) (sym (c .before .before .kind-of .ensures) ∙ c .before .match .keys10)
+returns-11 c = c .less-token .ensures ∙ token-is (c .before .before .before .before .before .before .before .args .mode)
+    (c .before .before .before .before .before .before .before .args .text .now) (c .before .before .before .before .before .before .before .args .at) _ 13
+    (c .before .before .before .before .before .blanks .ensures) (c .before .before .before .before .if1 .left) (sym (c .before .before .kind-of .ensures) ∙ c .before .match .keys10)
 
 returns-12 : tie.Need-returns-12
-returns-12 c = c .plain8 .ensures ∙ bad-is _ ∙ bad-kind _ _ _ _ _ (c .before .match .rest) ∙ token-is (c .before .before .before .before .before .before .before .args .mode) (c .before .before .before .before .before .before .before .args .text .now) (c .before .before .before .before .before .before .before .args .at) _ _ (c .before .before .before .before .before .blanks .ensures) (c .before .before .before .before .if1 .left) (sym (c .before .before .kind-of .ensures))
+returns-12 c = c .plain8 .ensures ∙ bad-is _ ∙ bad-kind _ _ _ _ _ (c .before .match .rest) ∙ token-is (c .before .before .before .before .before .before .before .args .mode)
+    (c .before .before .before .before .before .before .before .args .text .now) (c .before .before .before .before .before .before .before .args .at) _ _
+    (c .before .before .before .before .before .blanks .ensures) (c .before .before .before .before .if1 .left) (sym (c .before .before .kind-of .ensures))
 
 pub token-at-spec : {M : Type 1} → statement M
 token-at-spec =

@@ -14,7 +14,8 @@ token-at-requires : tie.Need-token-at-requires
 token-at-requires c κs = search needs
 
 returns : tie.Need-returns
-returns c = ap (λ (t : Token). eqb (t .kind) 11) (c .before .token-at .ensures) ∙ left-is (c .before .before .before .args .mode) (c .before .before .before .args .text .now) (c .before .before .before .args .at)
+returns c = ap (λ (t : Token). eqb (t .kind) 11) (c .before .token-at .ensures) ∙ left-is (c .before .before .before .args .mode) (c .before .before .before .args .text .now)
+    (c .before .before .before .args .at)
 
 pub is-left-spec : {M : Type 1} → statement M
 is-left-spec = tie.close (tie.spec token-at-requires returns)

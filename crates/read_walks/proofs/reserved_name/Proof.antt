@@ -19,10 +19,12 @@ enum-told-2 : tie.Need-enum-told-2
 enum-told-2 c = search needs
 
 returns : tie.Need-returns
-returns c = c .lakelike .ensures ∙ sym (ap (λ (m : Mode). reservedBy m (bytesAt (c .before .before .before .before .args .text .now) (c .before .before .before .before .args .from) (c .before .before .before .before .args .n))) (c .before .enum-told .given .1))
+returns c = c .lakelike .ensures ∙ sym (ap (λ (m : Mode). reservedBy m
+    (bytesAt (c .before .before .before .before .args .text .now) (c .before .before .before .before .args .from) (c .before .before .before .before .args .n))) (c .before .enum-told .given .1))
 
 returns-2 : tie.Need-returns-2
-returns-2 c = sym (ap (λ (m : Mode). reservedBy m (bytesAt (c .before .before .before .args .text .now) (c .before .before .before .args .from) (c .before .before .before .args .n))) (c .enum-told2 .given .1))
+returns-2 c = sym (ap (λ (m : Mode). reservedBy m (bytesAt (c .before .before .before .args .text .now) (c .before .before .before .args .from)
+    (c .before .before .before .args .n))) (c .enum-told2 .given .1))
 
 pub reserved-name-spec : {M : Type 1} → statement M
 reserved-name-spec = tie.close (tie.spec enum-told lakelike-requires enum-told-2 returns returns-2)

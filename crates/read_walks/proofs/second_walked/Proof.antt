@@ -28,22 +28,77 @@ token-at-requires : tie.Need-token-at-requires Inv-loop μ-loop
 token-at-requires c κs = search needs
 
 returns : tie.Need-returns Inv-loop μ-loop
-returns c = walked (c .before .before .before .before .before .args .mode) (c .before .before .before .before .before .args .text .now) (c .before .before .before .loop .at) (c .before .before .before .loop .inv .1) (is-end (tokenAt (c .before .before .before .before .before .args .mode) (c .before .before .before .before .before .args .text .now) (c .before .before .before .loop .at) .is) (sym (ap (λ (t : Token). t .kind) (c .before .before .token-at .ensures)) ∙ c .if1 .taken))
+returns c = walked (c .before .before .before .before .before .args .mode) (c .before .before .before .before .before .args .text .now) (c .before .before .before .loop .at)
+    (c .before .before .before .loop .inv .1) (is-end (tokenAt (c .before .before .before .before .before .args .mode) (c .before .before .before .before .before .args .text .now)
+    (c .before .before .before .loop .at) .is) (sym (ap (λ (t : Token). t .kind) (c .before .before .token-at .ensures)) ∙ c .if1 .taken))
 
 bad-name-requires : tie.Need-bad-name-requires Inv-loop μ-loop
 bad-name-requires c κs = (c .before .before .token-at .ensures, c .if1 .left, c .before .before .before .before .before .pre)
 
 add-result : tie.Need-add-result Inv-loop μ-loop
-add-result c = omega (arith, here (c .before .before .before .before .before .before .before .before .args .mode) (c .before .before .before .before .before .before .before .before .args .text .now) (c .before .before .before .before .before .before .loop .at) (c .before .before .before .before .before .token-at .result) (c .before .before .before .before .before .token-at .ensures) (c .before .before .before .if1 .left) .before-end, c .before .before .before .before .before .before .before .before .pre)
+add-result c = omega (
+  arith,
+  here (c .before .before .before .before .before .before .before .before .args .mode)
+      (c .before .before .before .before .before .before .before .before .args .text .now) (c .before .before .before .before .before .before .loop .at)
+      (c .before .before .before .before .before .token-at .result) (c .before .before .before .before .before .token-at .ensures)
+      (c .before .before .before .if1 .left) .before-end,
+  c .before .before .before .before .before .before .before .before .pre,
+)
 
 returns-2 : tie.Need-returns-2 Inv-loop μ-loop
-returns-2 c = walked-into (c .before .before .before .before .before .before .before .before .args .mode) (c .before .before .before .before .before .before .before .before .args .text .now) (c .before .before .before .before .before .before .loop .at) (c .before .before .before .before .before .token-at .result .start) (c .before .before .before .before .before .before .loop .inv .1) ((is-token (tokenAt (c .before .before .before .before .before .before .before .before .args .mode) (c .before .before .before .before .before .before .before .before .args .text .now) (c .before .before .before .before .before .before .loop .at) .is) (λ z. c .before .before .before .if1 .left (ap (λ (t : Token). t .kind) (c .before .before .before .before .before .token-at .ensures) ∙ z))) .0) ((is-token (tokenAt (c .before .before .before .before .before .before .before .before .args .mode) (c .before .before .before .before .before .before .before .before .args .text .now) (c .before .before .before .before .before .before .loop .at) .is) (λ z. c .before .before .before .if1 .left (ap (λ (t : Token). t .kind) (c .before .before .before .before .before .token-at .ensures) ∙ z))) .1) (ap (λ (t : Token). t .start) (c .before .before .before .before .before .token-at .ensures)) (sym (c .before .if2 .taken) ∙ c .before .before .bad-name .ensures (c .before .before .before .before .before .before .loop .inv .1 .0) (c .before .before .before .before .before .before .loop .inv .1 .1) ((is-token (tokenAt (c .before .before .before .before .before .before .before .before .args .mode) (c .before .before .before .before .before .before .before .before .args .text .now) (c .before .before .before .before .before .before .loop .at) .is) (λ z. c .before .before .before .if1 .left (ap (λ (t : Token). t .kind) (c .before .before .before .before .before .token-at .ensures) ∙ z))) .0) ((is-token (tokenAt (c .before .before .before .before .before .before .before .before .args .mode) (c .before .before .before .before .before .before .before .before .args .text .now) (c .before .before .before .before .before .before .loop .at) .is) (λ z. c .before .before .before .if1 .left (ap (λ (t : Token). t .kind) (c .before .before .before .before .before .token-at .ensures) ∙ z))) .1))
+returns-2 c = walked-into (c .before .before .before .before .before .before .before .before .args .mode)
+    (c .before .before .before .before .before .before .before .before .args .text .now) (c .before .before .before .before .before .before .loop .at)
+    (c .before .before .before .before .before .token-at .result .start) (c .before .before .before .before .before .before .loop .inv .1)
+    ((is-token (tokenAt (c .before .before .before .before .before .before .before .before .args .mode)
+    (c .before .before .before .before .before .before .before .before .args .text .now) (c .before .before .before .before .before .before .loop .at) .is)
+    (λ z. c .before .before .before .if1 .left (ap (λ (t : Token). t .kind) (c .before .before .before .before .before .token-at .ensures) ∙ z))) .0)
+    ((is-token (tokenAt (c .before .before .before .before .before .before .before .before .args .mode)
+    (c .before .before .before .before .before .before .before .before .args .text .now) (c .before .before .before .before .before .before .loop .at) .is)
+    (λ z. c .before .before .before .if1 .left (ap (λ (t : Token). t .kind) (c .before .before .before .before .before .token-at .ensures) ∙ z))) .1)
+    (ap (λ (t : Token). t .start) (c .before .before .before .before .before .token-at .ensures))
+    (sym (c .before .if2 .taken) ∙ c .before .before .bad-name .ensures (c .before .before .before .before .before .before .loop .inv .1 .0)
+    (c .before .before .before .before .before .before .loop .inv .1 .1)
+    ((is-token (tokenAt (c .before .before .before .before .before .before .before .before .args .mode)
+    (c .before .before .before .before .before .before .before .before .args .text .now) (c .before .before .before .before .before .before .loop .at) .is)
+    (λ z. c .before .before .before .if1 .left (ap (λ (t : Token). t .kind) (c .before .before .before .before .before .token-at .ensures) ∙ z))) .0)
+    ((is-token (tokenAt (c .before .before .before .before .before .before .before .before .args .mode)
+    (c .before .before .before .before .before .before .before .before .args .text .now) (c .before .before .before .before .before .before .loop .at) .is)
+    (λ z. c .before .before .before .if1 .left (ap (λ (t : Token). t .kind) (c .before .before .before .before .before .token-at .ensures) ∙ z))) .1))
 
 loop-less : tie.Need-loop-less Inv-loop μ-loop
-loop-less c = omega (arith, here (c .before .before .before .before .before .before .before .args .mode) (c .before .before .before .before .before .before .before .args .text .now) (c .before .before .before .before .before .loop .at) (c .before .before .before .before .token-at .result) (c .before .before .before .before .token-at .ensures) (c .before .before .if1 .left) .forth, here (c .before .before .before .before .before .before .before .args .mode) (c .before .before .before .before .before .before .before .args .text .now) (c .before .before .before .before .before .loop .at) (c .before .before .before .before .token-at .result) (c .before .before .before .before .token-at .ensures) (c .before .before .if1 .left) .within)
+loop-less c = omega (
+  arith,
+  here (c .before .before .before .before .before .before .before .args .mode)
+      (c .before .before .before .before .before .before .before .args .text .now) (c .before .before .before .before .before .loop .at)
+      (c .before .before .before .before .token-at .result) (c .before .before .before .before .token-at .ensures) (c .before .before .if1 .left) .forth,
+  here
+      (c .before .before .before .before .before .before .before .args .mode) (c .before .before .before .before .before .before .before .args .text .now)
+      (c .before .before .before .before .before .loop .at) (c .before .before .before .before .token-at .result) (c .before .before .before .before .token-at .ensures)
+      (c .before .before .if1 .left) .within,
+)
 
 loop-again : tie.Need-loop-again Inv-loop μ-loop
-loop-again c = (here (c .before .before .before .before .before .before .before .args .mode) (c .before .before .before .before .before .before .before .args .text .now) (c .before .before .before .before .before .loop .at) (c .before .before .before .before .token-at .result) (c .before .before .before .before .token-at .ensures) (c .before .before .if1 .left) .within, subst (Walking (c .before .before .before .before .before .before .before .args .mode) (c .before .before .before .before .before .before .before .args .text .now)) (sym (ap (λ (t : Token). t .next) (c .before .before .before .before .token-at .ensures))) (walks-past (c .before .before .before .before .before .before .before .args .mode) (c .before .before .before .before .before .before .before .args .text .now) (c .before .before .before .before .before .loop .at) (c .before .before .before .before .before .loop .inv .1) ((is-token (tokenAt (c .before .before .before .before .before .before .before .args .mode) (c .before .before .before .before .before .before .before .args .text .now) (c .before .before .before .before .before .loop .at) .is) (λ z. c .before .before .if1 .left (ap (λ (t : Token). t .kind) (c .before .before .before .before .token-at .ensures) ∙ z))) .0) ((is-token (tokenAt (c .before .before .before .before .before .before .before .args .mode) (c .before .before .before .before .before .before .before .args .text .now) (c .before .before .before .before .before .loop .at) .is) (λ z. c .before .before .if1 .left (ap (λ (t : Token). t .kind) (c .before .before .before .before .token-at .ensures) ∙ z))) .1) (sym (c .if2 .left) ∙ c .before .bad-name .ensures (c .before .before .before .before .before .loop .inv .1 .0) (c .before .before .before .before .before .loop .inv .1 .1) ((is-token (tokenAt (c .before .before .before .before .before .before .before .args .mode) (c .before .before .before .before .before .before .before .args .text .now) (c .before .before .before .before .before .loop .at) .is) (λ z. c .before .before .if1 .left (ap (λ (t : Token). t .kind) (c .before .before .before .before .token-at .ensures) ∙ z))) .0) ((is-token (tokenAt (c .before .before .before .before .before .before .before .args .mode) (c .before .before .before .before .before .before .before .args .text .now) (c .before .before .before .before .before .loop .at) .is) (λ z. c .before .before .if1 .left (ap (λ (t : Token). t .kind) (c .before .before .before .before .token-at .ensures) ∙ z))) .1))))
+loop-again c = (
+  here (c .before .before .before .before .before .before .before .args .mode) (c .before .before .before .before .before .before .before .args .text .now)
+      (c .before .before .before .before .before .loop .at) (c .before .before .before .before .token-at .result) (c .before .before .before .before .token-at .ensures)
+      (c .before .before .if1 .left) .within,
+  subst (Walking (c .before .before .before .before .before .before .before .args .mode)
+      (c .before .before .before .before .before .before .before .args .text .now)) (sym (ap (λ (t : Token). t .next) (c .before .before .before .before .token-at .ensures)))
+      (walks-past (c .before .before .before .before .before .before .before .args .mode) (c .before .before .before .before .before .before .before .args .text .now)
+      (c .before .before .before .before .before .loop .at) (c .before .before .before .before .before .loop .inv .1)
+      ((is-token (tokenAt (c .before .before .before .before .before .before .before .args .mode) (c .before .before .before .before .before .before .before .args .text .now)
+      (c .before .before .before .before .before .loop .at) .is)
+      (λ z. c .before .before .if1 .left (ap (λ (t : Token). t .kind) (c .before .before .before .before .token-at .ensures) ∙ z))) .0)
+      ((is-token (tokenAt (c .before .before .before .before .before .before .before .args .mode) (c .before .before .before .before .before .before .before .args .text .now)
+      (c .before .before .before .before .before .loop .at) .is)
+      (λ z. c .before .before .if1 .left (ap (λ (t : Token). t .kind) (c .before .before .before .before .token-at .ensures) ∙ z))) .1)
+      (sym (c .if2 .left) ∙ c .before .bad-name .ensures (c .before .before .before .before .before .loop .inv .1 .0) (c .before .before .before .before .before .loop .inv .1 .1)
+      ((is-token (tokenAt (c .before .before .before .before .before .before .before .args .mode) (c .before .before .before .before .before .before .before .args .text .now)
+      (c .before .before .before .before .before .loop .at) .is)
+      (λ z. c .before .before .if1 .left (ap (λ (t : Token). t .kind) (c .before .before .before .before .token-at .ensures) ∙ z))) .0)
+      ((is-token (tokenAt (c .before .before .before .before .before .before .before .args .mode) (c .before .before .before .before .before .before .before .args .text .now)
+      (c .before .before .before .before .before .loop .at) .is) (λ z. c .before .before .if1 .left (ap (λ (t : Token). t .kind) (c .before .before .before .before .token-at .ensures) ∙ z))) .1))),
+)
 
 pub second-walked-spec : {M : Type 1} → statement M
 second-walked-spec =

@@ -41,10 +41,17 @@ loop-less : tie.Need-loop-less Inv-loop μ-loop
 loop-less c = search needs
 
 loop-again : tie.Need-loop-again Inv-loop μ-loop
-loop-again c = (omega (arith, c .before .before .before .loop .inv .0), number-more (c .before .before .before .before .before .before .before .args .s .now) (c .before .before .before .loop .i) (c .before .before .before .before .before .before .before .args .to) (c .before .before .before .loop .v) (c .shifted .result) (c .before .before .loop-test .taken) (omega (arith, c .before .before .before .before .before .if1 .left)) (c .shifted .ensures .0) ∙ c .before .before .before .loop .inv .1)
+loop-again c = (
+  omega (arith, c .before .before .before .loop .inv .0),
+  number-more (c .before .before .before .before .before .before .before .args .s .now)
+      (c .before .before .before .loop .i) (c .before .before .before .before .before .before .before .args .to) (c .before .before .before .loop .v) (c .shifted .result)
+      (c .before .before .loop-test .taken) (omega (arith, c .before .before .before .before .before .if1 .left)) (c .shifted .ensures .0) ∙ c .before .before .before .loop .inv .1,
+)
 
 returns-3 : tie.Need-returns-3 Inv-loop μ-loop
-returns-3 c = decimal-is (c .before .before .before .before .before .args .s .now) (c .before .before .before .before .before .args .from) (c .before .before .before .before .before .args .to) (omega (arith, c .before .before .before .if1 .left)) (omega (arith, c .before .before .if2 .left)) (c .before .loop .i) (c .before .loop .v) (omega (arith, c .loop-test .left)) (c .before .loop .inv .1)
+returns-3 c = decimal-is (c .before .before .before .before .before .args .s .now) (c .before .before .before .before .before .args .from)
+    (c .before .before .before .before .before .args .to) (omega (arith, c .before .before .before .if1 .left)) (omega (arith, c .before .before .if2 .left)) (c .before .loop .i)
+    (c .before .loop .v) (omega (arith, c .loop-test .left)) (c .before .loop .inv .1)
 
 pub decimal-spec : {M : Type 1} → statement M
 decimal-spec =

@@ -18,7 +18,8 @@ abbrev μ-loop : tie.MeasureT-loop
 μ-loop s at word i₀ i = length word - i
 
 returns : tie.Need-returns Inv-loop μ-loop
-returns c = sym (sym (word-start (c .before .args .s .now) (c .before .args .word .now) (c .before .args .at)) ∙ word-done (c .before .args .s .now) (c .before .args .word .now) (c .before .args .at) 0 (omega (arith, c .if1 .taken)))
+returns c = sym (sym (word-start (c .before .args .s .now) (c .before .args .word .now) (c .before .args .at)) ∙ word-done (c .before .args .s .now) (c .before .args .word .now)
+    (c .before .args .at) 0 (omega (arith, c .if1 .taken)))
 
 returns-2 : tie.Need-returns-2 Inv-loop μ-loop
 returns-2 c = sym (word-short (c .before .before .args .s .now) (c .before .before .args .word .now) (c .before .before .args .at) (omega (arith, c .if2 .taken)) (omega (arith, c .if2 .taken)))
@@ -27,7 +28,8 @@ sub-if3 : tie.Need-sub-if3 Inv-loop μ-loop
 sub-if3 c = search needs
 
 returns-3 : tie.Need-returns-3 Inv-loop μ-loop
-returns-3 c = sym (word-short (c .before .before .before .args .s .now) (c .before .before .before .args .word .now) (c .before .before .before .args .at) (omega (arith, c .before .if2 .left, c .if3 .taken)) (omega (arith, c .before .before .if1 .left)))
+returns-3 c = sym (word-short (c .before .before .before .args .s .now) (c .before .before .before .args .word .now) (c .before .before .before .args .at)
+    (omega (arith, c .before .if2 .left, c .if3 .taken)) (omega (arith, c .before .before .if1 .left)))
 
 loop-holds : tie.Need-loop-holds Inv-loop μ-loop
 loop-holds c = (omega arith, word-start (c .before .before .before .args .s .now) (c .before .before .before .args .word .now) (c .before .before .before .args .at))
@@ -42,7 +44,10 @@ shared-slice-read-if4-2 : tie.Need-shared-slice-read-if4-2 Inv-loop μ-loop
 shared-slice-read-if4-2 c = search needs
 
 returns-4 : tie.Need-returns-4 Inv-loop μ-loop
-returns-4 c = sym (sym (c .before .before .before .before .loop .inv .1) ∙ word-differs (c .before .before .before .before .before .before .before .before .args .s .now) (c .before .before .before .before .before .before .before .before .args .word .now) (c .before .before .before .before .before .before .before .before .args .at) (c .before .before .before .before .loop .i) (c .before .before .before .loop-test .taken) (omega (arith, c .before .before .before .before .before .before .if2 .left, c .before .before .before .before .before .if3 .left, c .before .before .before .loop-test .taken)) (c .if4 .taken))
+returns-4 c = sym (sym (c .before .before .before .before .loop .inv .1) ∙ word-differs (c .before .before .before .before .before .before .before .before .args .s .now)
+    (c .before .before .before .before .before .before .before .before .args .word .now) (c .before .before .before .before .before .before .before .before .args .at)
+    (c .before .before .before .before .loop .i) (c .before .before .before .loop-test .taken)
+    (omega (arith, c .before .before .before .before .before .before .if2 .left, c .before .before .before .before .before .if3 .left, c .before .before .before .loop-test .taken)) (c .if4 .taken))
 
 add-i : tie.Need-add-i Inv-loop μ-loop
 add-i c = search needs
@@ -51,10 +56,18 @@ loop-less : tie.Need-loop-less Inv-loop μ-loop
 loop-less c = search needs
 
 loop-again : tie.Need-loop-again Inv-loop μ-loop
-loop-again c = (omega (arith, c .before .before .before .loop-test .taken), word-more (c .before .before .before .before .before .before .before .before .args .s .now) (c .before .before .before .before .before .before .before .before .args .word .now) (c .before .before .before .before .before .before .before .before .args .at) (c .before .before .before .before .loop .i) (c .before .before .before .loop-test .taken) (omega (arith, c .before .before .before .before .before .before .if2 .left, c .before .before .before .before .before .if3 .left, c .before .before .before .loop-test .taken)) (c .if4 .left) ∙ c .before .before .before .before .loop .inv .1)
+loop-again c = (
+  omega (arith, c .before .before .before .loop-test .taken),
+  word-more (c .before .before .before .before .before .before .before .before .args .s .now)
+      (c .before .before .before .before .before .before .before .before .args .word .now) (c .before .before .before .before .before .before .before .before .args .at)
+      (c .before .before .before .before .loop .i) (c .before .before .before .loop-test .taken)
+      (omega (arith, c .before .before .before .before .before .before .if2 .left, c .before .before .before .before .before .if3 .left, c .before .before .before .loop-test .taken))
+      (c .if4 .left) ∙ c .before .before .before .before .loop .inv .1,
+)
 
 returns-5 : tie.Need-returns-5 Inv-loop μ-loop
-returns-5 c = sym (sym (c .before .loop .inv .1) ∙ word-done (c .before .before .before .before .before .args .s .now) (c .before .before .before .before .before .args .word .now) (c .before .before .before .before .before .args .at) (c .before .loop .i) (omega (arith, c .loop-test .left)))
+returns-5 c = sym (sym (c .before .loop .inv .1) ∙ word-done (c .before .before .before .before .before .args .s .now) (c .before .before .before .before .before .args .word .now)
+    (c .before .before .before .before .before .args .at) (c .before .loop .i) (omega (arith, c .loop-test .left)))
 
 pub stands-spec : {M : Type 1} → statement M
 stands-spec =

@@ -25,7 +25,12 @@ shared-slice-read-if1 : tie.Need-shared-slice-read-if1 Inv-loop μ-loop
 shared-slice-read-if1 c = search needs
 
 returns : tie.Need-returns Inv-loop μ-loop
-returns c = omega (arith, c .before .before .before .loop .inv .1, at-space (c .before .before .before .before .args .s .now) (c .before .before .before .loop .i) (c .before .before .loop-test .taken) (c .if1 .taken))
+returns c = omega (
+  arith,
+  c .before .before .before .loop .inv .1,
+  at-space (c .before .before .before .before .args .s .now) (c .before .before .before .loop .i)
+      (c .before .before .loop-test .taken) (c .if1 .taken),
+)
 
 add-i : tie.Need-add-i Inv-loop μ-loop
 add-i c = search needs
@@ -34,7 +39,15 @@ loop-less : tie.Need-loop-less Inv-loop μ-loop
 loop-less c = search needs
 
 loop-again : tie.Need-loop-again Inv-loop μ-loop
-loop-again c = (omega (arith, c .before .before .before .loop .inv .0), omega (arith, c .before .before .before .loop .inv .1, no-space (c .before .before .before .before .args .s .now) (c .before .before .before .loop .i) (c .before .before .loop-test .taken) (c .if1 .left)))
+loop-again c = (
+  omega (arith, c .before .before .before .loop .inv .0),
+  omega (
+    arith,
+    c .before .before .before .loop .inv .1,
+    no-space (c .before .before .before .before .args .s .now) (c .before .before .before .loop .i)
+        (c .before .before .loop-test .taken) (c .if1 .left),
+  ),
+)
 
 returns-2 : tie.Need-returns-2 Inv-loop μ-loop
 returns-2 c = omega (arith, c .before .loop .inv .1, no-more (c .before .before .args .s .now) (c .before .loop .i) (omega (arith, c .loop-test .left)))

@@ -21,7 +21,13 @@ same-length : tie.Need-same-length
 same-length c = search needs
 
 returns : tie.Need-returns
-returns c = record { bytes = c .before .before .before .before .symbol .result; fits = false; paged = too-long (omega arith) (c .before .before .before .before .symbol .ensures) (c .before .if1 .taken); answer = c .not-written .ensures }
+returns c = record {
+  bytes = c .before .before .before .before .symbol .result;
+  fits = false;
+  paged = too-long (omega arith) (c .before .before .before .before .symbol .ensures)
+      (c .before .if1 .taken);
+  answer = c .not-written .ensures;
+}
 
 symbol-requires-2 : tie.Need-symbol-requires-2
 symbol-requires-2 c κs = search needs
@@ -30,7 +36,14 @@ same-length-2 : tie.Need-same-length-2
 same-length-2 c = search needs
 
 returns-2 : tie.Need-returns-2
-returns-2 c = record { bytes = c .before .before .symbol2 .result; fits = true; paged = written (omega arith) (c .before .before .before .before .before .before .before .before .symbol .ensures) _ (c .before .before .symbol2 .result) (omega (arith, c .before .before .before .before .before .if1 .left)) (c .before .before .symbol2 .ensures); answer = refl }
+returns-2 c = record {
+  bytes = c .before .before .symbol2 .result;
+  fits = true;
+  paged = written (omega arith)
+      (c .before .before .before .before .before .before .before .before .symbol .ensures) _ (c .before .before .symbol2 .result)
+      (omega (arith, c .before .before .before .before .before .if1 .left)) (c .before .before .symbol2 .ensures);
+  answer = refl;
+}
 
 pub put-name-spec : {M : Type 1} → statement M
 put-name-spec =

@@ -17,7 +17,13 @@ same-length : tie.Need-same-length
 same-length c = search needs
 
 returns : tie.Need-returns
-returns c = record { bytes = c .before .before .before .write .result .bytes; fits = c .before .before .before .write .result .fits; paged = c .before .before .before .write .ensures; answer = sym (ap (λ (f : Bool). answerBy f (c .before .before .before .write .result .bytes)) (c .if1 .taken)) }
+returns c = record {
+  bytes = c .before .before .before .write .result .bytes;
+  fits = c .before .before .before .write .result .fits;
+  paged =
+      c .before .before .before .write .ensures;
+  answer = sym (ap (λ (f : Bool). answerBy f (c .before .before .before .write .result .bytes)) (c .if1 .taken));
+}
 
 not-written-requires : tie.Need-not-written-requires
 not-written-requires c κs = search needs
@@ -26,7 +32,14 @@ same-length-2 : tie.Need-same-length-2
 same-length-2 c = search needs
 
 returns-2 : tie.Need-returns-2
-returns-2 c = record { bytes = c .before .before .before .before .write .result .bytes; fits = c .before .before .before .before .write .result .fits; paged = c .before .before .before .before .write .ensures; answer = c .not-written .ensures ∙ sym (ap (λ (f : Bool). answerBy f (c .before .before .before .before .write .result .bytes)) (c .before .if1 .left)) }
+returns-2 c = record {
+  bytes = c .before .before .before .before .write .result .bytes;
+  fits = c .before .before .before .before .write .result .fits;
+  paged =
+      c .before .before .before .before .write .ensures;
+  answer = c .not-written .ensures ∙ sym
+      (ap (λ (f : Bool). answerBy f (c .before .before .before .before .write .result .bytes)) (c .before .if1 .left));
+}
 
 pub put-text-spec : {M : Type 1} → statement M
 put-text-spec = tie.close (tie.spec write-requires same-length returns not-written-requires same-length-2 returns-2)

@@ -35,7 +35,13 @@ same-length : tie.Need-same-length
 same-length c = search needs
 
 returns : tie.Need-returns
-returns c = c .before .before .put3 .ensures ∙ ap (λ (x : List ℕ). set x (expressionsAt + expressionWords * c .before .before .before .before .before .before .before .before .before .before .before .before .before .args .e + 2) (c .before .before .before .before .before .before .before .before .before .before .before .before .before .args .r)) (c .before .before .before .before .before .before .put2 .ensures ∙ ap (λ (x : List ℕ). set x (expressionsAt + expressionWords * c .before .before .before .before .before .before .before .before .before .before .before .before .before .args .e + 1) (c .before .before .before .before .before .before .before .before .before .before .before .before .before .args .l)) (c .before .before .before .before .before .before .before .before .before .before .put .ensures))
+returns c = c .before .before .put3 .ensures ∙ ap (λ (x : List ℕ). set x
+    (expressionsAt + expressionWords * c .before .before .before .before .before .before .before .before .before .before .before .before .before .args .e + 2)
+    (c .before .before .before .before .before .before .before .before .before .before .before .before .before .args .r))
+    (c .before .before .before .before .before .before .put2 .ensures ∙ ap
+    (λ (x : List ℕ). set x (expressionsAt + expressionWords * c .before .before .before .before .before .before .before .before .before .before .before .before .before .args .e +
+    1) (c .before .before .before .before .before .before .before .before .before .before .before .before .before .args .l))
+    (c .before .before .before .before .before .before .before .before .before .before .put .ensures))
 
 pub store-expression-spec : {M : Type 1} → statement M
 store-expression-spec =

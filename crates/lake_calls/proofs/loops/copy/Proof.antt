@@ -35,7 +35,13 @@ loop-less : tie.Need-loop-less Inv-loop μ-loop
 loop-less c = search needs
 
 loop-again : tie.Need-loop-again Inv-loop μ-loop
-loop-again c = (simp length-set (omega arith), simp length-set (c .before .before .loop .inv .1), fill-more false (λ j. getD (c .before .before .before .args .from .now) j false) (c .before .before .loop .to) (c .before .before .loop .i) (getD (c .before .before .before .args .from .now) (c .before .before .loop .i) false) (c .before .before .loop .inv .2) (omega arith) refl)
+loop-again c = (
+  simp length-set (omega arith),
+  simp length-set (c .before .before .loop .inv .1),
+  fill-more false (λ j. getD (c .before .before .before .args .from .now) j false)
+      (c .before .before .loop .to) (c .before .before .loop .i) (getD (c .before .before .before .args .from .now) (c .before .before .loop .i) false)
+      (c .before .before .loop .inv .2) (omega arith) refl,
+)
 
 same-length : tie.Need-same-length Inv-loop μ-loop
 same-length c = search needs

@@ -26,7 +26,9 @@ unmark-requires : tie.Need-unmark-requires Inv-loop μ-loop
 unmark-requires c κs = search needs
 
 loop-holds : tie.Need-loop-holds Inv-loop μ-loop
-loop-holds c = let q : length (c .before .before .unmark .last .0) ≡ length (c .before .before .before .before .before .before .before .args .marks .now) = (ap length (c .before .before .unmark .ensures) ∙ length-replicate {A = Bool} (length (c .before .before .before .before .before .before .before .args .marks .now)) false) in (omega arith, refl, omega arith, λ number r x h s. c .before .before .unmark .ensures ∙ ap (λ (n : ℕ). replicate n false) (sym q))
+loop-holds c = let q : length (c .before .before .unmark .last .0) ≡ length (c .before .before .before .before .before .before .before .args .marks .now) =
+    (ap length (c .before .before .unmark .ensures) ∙ length-replicate {A = Bool} (length (c .before .before .before .before .before .before .before .args .marks .now)) false) in
+    (omega arith, refl, omega arith, λ number r x h s. c .before .before .unmark .ensures ∙ ap (λ (n : ℕ). replicate n false) (sym q))
 
 mark-round-requires : tie.Need-mark-round-requires Inv-loop μ-loop
 mark-round-requires c κs = search needs
@@ -41,16 +43,42 @@ loop-less : tie.Need-loop-less Inv-loop μ-loop
 loop-less c = search needs
 
 loop-again : tie.Need-loop-again Inv-loop μ-loop
-loop-again c = (omega arith, omega arith, omega arith, round-more (c .before .before .before .before .before .before .before .before .before .before .before .before .before .before .before .before .before .before .before .args .t .now) (length (c .before .before .before .before .before .before .before .before .before .before .before .before .before .before .unmark .last .0)) (length (c .before .before .before .before .before .before .before .before .before .before .before .loop .next)) (c .before .before .before .before .before .before .before .before .before .before .before .loop .k) (c .before .before .before .before .before .before .before .before .before .before .before .loop .marks) _ _ (c .before .before .before .before .before .before .before .before .before .before .before .loop .inv .2) (c .before .before .before .before .before .before .before .mark-round .ensures) (c .before .before .copy .ensures) (c .before .before .before .before .before .before .before .before .before .before .before .loop .inv .3))
+loop-again c = (
+  omega arith,
+  omega arith,
+  omega arith,
+  round-more
+      (c .before .before .before .before .before .before .before .before .before .before .before .before .before .before .before .before .before .before .before .args .t .now)
+      (length (c .before .before .before .before .before .before .before .before .before .before .before .before .before .before .unmark .last .0))
+      (length (c .before .before .before .before .before .before .before .before .before .before .before .loop .next))
+      (c .before .before .before .before .before .before .before .before .before .before .before .loop .k)
+      (c .before .before .before .before .before .before .before .before .before .before .before .loop .marks) _ _
+      (c .before .before .before .before .before .before .before .before .before .before .before .loop .inv .2)
+      (c .before .before .before .before .before .before .before .mark-round .ensures) (c .before .before .copy .ensures)
+      (c .before .before .before .before .before .before .before .before .before .before .before .loop .inv .3),
+)
 
 same-length : tie.Need-same-length Inv-loop μ-loop
-same-length c = c .before .loop .inv .1 ∙ (ap length (c .before .before .before .before .unmark .ensures) ∙ length-replicate {A = Bool} (length (c .before .before .before .before .before .before .before .before .before .args .marks .now)) false)
+same-length c = c .before .loop .inv .1 ∙ (ap length (c .before .before .before .before .unmark .ensures) ∙ length-replicate {A = Bool}
+    (length (c .before .before .before .before .before .before .before .before .before .args .marks .now)) false)
 
 same-length-2 : tie.Need-same-length-2 Inv-loop μ-loop
-same-length-2 c = let q : length (c .before .before .before .before .unmark .last .0) ≡ length (c .before .before .before .before .before .before .before .before .before .args .marks .now) = (ap length (c .before .before .before .before .unmark .ensures) ∙ length-replicate {A = Bool} (length (c .before .before .before .before .before .before .before .before .before .args .marks .now)) false) in omega arith
+same-length-2 c = let q : length (c .before .before .before .before .unmark .last .0) ≡ length
+    (c .before .before .before .before .before .before .before .before .before .args .marks .now) =
+    (ap length (c .before .before .before .before .unmark .ensures) ∙ length-replicate {A = Bool}
+    (length (c .before .before .before .before .before .before .before .before .before .args .marks .now)) false) in omega arith
 
 returns : tie.Need-returns Inv-loop μ-loop
-returns c = let q : length (c .before .before .before .before .unmark .last .0) ≡ length (c .before .before .before .before .before .before .before .before .before .args .marks .now) = (ap length (c .before .before .before .before .unmark .ensures) ∙ length-replicate {A = Bool} (length (c .before .before .before .before .before .before .before .before .before .args .marks .now)) false) in let e : (c .before .loop .k) ≡ length (c .before .before .before .before .unmark .last .0) = omega arith in record { are = subst (λ (n : ℕ). After (c .before .before .before .before .before .before .before .before .before .args .t .now) n n (c .before .loop .marks)) q (subst (λ (k : ℕ). After (c .before .before .before .before .before .before .before .before .before .args .t .now) (length (c .before .before .before .before .unmark .last .0)) k (c .before .loop .marks)) e (c .before .loop .inv .3)) }
+returns c = let q : length (c .before .before .before .before .unmark .last .0) ≡ length
+    (c .before .before .before .before .before .before .before .before .before .args .marks .now) =
+    (ap length (c .before .before .before .before .unmark .ensures) ∙ length-replicate {A = Bool}
+    (length (c .before .before .before .before .before .before .before .before .before .args .marks .now)) false) in let e : (c .before .loop .k) ≡ length
+    (c .before .before .before .before .unmark .last .0) = omega arith in record {
+      are = subst
+          (λ (n : ℕ). After (c .before .before .before .before .before .before .before .before .before .args .t .now) n n (c .before .loop .marks)) q
+          (subst (λ (k : ℕ). After (c .before .before .before .before .before .before .before .before .before .args .t .now)
+          (length (c .before .before .before .before .unmark .last .0)) k (c .before .loop .marks)) e (c .before .loop .inv .3));
+    }
 
 pub mark-all-spec : {M : Type 1} → statement M
 mark-all-spec =

@@ -17,28 +17,68 @@ slice-relend-prefix-order-in : tie.Need-slice-relend-prefix-order-in
 slice-relend-prefix-order-in c = search needs
 
 slice-aggregate-order-in : tie.Need-slice-aggregate-order-in
-slice-aggregate-order-in c = sym (length-take-le (c .before .before .before .before .before .before .before .args .n) (c .before .before .before .before .before .before .before .args .marks .now) (c .before .before .before .before .before .before .before .pre .1))
+slice-aggregate-order-in c = sym (length-take-le (c .before .before .before .before .before .before .before .args .n)
+    (c .before .before .before .before .before .before .before .args .marks .now) (c .before .before .before .before .before .before .before .pre .1))
 
 slice-relend-prefix-order-in-2 : tie.Need-slice-relend-prefix-order-in-2
 slice-relend-prefix-order-in-2 c = search needs
 
 slice-aggregate-order-in-2 : tie.Need-slice-aggregate-order-in-2
-slice-aggregate-order-in-2 c = sym (length-take-le (c .before .before .before .before .before .before .before .before .args .n) (c .before .before .before .before .before .before .before .before .args .next .now) (c .before .before .before .before .before .before .before .before .pre .2))
+slice-aggregate-order-in-2 c = sym (length-take-le (c .before .before .before .before .before .before .before .before .args .n)
+    (c .before .before .before .before .before .before .before .before .args .next .now) (c .before .before .before .before .before .before .before .before .pre .2))
 
 slice-relend-prefix-order-in-3 : tie.Need-slice-relend-prefix-order-in-3
 slice-relend-prefix-order-in-3 c = search needs
 
 slice-aggregate-order-in-3 : tie.Need-slice-aggregate-order-in-3
-slice-aggregate-order-in-3 c = sym (length-take-le (c .before .before .before .before .before .before .before .before .before .args .n) (c .before .before .before .before .before .before .before .before .before .args .calls .now) (c .before .before .before .before .before .before .before .before .before .pre .3))
+slice-aggregate-order-in-3 c = sym (length-take-le (c .before .before .before .before .before .before .before .before .before .args .n)
+    (c .before .before .before .before .before .before .before .before .before .args .calls .now) (c .before .before .before .before .before .before .before .before .before .pre .3))
 
 slice-relend-prefix-order-in-4 : tie.Need-slice-relend-prefix-order-in-4
 slice-relend-prefix-order-in-4 c = search needs
 
 slice-aggregate-order-in-4 : tie.Need-slice-aggregate-order-in-4
-slice-aggregate-order-in-4 c = sym (length-take-le (c .before .before .before .before .before .before .before .before .before .before .args .n) (c .before .before .before .before .before .before .before .before .before .before .args .ranks .now) (c .before .before .before .before .before .before .before .before .before .before .pre .4))
+slice-aggregate-order-in-4 c = sym (length-take-le (c .before .before .before .before .before .before .before .before .before .before .args .n)
+    (c .before .before .before .before .before .before .before .before .before .before .args .ranks .now) (c .before .before .before .before .before .before .before .before .before .before .pre .4))
 
 order-in-requires : tie.Need-order-in-requires
-order-in-requires c κs = (omega (arith, length-take-le (c .before .before .before .before .before .before .before .before .before .before .before .args .n) (c .before .before .before .before .before .before .before .before .before .before .before .args .calls .now) (c .before .before .before .before .before .before .before .before .before .before .before .pre .3), c .before .before .before .before .before .before .before .before .before .before .before .pre .0), length-take-le (c .before .before .before .before .before .before .before .before .before .before .before .args .n) (c .before .before .before .before .before .before .before .before .before .before .before .args .marks .now) (c .before .before .before .before .before .before .before .before .before .before .before .pre .1) ∙ sym (length-take-le (c .before .before .before .before .before .before .before .before .before .before .before .args .n) (c .before .before .before .before .before .before .before .before .before .before .before .args .calls .now) (c .before .before .before .before .before .before .before .before .before .before .before .pre .3)), length-take-le (c .before .before .before .before .before .before .before .before .before .before .before .args .n) (c .before .before .before .before .before .before .before .before .before .before .before .args .next .now) (c .before .before .before .before .before .before .before .before .before .before .before .pre .2) ∙ sym (length-take-le (c .before .before .before .before .before .before .before .before .before .before .before .args .n) (c .before .before .before .before .before .before .before .before .before .before .before .args .calls .now) (c .before .before .before .before .before .before .before .before .before .before .before .pre .3)), length-take-le (c .before .before .before .before .before .before .before .before .before .before .before .args .n) (c .before .before .before .before .before .before .before .before .before .before .before .args .ranks .now) (c .before .before .before .before .before .before .before .before .before .before .before .pre .4) ∙ sym (length-take-le (c .before .before .before .before .before .before .before .before .before .before .before .args .n) (c .before .before .before .before .before .before .before .before .before .before .before .args .calls .now) (c .before .before .before .before .before .before .before .before .before .before .before .pre .3)), omega (arith, length-take-le (c .before .before .before .before .before .before .before .before .before .before .before .args .n) (c .before .before .before .before .before .before .before .before .before .before .before .args .calls .now) (c .before .before .before .before .before .before .before .before .before .before .before .pre .3), c .before .before .before .before .before .before .before .before .before .before .before .pre .5))
+order-in-requires c κs = (
+  omega (
+    arith,
+    length-take-le (c .before .before .before .before .before .before .before .before .before .before .before .args .n)
+        (c .before .before .before .before .before .before .before .before .before .before .before .args .calls .now)
+        (c .before .before .before .before .before .before .before .before .before .before .before .pre .3),
+    c .before .before .before .before .before .before .before .before .before .before .before .pre .0,
+  ),
+  length-take-le
+      (c .before .before .before .before .before .before .before .before .before .before .before .args .n)
+      (c .before .before .before .before .before .before .before .before .before .before .before .args .marks .now)
+      (c .before .before .before .before .before .before .before .before .before .before .before .pre .1) ∙ sym
+      (length-take-le (c .before .before .before .before .before .before .before .before .before .before .before .args .n)
+      (c .before .before .before .before .before .before .before .before .before .before .before .args .calls .now)
+      (c .before .before .before .before .before .before .before .before .before .before .before .pre .3)),
+  length-take-le
+      (c .before .before .before .before .before .before .before .before .before .before .before .args .n)
+      (c .before .before .before .before .before .before .before .before .before .before .before .args .next .now)
+      (c .before .before .before .before .before .before .before .before .before .before .before .pre .2) ∙ sym
+      (length-take-le (c .before .before .before .before .before .before .before .before .before .before .before .args .n)
+      (c .before .before .before .before .before .before .before .before .before .before .before .args .calls .now)
+      (c .before .before .before .before .before .before .before .before .before .before .before .pre .3)),
+  length-take-le
+      (c .before .before .before .before .before .before .before .before .before .before .before .args .n)
+      (c .before .before .before .before .before .before .before .before .before .before .before .args .ranks .now)
+      (c .before .before .before .before .before .before .before .before .before .before .before .pre .4) ∙ sym
+      (length-take-le (c .before .before .before .before .before .before .before .before .before .before .before .args .n)
+      (c .before .before .before .before .before .before .before .before .before .before .before .args .calls .now)
+      (c .before .before .before .before .before .before .before .before .before .before .before .pre .3)),
+  omega (
+    arith,
+    length-take-le (c .before .before .before .before .before .before .before .before .before .before .before .args .n)
+        (c .before .before .before .before .before .before .before .before .before .before .before .args .calls .now)
+        (c .before .before .before .before .before .before .before .before .before .before .before .pre .3),
+    c .before .before .before .before .before .before .before .before .before .before .before .pre .5,
+  ),
+)
 
 same-length : tie.Need-same-length
 same-length c = search needs

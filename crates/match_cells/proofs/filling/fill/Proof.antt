@@ -37,7 +37,20 @@ slice-aggregate-rows-in : tie.Need-slice-aggregate-rows-in
 slice-aggregate-rows-in c = search needs
 
 rows-in-requires : tie.Need-rows-in-requires
-rows-in-requires c κs = ((c .before .before .before .before .before .before .before .before .before .before .before .before .before .before .symbols .ensures .0, omega (arith, c .before .before .before .before .before .before .before .before .before .before .before .before .before .before .symbols .ensures .0, c .before .before .before .before .before .before .before .before .before .before .before .before .before .before .before .before .before .before .before .pre .0 .0), c .before .before .before .before .before .before .before .before .order-front .ensures .entries (zeros 64), c .before .before .before .before .before .before .before .before .before .before .before .before .before .before .before .before .before .before .before .pre .0 .1), c .before .before .before .before .before .before .before .before .before .before .before .before .before .before .before .before .before .before .before .pre .1)
+rows-in-requires c κs = (
+  (
+    c .before .before .before .before .before .before .before .before .before .before .before .before .before .before .symbols .ensures .0,
+    omega (
+      arith,
+      c .before .before .before .before .before .before .before .before .before .before .before .before .before .before .symbols .ensures .0,
+      c .before .before .before .before .before .before .before .before .before .before .before .before .before .before .before .before .before .before .before .pre .0 .0,
+    ),
+    c .before .before .before .before .before .before .before .before .order-front .ensures .entries
+        (zeros 64),
+    c .before .before .before .before .before .before .before .before .before .before .before .before .before .before .before .before .before .before .before .pre .0 .1,
+  ),
+  c .before .before .before .before .before .before .before .before .before .before .before .before .before .before .before .before .before .before .before .pre .1,
+)
 
 same-length : tie.Need-same-length
 same-length c = search needs

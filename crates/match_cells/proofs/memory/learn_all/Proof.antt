@@ -31,7 +31,10 @@ word-requires-2 : tie.Need-word-requires-2 Inv-loop μ-loop
 word-requires-2 c κs = search needs
 
 learn-requires : tie.Need-learn-requires Inv-loop μ-loop
-learn-requires c κs = (omega (arith, c .before .before .before .before .before .before .before .before .before .before .before .pre .0, c .before .word2 .ensures .1), c .before .before .before .before .loop .inv .1)
+learn-requires c κs = (
+  omega (arith, c .before .before .before .before .before .before .before .before .before .before .before .pre .0, c .before .word2 .ensures .1),
+  c .before .before .before .before .loop .inv .1,
+)
 
 add-k : tie.Need-add-k Inv-loop μ-loop
 add-k c = omega (arith, c .before .before .before .before .before .before .loop-test .taken, c .before .before .before .before .before .before .before .before .word .ensures .1)
@@ -40,7 +43,12 @@ loop-less : tie.Need-loop-less Inv-loop μ-loop
 loop-less c = omega (arith, c .before .before .before .before .before .before .loop-test .taken)
 
 loop-again : tie.Need-loop-again Inv-loop μ-loop
-loop-again c = (c .before .before .learn .kept .1 .1 .1 .0 ∙ c .before .before .before .before .before .before .before .loop .inv .0, c .before .before .learn .ensures .0, λ j l. c .before .before .learn .ensures .1 j l ∙ c .before .before .before .before .before .before .before .loop .inv .2 j l)
+loop-again c = (
+  c .before .before .learn .kept .1 .1 .1 .0 ∙ c .before .before .before .before .before .before .before .loop .inv .0,
+  c .before .before .learn .ensures .0,
+  λ j l.
+      c .before .before .learn .ensures .1 j l ∙ c .before .before .before .before .before .before .before .loop .inv .2 j l,
+)
 
 same-length : tie.Need-same-length Inv-loop μ-loop
 same-length c = c .before .loop .inv .0

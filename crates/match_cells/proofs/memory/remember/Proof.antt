@@ -45,13 +45,25 @@ same-length : tie.Need-same-length
 same-length c = search needs
 
 returns : tie.Need-returns
-returns c = subst (λ (v : List ℕ). Noted (c .before .before .before .before .before .before .before .before .before .before .before .before .args .k) (c .before .before .before .before .before .before .before .before .before .before .before .before .args .p) (c .before .before .before .before .before .before .before .before .before .before .before .before .args .c) (c .before .before .before .before .before .before .before .before .before .before .before .before .args .mem .now) v) (sym (c .before .before .put2 .ensures ∙ ap (λ (v : List ℕ). set v (18709 + 2 * c .before .before .before .before .before .before .before .before .before .slot .result + 1) (c .before .before .before .before .before .before .before .before .before .before .before .before .args .c)) (c .before .before .before .before .before .before .put .ensures))) (noted (c .before .before .before .before .before .before .before .before .before .before .before .before .args .mem .now) (c .before .before .before .before .before .before .before .before .before .slot .result) (c .before .before .before .before .before .before .before .before .before .before .before .before .args .k) (c .before .before .before .before .before .before .before .before .before .before .before .before .args .p) (c .before .before .before .before .before .before .before .before .before .before .before .before .args .c) (c .before .before .before .before .before .before .before .before .if1 .taken))
+returns c = subst (λ (v : List ℕ). Noted (c .before .before .before .before .before .before .before .before .before .before .before .before .args .k)
+    (c .before .before .before .before .before .before .before .before .before .before .before .before .args .p)
+    (c .before .before .before .before .before .before .before .before .before .before .before .before .args .c)
+    (c .before .before .before .before .before .before .before .before .before .before .before .before .args .mem .now) v)
+    (sym (c .before .before .put2 .ensures ∙ ap (λ (v : List ℕ). set v (18709 + 2 * c .before .before .before .before .before .before .before .before .before .slot .result + 1)
+    (c .before .before .before .before .before .before .before .before .before .before .before .before .args .c))
+    (c .before .before .before .before .before .before .put .ensures)))
+    (noted (c .before .before .before .before .before .before .before .before .before .before .before .before .args .mem .now)
+    (c .before .before .before .before .before .before .before .before .before .slot .result)
+    (c .before .before .before .before .before .before .before .before .before .before .before .before .args .k)
+    (c .before .before .before .before .before .before .before .before .before .before .before .before .args .p)
+    (c .before .before .before .before .before .before .before .before .before .before .before .before .args .c) (c .before .before .before .before .before .before .before .before .if1 .taken))
 
 same-length-2 : tie.Need-same-length-2
 same-length-2 c = search needs
 
 returns-2 : tie.Need-returns-2
-returns-2 c = noted-none (c .before .before .before .before .args .k) (c .before .before .before .before .args .p) (c .before .before .before .before .args .c) (c .before .before .before .before .args .mem .now)
+returns-2 c = noted-none (c .before .before .before .before .args .k) (c .before .before .before .before .args .p) (c .before .before .before .before .args .c)
+    (c .before .before .before .before .args .mem .now)
 
 pub remember-spec : {M : Type 1} → statement M
 remember-spec =

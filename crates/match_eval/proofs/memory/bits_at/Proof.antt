@@ -18,7 +18,8 @@ shr-result : tie.Need-shr-result
 shr-result c = search needs
 
 returns : tie.Need-returns
-returns c = and-mask (c .word .result / 2 ^ (c .before .before .args .k)) 2 ∙ two-bits (c .word .result) (c .before .before .args .k) ∙ ap (λ (u : ℕ). bit u (c .before .before .args .k) + 2 * bit u (c .before .before .args .k + 1)) (c .word .ensures .0)
+returns c = and-mask (c .word .result / 2 ^ (c .before .before .args .k)) 2 ∙ two-bits (c .word .result) (c .before .before .args .k) ∙ ap
+    (λ (u : ℕ). bit u (c .before .before .args .k) + 2 * bit u (c .before .before .args .k + 1)) (c .word .ensures .0)
 
 pub bits-at-spec : {M : Type 1} → statement M
 bits-at-spec = tie.close (tie.spec word-requires shr-result returns)

@@ -45,7 +45,15 @@ word-requires-2 : tie.Need-word-requires-2
 word-requires-2 c κs = search needs
 
 returns-3 : tie.Need-returns-3
-returns-3 c = λ l. let a : (c .before .before .word .result) ≡ c .before .before .before .before .before .key .result * 65536 + c .before .before .before .before .before .before .before .args .q = omega (arith, c .before .if2 .left) in (c .before .before .before .before .before .key .result, c .before .before .before .slot .result, c .before .before .before .before .before .key .ensures .0 (omega (arith, c .before .before .before .before .if1 .left)), sym (c .before .before .word .ensures .0) ∙ a, sym (c .word2 .ensures .0))
+returns-3 c = λ l. let a : (c .before .before .word .result) ≡ c .before .before .before .before .before .key .result * 65536 +
+    c .before .before .before .before .before .before .before .args .q = omega (arith, c .before .if2 .left) in (
+      c .before .before .before .before .before .key .result,
+      c .before .before .before .slot .result,
+      c .before .before .before .before .before .key .ensures .0
+          (omega (arith, c .before .before .before .before .if1 .left)),
+      sym (c .before .before .word .ensures .0) ∙ a,
+      sym (c .word2 .ensures .0),
+    )
 
 pub known-spec : {M : Type 1} → statement M
 known-spec =

@@ -45,10 +45,14 @@ same-length : tie.Need-same-length
 same-length c = search needs
 
 returns : tie.Need-returns
-returns c = ap (λ (u : ℕ). set (c .before .before .before .args .mem .now) (c .before .before .before .args .i) (bitOr (getD (c .before .before .before .args .mem .now) (c .before .before .before .args .i) 0) u)) (one-bit (c .before .before .before .args .d) (c .before .before .before .args .k) (c .before .before .before .pre .0) (omega (arith, c .before .before .if1 .taken, c .before .before .before .pre .1)))
+returns c = ap (λ (u : ℕ). set (c .before .before .before .args .mem .now) (c .before .before .before .args .i)
+    (bitOr (getD (c .before .before .before .args .mem .now) (c .before .before .before .args .i) 0) u))
+    (one-bit (c .before .before .before .args .d) (c .before .before .before .args .k) (c .before .before .before .pre .0)
+    (omega (arith, c .before .before .if1 .taken, c .before .before .before .pre .1)))
 
 returns-2 : tie.Need-returns-2
-returns-2 c = sym (set-out (c .before .before .args .mem .now) (c .before .before .args .i) (bitOr (getD (c .before .before .args .mem .now) (c .before .before .args .i) 0) (c .before .before .args .d * 2 ^ (c .before .before .args .k))) (c .if2 .left))
+returns-2 c = sym (set-out (c .before .before .args .mem .now) (c .before .before .args .i)
+    (bitOr (getD (c .before .before .args .mem .now) (c .before .before .args .i) 0) (c .before .before .args .d * 2 ^ (c .before .before .args .k))) (c .if2 .left))
 
 returns-3 : tie.Need-returns-3
 returns-3 c = sym (no-bit (c .before .args .mem .now) (c .before .args .i) (c .before .args .d) (c .before .args .k) (omega (arith, c .if1 .left)))

@@ -31,7 +31,8 @@ bits-at-requires : tie.Need-bits-at-requires
 bits-at-requires c κs = search needs
 
 returns-3 : tie.Need-returns-3
-returns-3 c = c .bits-at .ensures ∙ said-is (c .before .before .before .before .args .mem .now) (c .before .before .before .before .args .b) (c .before .before .before .before .args .x) (omega (arith, c .before .before .if1 .left)) (omega (arith, c .before .if2 .left))
+returns-3 c = c .bits-at .ensures ∙ said-is (c .before .before .before .before .args .mem .now) (c .before .before .before .before .args .b)
+    (c .before .before .before .before .args .x) (omega (arith, c .before .before .if1 .left)) (omega (arith, c .before .if2 .left))
 
 pub said-spec : {M : Type 1} → statement M
 said-spec =

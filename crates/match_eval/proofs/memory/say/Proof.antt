@@ -44,13 +44,23 @@ same-length : tie.Need-same-length
 same-length c = search needs
 
 returns : tie.Need-returns
-returns c = spoken (c .before .before .before .before .before .before .before .before .before .before .before .before .args .mem .now) _ _ (c .before .before .before .before .before .before .before .before .before .before .before .before .args .b) (c .before .before .before .before .before .before .before .before .before .before .before .before .args .x) (c .before .before .before .before .before .before .before .before .before .before .before .before .args .v) (c .before .before .before .before .before .before .before .before .before .before .before .before .pre .1) (c .before .before .before .before .before .before .before .before .before .before .before .before .pre .0) (c .before .before .before .before .before .before .before .before .before .before .before .before .pre .2) (c .before .before .before .before .before .before .before .before .before .before .before .before .pre .3) (sym (c .before .before .before .before .before .before .before .before .before .said .ensures) ∙ c .before .before .before .before .before .before .before .before .if1 .taken) (c .before .before .before .before .before .before .mark .ensures) (c .before .before .mark2 .ensures)
+returns c = spoken (c .before .before .before .before .before .before .before .before .before .before .before .before .args .mem .now) _ _
+    (c .before .before .before .before .before .before .before .before .before .before .before .before .args .b)
+    (c .before .before .before .before .before .before .before .before .before .before .before .before .args .x)
+    (c .before .before .before .before .before .before .before .before .before .before .before .before .args .v)
+    (c .before .before .before .before .before .before .before .before .before .before .before .before .pre .1)
+    (c .before .before .before .before .before .before .before .before .before .before .before .before .pre .0)
+    (c .before .before .before .before .before .before .before .before .before .before .before .before .pre .2)
+    (c .before .before .before .before .before .before .before .before .before .before .before .before .pre .3)
+    (sym (c .before .before .before .before .before .before .before .before .before .said .ensures) ∙ c .before .before .before .before .before .before .before .before .if1 .taken)
+    (c .before .before .before .before .before .before .mark .ensures) (c .before .before .mark2 .ensures)
 
 same-length-2 : tie.Need-same-length-2
 same-length-2 c = search needs
 
 returns-2 : tie.Need-returns-2
-returns-2 c = spoken-none (c .before .before .before .before .args .b) (c .before .before .before .before .args .x) (c .before .before .before .before .args .v) (c .before .before .before .before .args .mem .now)
+returns-2 c = spoken-none (c .before .before .before .before .args .b) (c .before .before .before .before .args .x) (c .before .before .before .before .args .v)
+    (c .before .before .before .before .args .mem .now)
 
 pub say-spec : {M : Type 1} → statement M
 say-spec =

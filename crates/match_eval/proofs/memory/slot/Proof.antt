@@ -20,16 +20,25 @@ returns-2 : tie.Need-returns-2
 returns-2 c = search needs
 
 mul-result : tie.Need-mul-result
-mul-result c = let h : (c .before .before .before .before .args .k) * c .before .before .word .result ≤ 1025 * 4096 = mul-le-mul {n₂ = 1025} {m₂ = 4096} (c .before .before .before .before .pre) (omega (arith, c .if2 .left)) in let l : bitAnd (c .before .before .before .before .args .q) (c .before .before .word .result - 1) ≤ c .before .before .word .result - 1 = and-le-r (c .before .before .before .before .args .q) (c .before .before .word .result - 1) in omega (arith, h, l, c .if2 .left)
+mul-result c = let h : (c .before .before .before .before .args .k) * c .before .before .word .result ≤ 1025 * 4096 = mul-le-mul {n₂ = 1025} {m₂ = 4096}
+    (c .before .before .before .before .pre) (omega (arith, c .if2 .left)) in let l : bitAnd (c .before .before .before .before .args .q)
+    (c .before .before .word .result - 1) ≤ c .before .before .word .result - 1 = and-le-r (c .before .before .before .before .args .q)
+    (c .before .before .word .result - 1) in omega (arith, h, l, c .if2 .left)
 
 sub-result : tie.Need-sub-result
 sub-result c = search needs
 
 add-result : tie.Need-add-result
-add-result c = let h : (c .before .before .before .before .args .k) * c .before .before .word .result ≤ 1025 * 4096 = mul-le-mul {n₂ = 1025} {m₂ = 4096} (c .before .before .before .before .pre) (omega (arith, c .if2 .left)) in let l : bitAnd (c .before .before .before .before .args .q) (c .before .before .word .result - 1) ≤ c .before .before .word .result - 1 = and-le-r (c .before .before .before .before .args .q) (c .before .before .word .result - 1) in omega (arith, h, l, c .if2 .left)
+add-result c = let h : (c .before .before .before .before .args .k) * c .before .before .word .result ≤ 1025 * 4096 = mul-le-mul {n₂ = 1025} {m₂ = 4096}
+    (c .before .before .before .before .pre) (omega (arith, c .if2 .left)) in let l : bitAnd (c .before .before .before .before .args .q)
+    (c .before .before .word .result - 1) ≤ c .before .before .word .result - 1 = and-le-r (c .before .before .before .before .args .q)
+    (c .before .before .word .result - 1) in omega (arith, h, l, c .if2 .left)
 
 returns-3 : tie.Need-returns-3
-returns-3 c = let h : (c .before .before .before .before .args .k) * c .before .before .word .result ≤ 1025 * 4096 = mul-le-mul {n₂ = 1025} {m₂ = 4096} (c .before .before .before .before .pre) (omega (arith, c .if2 .left)) in let l : bitAnd (c .before .before .before .before .args .q) (c .before .before .word .result - 1) ≤ c .before .before .word .result - 1 = and-le-r (c .before .before .before .before .args .q) (c .before .before .word .result - 1) in omega (arith, h, l, c .if2 .left)
+returns-3 c = let h : (c .before .before .before .before .args .k) * c .before .before .word .result ≤ 1025 * 4096 = mul-le-mul {n₂ = 1025} {m₂ = 4096}
+    (c .before .before .before .before .pre) (omega (arith, c .if2 .left)) in let l : bitAnd (c .before .before .before .before .args .q)
+    (c .before .before .word .result - 1) ≤ c .before .before .word .result - 1 = and-le-r (c .before .before .before .before .args .q)
+    (c .before .before .word .result - 1) in omega (arith, h, l, c .if2 .left)
 
 pub slot-spec : {M : Type 1} → statement M
 slot-spec =

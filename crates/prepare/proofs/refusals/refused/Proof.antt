@@ -31,19 +31,32 @@ refuse-requires : tie.Need-refuse-requires
 refuse-requires c κs = search needs
 
 returns : tie.Need-returns
-returns c = c .refuse .ensures ∙ too-long (c .before .before .before .before .args .mode) (c .before .before .before .before .args .text .now) (c .before .before .text-bound .result) (c .before .before .text-bound .ensures) (c .before .if1 .taken)
+returns c = c .refuse .ensures ∙ too-long (c .before .before .before .before .args .mode) (c .before .before .before .before .args .text .now)
+    (c .before .before .text-bound .result) (c .before .before .text-bound .ensures) (c .before .if1 .taken)
 
 offending-requires : tie.Need-offending-requires
 offending-requires c κs = omega (arith, bound-small (c .before .before .before .args .mode), c .before .text-bound .ensures, c .if1 .left)
 
 returns-2 : tie.Need-returns-2
-returns-2 c = syntax-refuses (c .before .before .before .before .before .before .args .mode) (c .before .before .before .before .before .before .args .text .now) (c .before .before .before .before .text-bound .result) (c .before .before .before .before .text-bound .ensures) (omega (arith, c .before .before .before .if1 .left)) (c .before .before .offending .result) (c .before .before .offending .ensures) (c .if2 .taken)
+returns-2 c = syntax-refuses (c .before .before .before .before .before .before .args .mode) (c .before .before .before .before .before .before .args .text .now)
+    (c .before .before .before .before .text-bound .result) (c .before .before .before .before .text-bound .ensures) (omega (arith, c .before .before .before .if1 .left))
+    (c .before .before .offending .result) (c .before .before .offending .ensures) (c .if2 .taken)
 
 unruled-use-requires : tie.Need-unruled-use-requires
-unruled-use-requires c κs = omega (arith, bound-small (c .before .before .before .before .before .before .args .mode), c .before .before .before .before .text-bound .ensures, c .before .before .before .if1 .left)
+unruled-use-requires c κs = omega (
+  arith,
+  bound-small (c .before .before .before .before .before .before .args .mode),
+  c .before .before .before .before .text-bound .ensures,
+  c .before .before .before .if1 .left,
+)
 
 second-left-requires : tie.Need-second-left-requires
-second-left-requires c κs = omega (arith, bound-small (c .before .before .before .before .before .before .before .before .args .mode), c .before .before .before .before .before .before .text-bound .ensures, c .before .before .before .before .before .if1 .left)
+second-left-requires c κs = omega (
+  arith,
+  bound-small (c .before .before .before .before .before .before .before .before .args .mode),
+  c .before .before .before .before .before .before .text-bound .ensures,
+  c .before .before .before .before .before .if1 .left,
+)
 
 sub-refuse : tie.Need-sub-refuse
 sub-refuse c = search needs
@@ -52,10 +65,21 @@ refuse-requires-2 : tie.Need-refuse-requires-2
 refuse-requires-2 c κs = search needs
 
 returns-3 : tie.Need-returns-3
-returns-3 c = c .refuse2 .ensures ∙ second-refuses (c .before .before .before .before .before .before .before .before .before .before .before .args .mode) (c .before .before .before .before .before .before .before .before .before .before .before .args .text .now) (c .before .before .before .before .before .before .before .before .before .text-bound .result) (c .before .before .before .before .before .before .before .before .before .text-bound .ensures) (omega (arith, c .before .before .before .before .before .before .before .before .if1 .left)) (c .before .before .before .before .before .before .before .offending .result) (c .before .before .before .before .before .before .before .offending .ensures) (c .before .before .before .before .before .if2 .left) (c .before .before .second-left .result) (c .before .before .second-left .ensures) (c .before .if4 .taken)
+returns-3 c = c .refuse2 .ensures ∙ second-refuses (c .before .before .before .before .before .before .before .before .before .before .before .args .mode)
+    (c .before .before .before .before .before .before .before .before .before .before .before .args .text .now)
+    (c .before .before .before .before .before .before .before .before .before .text-bound .result)
+    (c .before .before .before .before .before .before .before .before .before .text-bound .ensures)
+    (omega (arith, c .before .before .before .before .before .before .before .before .if1 .left)) (c .before .before .before .before .before .before .before .offending .result)
+    (c .before .before .before .before .before .before .before .offending .ensures) (c .before .before .before .before .before .if2 .left) (c .before .before .second-left .result)
+    (c .before .before .second-left .ensures) (c .before .if4 .taken)
 
 unruled-walked-requires : tie.Need-unruled-walked-requires
-unruled-walked-requires c κs = omega (arith, bound-small (c .before .before .before .before .before .before .before .before .before .before .args .mode), c .before .before .before .before .before .before .before .before .text-bound .ensures, c .before .before .before .before .before .before .before .if1 .left)
+unruled-walked-requires c κs = omega (
+  arith,
+  bound-small (c .before .before .before .before .before .before .before .before .before .before .args .mode),
+  c .before .before .before .before .before .before .before .before .text-bound .ensures,
+  c .before .before .before .before .before .before .before .if1 .left,
+)
 
 sub-refuse-2 : tie.Need-sub-refuse-2
 sub-refuse-2 c = search needs
@@ -64,13 +88,29 @@ refuse-requires-3 : tie.Need-refuse-requires-3
 refuse-requires-3 c κs = search needs
 
 returns-4 : tie.Need-returns-4
-returns-4 c = c .refuse3 .ensures ∙ unruled-refuses (c .before .before .before .before .before .before .before .before .before .before .before .before .before .args .mode) (c .before .before .before .before .before .before .before .before .before .before .before .before .before .args .text .now) (c .before .before .before .before .before .before .before .before .before .before .before .text-bound .result) (c .before .before .before .before .before .before .before .before .before .before .before .text-bound .ensures) (omega (arith, c .before .before .before .before .before .before .before .before .before .before .if1 .left)) (c .before .before .before .before .before .before .before .before .before .offending .result) (c .before .before .before .before .before .before .before .before .before .offending .ensures) (c .before .before .before .before .before .before .before .if2 .left) (c .before .before .before .before .second-left .result) (c .before .before .before .before .second-left .ensures) (c .before .before .before .if4 .left) (c .before .before .unruled-walked .result) (c .before .before .unruled-walked .ensures) (c .before .if5 .taken)
+returns-4 c = c .refuse3 .ensures ∙ unruled-refuses (c .before .before .before .before .before .before .before .before .before .before .before .before .before .args .mode)
+    (c .before .before .before .before .before .before .before .before .before .before .before .before .before .args .text .now)
+    (c .before .before .before .before .before .before .before .before .before .before .before .text-bound .result)
+    (c .before .before .before .before .before .before .before .before .before .before .before .text-bound .ensures)
+    (omega (arith, c .before .before .before .before .before .before .before .before .before .before .if1 .left))
+    (c .before .before .before .before .before .before .before .before .before .offending .result)
+    (c .before .before .before .before .before .before .before .before .before .offending .ensures) (c .before .before .before .before .before .before .before .if2 .left)
+    (c .before .before .before .before .second-left .result) (c .before .before .before .before .second-left .ensures) (c .before .before .before .if4 .left)
+    (c .before .before .unruled-walked .result) (c .before .before .unruled-walked .ensures) (c .before .if5 .taken)
 
 refuse-requires-4 : tie.Need-refuse-requires-4
 refuse-requires-4 c κs = search needs
 
 returns-5 : tie.Need-returns-5
-returns-5 c = c .refuse4 .ensures ∙ none-refuses (c .before .before .before .before .before .before .before .before .before .before .before .before .before .args .mode) (c .before .before .before .before .before .before .before .before .before .before .before .before .before .args .text .now) (c .before .before .before .before .before .before .before .before .before .before .before .text-bound .result) (c .before .before .before .before .before .before .before .before .before .before .before .text-bound .ensures) (omega (arith, c .before .before .before .before .before .before .before .before .before .before .if1 .left)) (c .before .before .before .before .before .before .before .before .before .offending .result) (c .before .before .before .before .before .before .before .before .before .offending .ensures) (c .before .before .before .before .before .before .before .if2 .left) (c .before .before .before .before .second-left .result) (c .before .before .before .before .second-left .ensures) (c .before .before .before .if4 .left) (c .before .before .unruled-walked .result) (c .before .before .unruled-walked .ensures) (c .before .if5 .left)
+returns-5 c = c .refuse4 .ensures ∙ none-refuses (c .before .before .before .before .before .before .before .before .before .before .before .before .before .args .mode)
+    (c .before .before .before .before .before .before .before .before .before .before .before .before .before .args .text .now)
+    (c .before .before .before .before .before .before .before .before .before .before .before .text-bound .result)
+    (c .before .before .before .before .before .before .before .before .before .before .before .text-bound .ensures)
+    (omega (arith, c .before .before .before .before .before .before .before .before .before .before .if1 .left))
+    (c .before .before .before .before .before .before .before .before .before .offending .result)
+    (c .before .before .before .before .before .before .before .before .before .offending .ensures) (c .before .before .before .before .before .before .before .if2 .left)
+    (c .before .before .before .before .second-left .result) (c .before .before .before .before .second-left .ensures) (c .before .before .before .if4 .left)
+    (c .before .before .unruled-walked .result) (c .before .before .unruled-walked .ensures) (c .before .if5 .left)
 
 sub-refuse-3 : tie.Need-sub-refuse-3
 sub-refuse-3 c = search needs
@@ -79,13 +119,25 @@ refuse-requires-5 : tie.Need-refuse-requires-5
 refuse-requires-5 c κs = search needs
 
 returns-6 : tie.Need-returns-6
-returns-6 c = c .refuse5 .ensures ∙ unruled-refuses (c .before .before .before .before .before .before .before .before .before .before .args .mode) (c .before .before .before .before .before .before .before .before .before .before .args .text .now) (c .before .before .before .before .before .before .before .before .text-bound .result) (c .before .before .before .before .before .before .before .before .text-bound .ensures) (omega (arith, c .before .before .before .before .before .before .before .if1 .left)) (c .before .before .before .before .before .before .offending .result) (c .before .before .before .before .before .before .offending .ensures) (c .before .before .before .before .if2 .left) 0 (c .before .before .before .unruled-use .ensures (c .before .before .if3 .left) .0) refl (c .before .before .before .unruled-use .result) (c .before .before .before .unruled-use .ensures (c .before .before .if3 .left) .1) (c .before .if6 .taken)
+returns-6 c = c .refuse5 .ensures ∙ unruled-refuses (c .before .before .before .before .before .before .before .before .before .before .args .mode)
+    (c .before .before .before .before .before .before .before .before .before .before .args .text .now)
+    (c .before .before .before .before .before .before .before .before .text-bound .result) (c .before .before .before .before .before .before .before .before .text-bound .ensures)
+    (omega (arith, c .before .before .before .before .before .before .before .if1 .left)) (c .before .before .before .before .before .before .offending .result)
+    (c .before .before .before .before .before .before .offending .ensures) (c .before .before .before .before .if2 .left) 0
+    (c .before .before .before .unruled-use .ensures (c .before .before .if3 .left) .0) refl (c .before .before .before .unruled-use .result)
+    (c .before .before .before .unruled-use .ensures (c .before .before .if3 .left) .1) (c .before .if6 .taken)
 
 refuse-requires-6 : tie.Need-refuse-requires-6
 refuse-requires-6 c κs = search needs
 
 returns-7 : tie.Need-returns-7
-returns-7 c = c .refuse6 .ensures ∙ none-refuses (c .before .before .before .before .before .before .before .before .before .before .args .mode) (c .before .before .before .before .before .before .before .before .before .before .args .text .now) (c .before .before .before .before .before .before .before .before .text-bound .result) (c .before .before .before .before .before .before .before .before .text-bound .ensures) (omega (arith, c .before .before .before .before .before .before .before .if1 .left)) (c .before .before .before .before .before .before .offending .result) (c .before .before .before .before .before .before .offending .ensures) (c .before .before .before .before .if2 .left) 0 (c .before .before .before .unruled-use .ensures (c .before .before .if3 .left) .0) refl (c .before .before .before .unruled-use .result) (c .before .before .before .unruled-use .ensures (c .before .before .if3 .left) .1) (c .before .if6 .left)
+returns-7 c = c .refuse6 .ensures ∙ none-refuses (c .before .before .before .before .before .before .before .before .before .before .args .mode)
+    (c .before .before .before .before .before .before .before .before .before .before .args .text .now)
+    (c .before .before .before .before .before .before .before .before .text-bound .result) (c .before .before .before .before .before .before .before .before .text-bound .ensures)
+    (omega (arith, c .before .before .before .before .before .before .before .if1 .left)) (c .before .before .before .before .before .before .offending .result)
+    (c .before .before .before .before .before .before .offending .ensures) (c .before .before .before .before .if2 .left) 0
+    (c .before .before .before .unruled-use .ensures (c .before .before .if3 .left) .0) refl (c .before .before .before .unruled-use .result)
+    (c .before .before .before .unruled-use .ensures (c .before .before .if3 .left) .1) (c .before .if6 .left)
 
 pub refused-spec : {M : Type 1} → statement M
 refused-spec =

@@ -35,7 +35,13 @@ put-requires-2 : tie.Need-put-requires-2 Inv-loop μ-loop
 put-requires-2 c κs = search needs
 
 loop-holds : tie.Need-loop-holds Inv-loop μ-loop
-loop-holds c = (grown (set (replicate terminalWords 0) 0 2) (c .before .put2 .last .0) 1 256 terminalWords (c .before .put2 .ensures ∙ ap (λ (l : List ℕ). set l 1 256) (c .before .before .before .before .put .ensures)) (grown (replicate terminalWords 0) (set (replicate terminalWords 0) 0 2) 0 2 258 refl refl), store-whole (c .before .put2 .last .0) 2 (map bitOf (c .before .before .before .before .before .before .args .t1)) (map bitOf (c .before .before .before .before .before .before .args .t1)) refl)
+loop-holds c = (
+  grown (set (replicate terminalWords 0) 0 2) (c .before .put2 .last .0) 1 256 terminalWords
+      (c .before .put2 .ensures ∙ ap (λ (l : List ℕ). set l 1 256) (c .before .before .before .before .put .ensures))
+      (grown (replicate terminalWords 0) (set (replicate terminalWords 0) 0 2) 0 2 258 refl refl),
+  store-whole (c .before .put2 .last .0) 2
+      (map bitOf (c .before .before .before .before .before .before .args .t1)) (map bitOf (c .before .before .before .before .before .before .args .t1)) refl,
+)
 
 array-read-bit-of : tie.Need-array-read-bit-of Inv-loop μ-loop
 array-read-bit-of c = search needs
@@ -59,10 +65,24 @@ loop-less : tie.Need-loop-less Inv-loop μ-loop
 loop-less c = search needs
 
 loop-again : tie.Need-loop-again Inv-loop μ-loop
-loop-again c = (grown (c .before .before .before .before .before .loop .row) (c .before .put3 .last .0) (2 + c .before .before .before .before .before .loop .i) (c .before .before .before .bit-of .result) 258 (c .before .put3 .ensures) (c .before .before .before .before .before .loop .inv .0), c .before .before .before .before .before .loop .inv .1 ∙ marks-on (c .before .before .before .before .before .before .before .before .before .before .before .before .args .t1) (c .before .before .before .before .before .loop .row) (c .before .put3 .last .0) (c .before .before .before .before .before .loop .i) (c .before .before .before .bit-of .result) (omega (arith, c .before .before .before .before .before .before .before .before .before .before .before .before .good, c .before .before .before .before .loop-test .taken)) (c .before .before .before .bit-of .ensures .0) (c .before .put3 .ensures))
+loop-again c = (
+  grown (c .before .before .before .before .before .loop .row) (c .before .put3 .last .0) (2 + c .before .before .before .before .before .loop .i)
+      (c .before .before .before .bit-of .result) 258 (c .before .put3 .ensures)
+      (c .before .before .before .before .before .loop .inv .0),
+  c .before .before .before .before .before .loop .inv .1 ∙ marks-on
+      (c .before .before .before .before .before .before .before .before .before .before .before .before .args .t1) (c .before .before .before .before .before .loop .row)
+      (c .before .put3 .last .0) (c .before .before .before .before .before .loop .i) (c .before .before .before .bit-of .result)
+      (omega (arith, c .before .before .before .before .before .before .before .before .before .before .before .before .good, c .before .before .before .before .loop-test .taken))
+      (c .before .before .before .bit-of .ensures .0) (c .before .put3 .ensures),
+)
 
 returns : tie.Need-returns Inv-loop μ-loop
-returns c = sym (sym (class-row-is (c .before .before .before .before .before .before .before .before .args .t1) (c .before .before .before .put2 .last .0) (c .before .before .before .put2 .ensures ∙ ap (λ (l : List ℕ). set l 1 256) (c .before .before .before .before .before .before .put .ensures))) ∙ c .before .loop .inv .1 ∙ store-none (c .before .loop .row) (2 + c .before .loop .i) (map bitOf (drop (c .before .loop .i) (c .before .before .before .before .before .before .before .before .args .t1))) (marks-none (c .before .before .before .before .before .before .before .before .args .t1) (c .before .loop .i) (omega (arith, c .before .before .before .before .before .before .before .before .good))))
+returns c = sym (sym (class-row-is (c .before .before .before .before .before .before .before .before .args .t1) (c .before .before .before .put2 .last .0)
+    (c .before .before .before .put2 .ensures ∙ ap (λ (l : List ℕ). set l 1 256)
+    (c .before .before .before .before .before .before .put .ensures))) ∙ c .before .loop .inv .1 ∙ store-none (c .before .loop .row) (2 + c .before .loop .i)
+    (map bitOf (drop (c .before .loop .i) (c .before .before .before .before .before .before .before .before .args .t1)))
+    (marks-none (c .before .before .before .before .before .before .before .before .args .t1) (c .before .loop .i)
+    (omega (arith, c .before .before .before .before .before .before .before .before .good))))
 
 pub class-row-spec : {M : Type 1} → statement M
 class-row-spec =

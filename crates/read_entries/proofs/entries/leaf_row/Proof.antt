@@ -30,7 +30,8 @@ class-row-requires : tie.Need-class-row-requires
 class-row-requires c κs = search needs
 
 returns-2 : tie.Need-returns-2
-returns-2 c = leaf-class _ _ _ _ _ _ _ (c .before .before .before .before .if1 .left) (c .before .before .before .if2 .taken) (ap (λ (x : Class). x .marks) (c .before .before .class-at .ensures)) (c .class-row .ensures)
+returns-2 c = leaf-class _ _ _ _ _ _ _ (c .before .before .before .before .if1 .left) (c .before .before .before .if2 .taken)
+    (ap (λ (x : Class). x .marks) (c .before .before .class-at .ensures)) (c .class-row .ensures)
 
 returns-3 : tie.Need-returns-3
 returns-3 c = leaf-any _ _ _ _ _ (c .before .if1 .left) (c .if2 .left)

@@ -43,7 +43,14 @@ put-requires-2 : tie.Need-put-requires-2 Inv-loop μ-loop
 put-requires-2 c κs = omega (arith, c .before .before .before .before .least .ensures, cap-le (c .before .before .before .before .before .before .args .size) 256)
 
 loop-holds : tie.Need-loop-holds Inv-loop μ-loop
-loop-holds c = (c .before .before .before .before .before .before .before .before .pre .0, grown (set (replicate terminalWords 0) 0 1) (c .before .put2 .last .0) 1 (c .before .before .before .before .before .before .least .result) 258 (c .before .put2 .ensures ∙ ap (λ (l : List ℕ). set l 1 (c .before .before .before .before .before .before .least .result)) (c .before .before .before .before .put .ensures)) (grown (replicate terminalWords 0) (set (replicate terminalWords 0) 0 1) 0 terminalKey terminalWords refl refl), store-whole _ _ _ _ (literal-whole _ _ _))
+loop-holds c = (
+  c .before .before .before .before .before .before .before .before .pre .0,
+  grown (set (replicate terminalWords 0) 0 1) (c .before .put2 .last .0) 1
+      (c .before .before .before .before .before .before .least .result) 258
+      (c .before .put2 .ensures ∙ ap (λ (l : List ℕ). set l 1 (c .before .before .before .before .before .before .least .result)) (c .before .before .before .before .put .ensures))
+      (grown (replicate terminalWords 0) (set (replicate terminalWords 0) 0 1) 0 terminalKey terminalWords refl refl),
+  store-whole _ _ _ _ (literal-whole _ _ _),
+)
 
 char-at-requires : tie.Need-char-at-requires Inv-loop μ-loop
 char-at-requires c κs = search needs
@@ -52,7 +59,13 @@ slice-aggregate-put-3 : tie.Need-slice-aggregate-put-3 Inv-loop μ-loop
 slice-aggregate-put-3 c = sym (c .before .before .before .loop .inv .1)
 
 add-put : tie.Need-add-put Inv-loop μ-loop
-add-put c = omega (arith, c .before .before .before .before .before .before .before .before .before .before .least .ensures, cap-le (c .before .before .before .before .before .before .before .before .before .before .before .before .args .size) 256, c .before .before .loop-test .taken)
+add-put c = omega (
+  arith,
+  c .before .before .before .before .before .before .before .before .before .before .least .ensures,
+  cap-le
+      (c .before .before .before .before .before .before .before .before .before .before .before .before .args .size) 256,
+  c .before .before .loop-test .taken,
+)
 
 wide-requires : tie.Need-wide-requires Inv-loop μ-loop
 wide-requires c κs = search needs
@@ -61,7 +74,15 @@ put-requires-3 : tie.Need-put-requires-3 Inv-loop μ-loop
 put-requires-3 c κs = search needs
 
 add-p : tie.Need-add-p Inv-loop μ-loop
-add-p c = omega (arith, ap (λ (x : Char). x .width) (c .before .before .before .before .char-at .ensures), width-inside (c .before .before .before .before .before .before .before .before .before .before .before .before .before .before .before .args .text .now) (c .before .before .before .before .before .before .loop .p) (c .before .before .before .before .before .before .loop .inv .0), c .before .before .before .before .before .before .before .before .before .before .before .before .before .before .before .pre .1)
+add-p c = omega (
+  arith,
+  ap (λ (x : Char). x .width) (c .before .before .before .before .char-at .ensures),
+  width-inside
+      (c .before .before .before .before .before .before .before .before .before .before .before .before .before .before .before .args .text .now)
+      (c .before .before .before .before .before .before .loop .p)
+      (c .before .before .before .before .before .before .loop .inv .0),
+  c .before .before .before .before .before .before .before .before .before .before .before .before .before .before .before .pre .1,
+)
 
 add-i : tie.Need-add-i Inv-loop μ-loop
 add-i c = search needs
@@ -70,10 +91,40 @@ loop-less : tie.Need-loop-less Inv-loop μ-loop
 loop-less c = search needs
 
 loop-again : tie.Need-loop-again Inv-loop μ-loop
-loop-again c = (omega (arith, ap (λ (x : Char). x .width) (c .before .before .before .before .char-at .ensures), width-inside (c .before .before .before .before .before .before .before .before .before .before .before .before .before .before .before .args .text .now) (c .before .before .before .before .before .before .loop .p) (c .before .before .before .before .before .before .loop .inv .0)), grown (c .before .before .before .before .before .before .loop .row) (c .before .put3 .last .0) (2 + c .before .before .before .before .before .before .loop .i) (c .before .before .wide .result) 258 (c .before .put3 .ensures) (c .before .before .before .before .before .before .loop .inv .1), c .before .before .before .before .before .before .loop .inv .2 ∙ literal-on (c .before .before .before .before .before .before .before .before .before .before .before .before .before .before .before .args .text .now) (c .before .before .before .before .before .before .loop .row) (c .before .put3 .last .0) (c .before .before .before .before .before .before .before .before .before .before .before .before .before .least .result) (c .before .before .before .before .before .before .loop .i) (c .before .before .before .before .before .before .loop .p) (c .before .before .wide .result) (c .before .before .before .before .char-at .result .width) (c .before .before .before .before .before .loop-test .taken) (c .before .before .wide .ensures .0 ∙ ap (λ (x : Char). x .byte) (c .before .before .before .before .char-at .ensures)) (ap (λ (x : Char). x .width) (c .before .before .before .before .char-at .ensures)) (c .before .put3 .ensures))
+loop-again c = (
+  omega (
+    arith,
+    ap (λ (x : Char). x .width) (c .before .before .before .before .char-at .ensures),
+    width-inside
+        (c .before .before .before .before .before .before .before .before .before .before .before .before .before .before .before .args .text .now)
+        (c .before .before .before .before .before .before .loop .p) (c .before .before .before .before .before .before .loop .inv .0),
+  ),
+  grown
+      (c .before .before .before .before .before .before .loop .row) (c .before .put3 .last .0) (2 + c .before .before .before .before .before .before .loop .i)
+      (c .before .before .wide .result) 258 (c .before .put3 .ensures)
+      (c .before .before .before .before .before .before .loop .inv .1),
+  c .before .before .before .before .before .before .loop .inv .2 ∙ literal-on
+      (c .before .before .before .before .before .before .before .before .before .before .before .before .before .before .before .args .text .now)
+      (c .before .before .before .before .before .before .loop .row) (c .before .put3 .last .0)
+      (c .before .before .before .before .before .before .before .before .before .before .before .before .before .least .result)
+      (c .before .before .before .before .before .before .loop .i) (c .before .before .before .before .before .before .loop .p) (c .before .before .wide .result)
+      (c .before .before .before .before .char-at .result .width) (c .before .before .before .before .before .loop-test .taken)
+      (c .before .before .wide .ensures .0 ∙ ap (λ (x : Char). x .byte) (c .before .before .before .before .char-at .ensures))
+      (ap (λ (x : Char). x .width) (c .before .before .before .before .char-at .ensures)) (c .before .put3 .ensures),
+)
 
 returns : tie.Need-returns Inv-loop μ-loop
-returns c = sym (sym (literal-row-is (c .before .before .before .before .before .before .before .before .before .before .args .text .now) (c .before .before .before .before .before .before .before .before .before .before .args .from) (c .before .before .before .before .before .before .before .before .before .before .args .size) (c .before .before .before .before .before .before .before .before .least .result) (c .before .before .before .put2 .last .0) (c .before .before .before .before .before .before .before .before .least .ensures) (c .before .before .before .put2 .ensures ∙ ap (λ (l : List ℕ). set l 1 (c .before .before .before .before .before .before .before .before .least .result)) (c .before .before .before .before .before .before .put .ensures))) ∙ c .before .loop .inv .2 ∙ store-none (c .before .loop .row) (2 + c .before .loop .i) (literalFrom (c .before .before .before .before .before .before .before .before .least .result - (c .before .loop .i)) (c .before .before .before .before .before .before .before .before .before .before .args .text .now) (c .before .loop .p)) (literal-none (c .before .before .before .before .before .before .before .before .before .before .args .text .now) (c .before .loop .p) (c .before .loop .i) (c .before .before .before .before .before .before .before .before .least .result) (c .loop-test .left)))
+returns c = sym (sym (literal-row-is (c .before .before .before .before .before .before .before .before .before .before .args .text .now)
+    (c .before .before .before .before .before .before .before .before .before .before .args .from)
+    (c .before .before .before .before .before .before .before .before .before .before .args .size)
+    (c .before .before .before .before .before .before .before .before .least .result) (c .before .before .before .put2 .last .0)
+    (c .before .before .before .before .before .before .before .before .least .ensures)
+    (c .before .before .before .put2 .ensures ∙ ap (λ (l : List ℕ). set l 1 (c .before .before .before .before .before .before .before .before .least .result))
+    (c .before .before .before .before .before .before .put .ensures))) ∙ c .before .loop .inv .2 ∙ store-none (c .before .loop .row) (2 + c .before .loop .i)
+    (literalFrom (c .before .before .before .before .before .before .before .before .least .result - (c .before .loop .i))
+    (c .before .before .before .before .before .before .before .before .before .before .args .text .now) (c .before .loop .p))
+    (literal-none (c .before .before .before .before .before .before .before .before .before .before .args .text .now) (c .before .loop .p) (c .before .loop .i)
+    (c .before .before .before .before .before .before .before .before .least .result) (c .loop-test .left)))
 
 pub literal-row-spec : {M : Type 1} → statement M
 literal-row-spec =

@@ -35,7 +35,13 @@ put-requires-2 : tie.Need-put-requires-2 Inv-loop μ-loop
 put-requires-2 c κs = search needs
 
 loop-holds : tie.Need-loop-holds Inv-loop μ-loop
-loop-holds c = (grown (set (replicate symbolWords 0) 0 (c .before .before .before .before .before .before .before .args .kind)) (c .before .put2 .last .0) 3 (c .before .before .before .before .before .before .before .args .n) 42 (c .before .put2 .ensures ∙ ap (λ (l : List ℕ). set l 3 (c .before .before .before .before .before .before .before .args .n)) (c .before .before .before .before .put .ensures)) (length-set (replicate symbolWords 0) 0 (c .before .before .before .before .before .before .before .args .kind)), store-whole _ _ _ _ (words-whole _ _ _))
+loop-holds c = (
+  grown (set (replicate symbolWords 0) 0 (c .before .before .before .before .before .before .before .args .kind)) (c .before .put2 .last .0) 3
+      (c .before .before .before .before .before .before .before .args .n) 42
+      (c .before .put2 .ensures ∙ ap (λ (l : List ℕ). set l 3 (c .before .before .before .before .before .before .before .args .n)) (c .before .before .before .before .put .ensures))
+      (length-set (replicate symbolWords 0) 0 (c .before .before .before .before .before .before .before .args .kind)),
+  store-whole _ _ _ _ (words-whole _ _ _),
+)
 
 add-byte : tie.Need-add-byte Inv-loop μ-loop
 add-byte c = search needs
@@ -59,10 +65,30 @@ loop-less : tie.Need-loop-less Inv-loop μ-loop
 loop-less c = search needs
 
 loop-again : tie.Need-loop-again Inv-loop μ-loop
-loop-again c = (grown (c .before .before .before .before .before .loop .row) (c .before .put3 .last .0) (4 + c .before .before .before .before .before .loop .i) (c .before .before .before .byte .result) 42 (c .before .put3 .ensures) (c .before .before .before .before .before .loop .inv .0), c .before .before .before .before .before .loop .inv .1 ∙ name-on (c .before .before .before .before .before .before .before .before .before .before .before .before .before .args .text .now) (c .before .before .before .before .before .loop .row) (c .before .put3 .last .0) (c .before .before .before .before .before .before .before .before .before .before .before .before .before .args .from) (c .before .before .before .before .before .before .before .before .before .before .before .before .before .args .n) (c .before .before .before .before .before .loop .i) (c .before .before .before .byte .result) (c .before .before .before .before .loop-test .taken) (c .before .before .before .byte .ensures .0) (c .before .put3 .ensures))
+loop-again c = (
+  grown (c .before .before .before .before .before .loop .row) (c .before .put3 .last .0) (4 + c .before .before .before .before .before .loop .i)
+      (c .before .before .before .byte .result) 42 (c .before .put3 .ensures)
+      (c .before .before .before .before .before .loop .inv .0),
+  c .before .before .before .before .before .loop .inv .1 ∙ name-on
+      (c .before .before .before .before .before .before .before .before .before .before .before .before .before .args .text .now)
+      (c .before .before .before .before .before .loop .row) (c .before .put3 .last .0)
+      (c .before .before .before .before .before .before .before .before .before .before .before .before .before .args .from)
+      (c .before .before .before .before .before .before .before .before .before .before .before .before .before .args .n) (c .before .before .before .before .before .loop .i)
+      (c .before .before .before .byte .result) (c .before .before .before .before .loop-test .taken) (c .before .before .before .byte .ensures .0) (c .before .put3 .ensures),
+)
 
 returns : tie.Need-returns Inv-loop μ-loop
-returns c = sym (sym (name-row-is (c .before .before .before .before .before .before .before .before .before .args .text .now) (c .before .before .before .before .before .before .before .before .before .args .kind) (c .before .before .before .before .before .before .before .before .before .args .from) (c .before .before .before .before .before .before .before .before .before .args .n) (c .before .before .before .put2 .last .0) (c .before .before .before .put2 .ensures ∙ ap (λ (l : List ℕ). set l 3 (c .before .before .before .before .before .before .before .before .before .args .n)) (c .before .before .before .before .before .before .put .ensures))) ∙ c .before .loop .inv .1 ∙ store-none (c .before .loop .row) (4 + c .before .loop .i) (wordsFrom (c .before .before .before .before .before .before .before .before .before .args .text .now) (c .before .before .before .before .before .before .before .before .before .args .from + c .before .loop .i) (c .before .before .before .before .before .before .before .before .before .args .n - (c .before .loop .i))) (words-none (c .before .before .before .before .before .before .before .before .before .args .text .now) (c .before .before .before .before .before .before .before .before .before .args .from + c .before .loop .i) (c .before .loop .i) (c .before .before .before .before .before .before .before .before .before .args .n) (c .loop-test .left)))
+returns c = sym (sym (name-row-is (c .before .before .before .before .before .before .before .before .before .args .text .now)
+    (c .before .before .before .before .before .before .before .before .before .args .kind) (c .before .before .before .before .before .before .before .before .before .args .from)
+    (c .before .before .before .before .before .before .before .before .before .args .n) (c .before .before .before .put2 .last .0)
+    (c .before .before .before .put2 .ensures ∙ ap (λ (l : List ℕ). set l 3 (c .before .before .before .before .before .before .before .before .before .args .n))
+    (c .before .before .before .before .before .before .put .ensures))) ∙ c .before .loop .inv .1 ∙ store-none (c .before .loop .row) (4 + c .before .loop .i)
+    (wordsFrom (c .before .before .before .before .before .before .before .before .before .args .text .now)
+    (c .before .before .before .before .before .before .before .before .before .args .from + c .before .loop .i)
+    (c .before .before .before .before .before .before .before .before .before .args .n - (c .before .loop .i)))
+    (words-none (c .before .before .before .before .before .before .before .before .before .args .text .now)
+    (c .before .before .before .before .before .before .before .before .before .args .from + c .before .loop .i) (c .before .loop .i)
+    (c .before .before .before .before .before .before .before .before .before .args .n) (c .loop-test .left)))
 
 pub name-row-spec : {M : Type 1} → statement M
 name-row-spec =

@@ -26,7 +26,9 @@ same-length : tie.Need-same-length
 same-length c = search needs
 
 returns : tie.Need-returns
-returns c = subst (λ (x : List ℕ). Noted (c .before .before .before .before .before .before .before .before .args .t .now) (c .before .before .note .last .0) x 1 terminalKey terminalWords terminalsAt (c .before .before .note .result)) (c .before .before .before .before .before .leaf-row .ensures) (c .before .before .note .ensures)
+returns c = subst (λ (x : List ℕ). Noted (c .before .before .before .before .before .before .before .before .args .t .now)
+    (c .before .before .note .last .0) x 1 terminalKey terminalWords terminalsAt (c .before .before .note .result)) (c .before .before .before .before .before .leaf-row .ensures)
+    (c .before .before .note .ensures)
 
 pub note-leaf-spec : {M : Type 1} → statement M
 note-leaf-spec =

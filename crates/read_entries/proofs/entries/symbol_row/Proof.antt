@@ -23,7 +23,8 @@ name-row-requires : tie.Need-name-row-requires
 name-row-requires c κs = search needs
 
 returns : tie.Need-returns
-returns c = c .name-row .ensures ∙ ap (λ (k : ℕ). symbolRow k (wordsFrom (c .before .before .before .args .text .now) (c .before .before .before .args .start + k) (c .before .before .before .args .size))) (c .before .lake-of .ensures .0)
+returns c = c .name-row .ensures ∙ ap (λ (k : ℕ). symbolRow k
+    (wordsFrom (c .before .before .before .args .text .now) (c .before .before .before .args .start + k) (c .before .before .before .args .size))) (c .before .lake-of .ensures .0)
 
 pub symbol-row-spec : {M : Type 1} → statement M
 symbol-row-spec = tie.close (tie.spec lake-of-requires add-name-row name-row-requires returns)

@@ -22,22 +22,45 @@ word-requires : tie.Need-word-requires
 word-requires c κs = search needs
 
 same-name-requires : tie.Need-same-name-requires
-same-name-requires c κs = (c .before .before .before .before .pre .1, fits-word (c .before .before .before .before .args .text .now) (c .before .before .before .before .args .a .now) _ (c .word .result) (c .before .before .before .before .pre .0) (c .word .ensures .0))
+same-name-requires c κs = (
+  c .before .before .before .before .pre .1,
+  fits-word (c .before .before .before .before .args .text .now)
+      (c .before .before .before .before .args .a .now) _ (c .word .result) (c .before .before .before .before .pre .0) (c .word .ensures .0),
+)
 
 returns : tie.Need-returns
-returns c = entered-lost (c .before .before .before .before .before .before .args .text .now) (c .before .before .before .before .before .before .args .a .now) (c .before .before .before .before .before .before .args .count) (c .before .before .before .before .find .result) (symbolIn (c .before .before .before .before .before .before .args .text .now) (c .before .before .before .before .before .before .args .v)) (c .before .before .before .before .before .before .args .marks .now) (c .before .before .before .before .find .ensures .0) _
+returns c = entered-lost (c .before .before .before .before .before .before .args .text .now) (c .before .before .before .before .before .before .args .a .now)
+    (c .before .before .before .before .before .before .args .count) (c .before .before .before .before .find .result)
+    (symbolIn (c .before .before .before .before .before .before .args .text .now) (c .before .before .before .before .before .before .args .v))
+    (c .before .before .before .before .before .before .args .marks .now) (c .before .before .before .before .find .ensures .0) _
 
 element-copy-out-if2 : tie.Need-element-copy-out-if2
 element-copy-out-if2 c = search needs
 
 returns-2 : tie.Need-returns-2
-returns-2 c = entered-bad (c .before .before .before .before .before .before .before .before .args .text .now) (c .before .before .before .before .before .before .before .before .args .a .now) (c .before .before .before .before .before .before .before .before .args .count) (c .before .before .before .before .before .before .find .result) (symbolIn (c .before .before .before .before .before .before .before .before .args .text .now) (c .before .before .before .before .before .before .before .before .args .v)) (c .before .before .before .before .before .before .before .before .args .marks .now) (c .before .before .before .before .before .before .find .ensures .0) (c .before .before .before .same-name .result) (c .before .before .before .before .word .result) (c .before .before .before .before .word .ensures .0) (c .before .before .before .same-name .ensures) (not-false _ (c .before .before .if1 .left)) (c .if2 .taken) _
+returns-2 c = entered-bad (c .before .before .before .before .before .before .before .before .args .text .now)
+    (c .before .before .before .before .before .before .before .before .args .a .now) (c .before .before .before .before .before .before .before .before .args .count)
+    (c .before .before .before .before .before .before .find .result)
+    (symbolIn (c .before .before .before .before .before .before .before .before .args .text .now) (c .before .before .before .before .before .before .before .before .args .v))
+    (c .before .before .before .before .before .before .before .before .args .marks .now) (c .before .before .before .before .before .before .find .ensures .0)
+    (c .before .before .before .same-name .result) (c .before .before .before .before .word .result) (c .before .before .before .before .word .ensures .0)
+    (c .before .before .before .same-name .ensures) (not-false _ (c .before .before .if1 .left)) (c .if2 .taken) _
 
 set-mark-requires : tie.Need-set-mark-requires
 set-mark-requires c κs = search needs
 
 returns-3 : tie.Need-returns-3
-returns-3 c = entered-fine (c .before .before .before .before .before .before .before .before .before .before .args .text .now) (c .before .before .before .before .before .before .before .before .before .before .args .a .now) (c .before .before .before .before .before .before .before .before .before .before .args .count) (c .before .before .before .before .before .before .before .before .find .result) (symbolIn (c .before .before .before .before .before .before .before .before .before .before .args .text .now) (c .before .before .before .before .before .before .before .before .before .before .args .v)) (c .before .before .before .before .before .before .before .before .before .before .args .marks .now) (c .before .before .before .before .before .before .before .before .find .ensures .0) (c .before .before .before .before .before .same-name .result) (c .before .before .before .before .before .before .word .result) (c .before .before .before .before .before .before .word .ensures .0) (c .before .before .before .before .before .same-name .ensures) (not-false _ (c .before .before .before .before .if1 .left)) (c .before .before .if2 .left) (c .set-mark .ensures .1) _ (c .set-mark .ensures .0)
+returns-3 c = entered-fine (c .before .before .before .before .before .before .before .before .before .before .args .text .now)
+    (c .before .before .before .before .before .before .before .before .before .before .args .a .now)
+    (c .before .before .before .before .before .before .before .before .before .before .args .count)
+    (c .before .before .before .before .before .before .before .before .find .result)
+    (symbolIn (c .before .before .before .before .before .before .before .before .before .before .args .text .now)
+    (c .before .before .before .before .before .before .before .before .before .before .args .v))
+    (c .before .before .before .before .before .before .before .before .before .before .args .marks .now)
+    (c .before .before .before .before .before .before .before .before .find .ensures .0) (c .before .before .before .before .before .same-name .result)
+    (c .before .before .before .before .before .before .word .result) (c .before .before .before .before .before .before .word .ensures .0)
+    (c .before .before .before .before .before .same-name .ensures) (not-false _ (c .before .before .before .before .if1 .left)) (c .before .before .if2 .left)
+    (c .set-mark .ensures .1) _ (c .set-mark .ensures .0)
 
 pub enter-spec : {M : Type 1} → statement M
 enter-spec =

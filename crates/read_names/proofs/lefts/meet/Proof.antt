@@ -20,13 +20,25 @@ use Rattle.read_walks.proofs.name_start.Reads as name-start-reads
 use Rattle.read_walks.proofs.reserved_name.Reads as reserved-name-reads
 
 returns : tie.Need-returns
-returns c = met-other (c .before .before .args .mode) (c .before .before .args .text .now) (c .before .before .args .at) (c .before .before .args .t) (c .before .before .pre .0) (c .before .before .pre .1) (c .before .before .args .a .now) (c .before .before .args .c .low) (c .before .before .args .c .high) (c .before .before .args .c .count) (c .before .before .args .marks .now) (c .if1 .taken)
+returns c = met-other (c .before .before .args .mode) (c .before .before .args .text .now) (c .before .before .args .at) (c .before .before .args .t) (c .before .before .pre .0)
+    (c .before .before .pre .1) (c .before .before .args .a .now) (c .before .before .args .c .low) (c .before .before .args .c .high) (c .before .before .args .c .count)
+    (c .before .before .args .marks .now) (c .if1 .taken)
 
 name-start-requires : tie.Need-name-start-requires
-name-start-requires c κs = omega (arith, here (c .before .before .args .mode) (c .before .before .args .text .now) (c .before .before .args .at) (c .before .before .args .t) (c .before .before .pre .0) (c .before .before .pre .1) .before-end, c .before .before .pre .2)
+name-start-requires c κs = omega (
+  arith,
+  here (c .before .before .args .mode) (c .before .before .args .text .now) (c .before .before .args .at) (c .before .before .args .t)
+      (c .before .before .pre .0) (c .before .before .pre .1) .before-end,
+  c .before .before .pre .2,
+)
 
 reserved-name-requires : tie.Need-reserved-name-requires
-reserved-name-requires c κs = omega (arith, inside (c .before .before .before .args .mode) (c .before .before .before .args .text .now) (c .before .before .before .args .at) (c .before .before .before .args .t) (c .before .before .before .pre .0) (c .before .before .before .pre .1) (omega (arith, c .before .if1 .left)), c .name-start .ensures)
+reserved-name-requires c κs = omega (
+  arith,
+  inside (c .before .before .before .args .mode) (c .before .before .before .args .text .now) (c .before .before .before .args .at)
+      (c .before .before .before .args .t) (c .before .before .before .pre .0) (c .before .before .before .pre .1) (omega (arith, c .before .if1 .left)),
+  c .name-start .ensures,
+)
 
 is-left-requires : tie.Need-is-left-requires
 is-left-requires c κs = search needs
@@ -35,28 +47,114 @@ either-requires : tie.Need-either-requires
 either-requires c κs = search needs
 
 returns-2 : tie.Need-returns-2
-returns-2 c = let n = or-false _ _ (sym (c .before .either .ensures) ∙ not-true _ (c .if2 .taken)) in met-use (c .before .before .before .before .before .before .before .args .mode) (c .before .before .before .before .before .before .before .args .text .now) (c .before .before .before .before .before .before .before .args .at) (c .before .before .before .before .before .before .before .args .t) (c .before .before .before .before .before .before .before .pre .0) (c .before .before .before .before .before .before .before .pre .1) (c .before .before .before .before .before .before .before .args .a .now) (c .before .before .before .before .before .before .before .args .c .low) (c .before .before .before .before .before .before .before .args .c .high) (c .before .before .before .before .before .before .before .args .c .count) (c .before .before .before .before .before .before .before .args .marks .now) (omega (arith, c .before .before .before .before .before .if1 .left)) (c .before .before .before .before .name-start .result) (c .before .before .before .before .name-start .ensures) (c .before .before .is-left .result) (c .before .before .before .reserved-name .result) (c .before .before .is-left .ensures) (c .before .before .before .reserved-name .ensures) (n .0) (n .1)
+returns-2 c = let n = or-false _ _ (sym (c .before .either .ensures) ∙ not-true _ (c .if2 .taken)) in met-use
+    (c .before .before .before .before .before .before .before .args .mode) (c .before .before .before .before .before .before .before .args .text .now)
+    (c .before .before .before .before .before .before .before .args .at) (c .before .before .before .before .before .before .before .args .t)
+    (c .before .before .before .before .before .before .before .pre .0) (c .before .before .before .before .before .before .before .pre .1)
+    (c .before .before .before .before .before .before .before .args .a .now) (c .before .before .before .before .before .before .before .args .c .low)
+    (c .before .before .before .before .before .before .before .args .c .high) (c .before .before .before .before .before .before .before .args .c .count)
+    (c .before .before .before .before .before .before .before .args .marks .now) (omega (arith, c .before .before .before .before .before .if1 .left))
+    (c .before .before .before .before .name-start .result) (c .before .before .before .before .name-start .ensures) (c .before .before .is-left .result)
+    (c .before .before .before .reserved-name .result) (c .before .before .is-left .ensures) (c .before .before .before .reserved-name .ensures) (n .0) (n .1)
 
 pack-requires : tie.Need-pack-requires
-pack-requires c κs = (omega (arith, c .before .before .before .before .before .before .before .pre .1), (omega (arith, c .before .before .before .before .before .if1 .left)), omega (arith, inside (c .before .before .before .before .before .before .before .args .mode) (c .before .before .before .before .before .before .before .args .text .now) (c .before .before .before .before .before .before .before .args .at) (c .before .before .before .before .before .before .before .args .t) (c .before .before .before .before .before .before .before .pre .0) (c .before .before .before .before .before .before .before .pre .1) (omega (arith, c .before .before .before .before .before .if1 .left)), c .before .before .before .before .name-start .ensures))
+pack-requires c κs = (
+  omega (arith, c .before .before .before .before .before .before .before .pre .1),
+  (omega (arith, c .before .before .before .before .before .if1 .left)),
+  omega (
+    arith,
+    inside (c .before .before .before .before .before .before .before .args .mode) (c .before .before .before .before .before .before .before .args .text .now)
+        (c .before .before .before .before .before .before .before .args .at) (c .before .before .before .before .before .before .before .args .t)
+        (c .before .before .before .before .before .before .before .pre .0) (c .before .before .before .before .before .before .before .pre .1)
+        (omega (arith, c .before .before .before .before .before .if1 .left)),
+    c .before .before .before .before .name-start .ensures,
+  ),
+)
 
 returns-3 : tie.Need-returns-3
-returns-3 c = met-lost (c .before .before .before .before .before .before .before .before .before .args .mode) (c .before .before .before .before .before .before .before .before .before .args .text .now) (c .before .before .before .before .before .before .before .before .before .args .at) (c .before .before .before .before .before .before .before .before .before .args .t) (c .before .before .before .before .before .before .before .before .before .pre .0) (c .before .before .before .before .before .before .before .before .before .pre .1) (c .before .before .before .before .before .before .before .before .before .args .a .now) (c .before .before .before .before .before .before .before .before .before .args .c .low) (c .before .before .before .before .before .before .before .before .before .args .c .high) (c .before .before .before .before .before .before .before .before .before .args .c .count) (c .before .before .before .before .before .before .before .before .before .args .marks .now) _
+returns-3 c = met-lost (c .before .before .before .before .before .before .before .before .before .args .mode)
+    (c .before .before .before .before .before .before .before .before .before .args .text .now)
+    (c .before .before .before .before .before .before .before .before .before .args .at) (c .before .before .before .before .before .before .before .before .before .args .t)
+    (c .before .before .before .before .before .before .before .before .before .pre .0) (c .before .before .before .before .before .before .before .before .before .pre .1)
+    (c .before .before .before .before .before .before .before .before .before .args .a .now)
+    (c .before .before .before .before .before .before .before .before .before .args .c .low)
+    (c .before .before .before .before .before .before .before .before .before .args .c .high)
+    (c .before .before .before .before .before .before .before .before .before .args .c .count) (c .before .before .before .before .before .before .before .before .before .args .marks .now) _
 
 in-range-requires : tie.Need-in-range-requires
-in-range-requires c κs = (c .before .before .before .before .before .before .before .before .before .pre .3 .from, c .before .before .before .before .before .before .before .before .before .pre .3 .bound, (c .before .pack .ensures (c .if3 .left)) .fits)
+in-range-requires c κs = (
+  c .before .before .before .before .before .before .before .before .before .pre .3 .from,
+  c .before .before .before .before .before .before .before .before .before .pre .3 .bound,
+  (c .before .pack .ensures (c .if3 .left)) .fits,
+)
 
 returns-4 : tie.Need-returns-4
-returns-4 c = met-out (c .before .before .before .before .before .before .before .before .before .before .before .args .mode) (c .before .before .before .before .before .before .before .before .before .before .before .args .text .now) (c .before .before .before .before .before .before .before .before .before .before .before .args .at) (c .before .before .before .before .before .before .before .before .before .before .before .args .t) (c .before .before .before .before .before .before .before .before .before .before .before .pre .0) (c .before .before .before .before .before .before .before .before .before .before .before .pre .1) (c .before .before .before .before .before .before .before .before .before .before .before .args .a .now) (c .before .before .before .before .before .before .before .before .before .before .before .args .c .low) (c .before .before .before .before .before .before .before .before .before .before .before .args .c .high) (c .before .before .before .before .before .before .before .before .before .before .before .args .c .count) (c .before .before .before .before .before .before .before .before .before .before .before .args .marks .now) (omega (arith, c .before .before .before .before .before .before .before .before .before .if1 .left)) (c .before .before .before .before .before .before .before .before .name-start .result) (c .before .before .before .before .before .before .before .before .name-start .ensures) (c .before .before .before .before .before .before .is-left .result) (c .before .before .before .before .before .before .before .reserved-name .result) (c .before .before .before .before .before .before .is-left .ensures) (c .before .before .before .before .before .before .before .reserved-name .ensures) (c .before .before .before .pack .result) (c .before .before .before .pack .ensures (c .before .before .if3 .left)) (sym (not-true _ (c .if4 .taken)) ∙ c .before .in-range .ensures)
+returns-4 c = met-out (c .before .before .before .before .before .before .before .before .before .before .before .args .mode)
+    (c .before .before .before .before .before .before .before .before .before .before .before .args .text .now)
+    (c .before .before .before .before .before .before .before .before .before .before .before .args .at)
+    (c .before .before .before .before .before .before .before .before .before .before .before .args .t)
+    (c .before .before .before .before .before .before .before .before .before .before .before .pre .0)
+    (c .before .before .before .before .before .before .before .before .before .before .before .pre .1)
+    (c .before .before .before .before .before .before .before .before .before .before .before .args .a .now)
+    (c .before .before .before .before .before .before .before .before .before .before .before .args .c .low)
+    (c .before .before .before .before .before .before .before .before .before .before .before .args .c .high)
+    (c .before .before .before .before .before .before .before .before .before .before .before .args .c .count)
+    (c .before .before .before .before .before .before .before .before .before .before .before .args .marks .now)
+    (omega (arith, c .before .before .before .before .before .before .before .before .before .if1 .left))
+    (c .before .before .before .before .before .before .before .before .name-start .result) (c .before .before .before .before .before .before .before .before .name-start .ensures)
+    (c .before .before .before .before .before .before .is-left .result) (c .before .before .before .before .before .before .before .reserved-name .result)
+    (c .before .before .before .before .before .before .is-left .ensures) (c .before .before .before .before .before .before .before .reserved-name .ensures)
+    (c .before .before .before .pack .result) (c .before .before .before .pack .ensures (c .before .before .if3 .left)) (sym (not-true _ (c .if4 .taken)) ∙ c .before .in-range .ensures)
 
 returns-5 : tie.Need-returns-5
-returns-5 c = met-reserved (c .before .before .before .before .before .before .before .before .before .before .before .before .args .mode) (c .before .before .before .before .before .before .before .before .before .before .before .before .args .text .now) (c .before .before .before .before .before .before .before .before .before .before .before .before .args .at) (c .before .before .before .before .before .before .before .before .before .before .before .before .args .t) (c .before .before .before .before .before .before .before .before .before .before .before .before .pre .0) (c .before .before .before .before .before .before .before .before .before .before .before .before .pre .1) (c .before .before .before .before .before .before .before .before .before .before .before .before .args .a .now) (c .before .before .before .before .before .before .before .before .before .before .before .before .args .c .low) (c .before .before .before .before .before .before .before .before .before .before .before .before .args .c .high) (c .before .before .before .before .before .before .before .before .before .before .before .before .args .c .count) (c .before .before .before .before .before .before .before .before .before .before .before .before .args .marks .now) (omega (arith, c .before .before .before .before .before .before .before .before .before .before .if1 .left)) (c .before .before .before .before .before .before .before .before .before .name-start .result) (c .before .before .before .before .before .before .before .before .before .name-start .ensures) (c .before .before .before .before .before .before .before .is-left .result) (c .before .before .before .before .before .before .before .before .reserved-name .result) (c .before .before .before .before .before .before .before .is-left .ensures) (c .before .before .before .before .before .before .before .before .reserved-name .ensures) _ (c .if5 .taken)
+returns-5 c = met-reserved (c .before .before .before .before .before .before .before .before .before .before .before .before .args .mode)
+    (c .before .before .before .before .before .before .before .before .before .before .before .before .args .text .now)
+    (c .before .before .before .before .before .before .before .before .before .before .before .before .args .at)
+    (c .before .before .before .before .before .before .before .before .before .before .before .before .args .t)
+    (c .before .before .before .before .before .before .before .before .before .before .before .before .pre .0)
+    (c .before .before .before .before .before .before .before .before .before .before .before .before .pre .1)
+    (c .before .before .before .before .before .before .before .before .before .before .before .before .args .a .now)
+    (c .before .before .before .before .before .before .before .before .before .before .before .before .args .c .low)
+    (c .before .before .before .before .before .before .before .before .before .before .before .before .args .c .high)
+    (c .before .before .before .before .before .before .before .before .before .before .before .before .args .c .count)
+    (c .before .before .before .before .before .before .before .before .before .before .before .before .args .marks .now)
+    (omega (arith, c .before .before .before .before .before .before .before .before .before .before .if1 .left))
+    (c .before .before .before .before .before .before .before .before .before .name-start .result)
+    (c .before .before .before .before .before .before .before .before .before .name-start .ensures) (c .before .before .before .before .before .before .before .is-left .result)
+    (c .before .before .before .before .before .before .before .before .reserved-name .result) (c .before .before .before .before .before .before .before .is-left .ensures)
+    (c .before .before .before .before .before .before .before .before .reserved-name .ensures) _ (c .if5 .taken)
 
 enter-requires : tie.Need-enter-requires
-enter-requires c κs = (c .before .before .before .before .before .before .before .before .before .before .before .before .before .pre .3 .fits, (c .before .before .before .before .before .pack .ensures (c .before .before .before .before .if3 .left)) .fits, c .before .before .before .before .before .before .before .before .before .before .before .before .before .pre .3 .few)
+enter-requires c κs = (
+  c .before .before .before .before .before .before .before .before .before .before .before .before .before .pre .3 .fits,
+  (c .before .before .before .before .before .pack .ensures
+      (c .before .before .before .before .if3 .left)) .fits,
+  c .before .before .before .before .before .before .before .before .before .before .before .before .before .pre .3 .few,
+)
 
 returns-6 : tie.Need-returns-6
-returns-6 c = met-enter (c .before .before .before .before .before .before .before .before .before .before .before .before .before .before .args .mode) (c .before .before .before .before .before .before .before .before .before .before .before .before .before .before .args .text .now) (c .before .before .before .before .before .before .before .before .before .before .before .before .before .before .args .at) (c .before .before .before .before .before .before .before .before .before .before .before .before .before .before .args .t) (c .before .before .before .before .before .before .before .before .before .before .before .before .before .before .pre .0) (c .before .before .before .before .before .before .before .before .before .before .before .before .before .before .pre .1) (c .before .before .before .before .before .before .before .before .before .before .before .before .before .before .args .a .now) (c .before .before .before .before .before .before .before .before .before .before .before .before .before .before .args .c .low) (c .before .before .before .before .before .before .before .before .before .before .before .before .before .before .args .c .high) (c .before .before .before .before .before .before .before .before .before .before .before .before .before .before .args .c .count) (c .before .before .before .before .before .before .before .before .before .before .before .before .before .before .args .marks .now) (omega (arith, c .before .before .before .before .before .before .before .before .before .before .before .before .if1 .left)) (c .before .before .before .before .before .before .before .before .before .before .before .name-start .result) (c .before .before .before .before .before .before .before .before .before .before .before .name-start .ensures) (c .before .before .before .before .before .before .before .before .before .is-left .result) (c .before .before .before .before .before .before .before .before .before .before .reserved-name .result) (c .before .before .before .before .before .before .before .before .before .is-left .ensures) (c .before .before .before .before .before .before .before .before .before .before .reserved-name .ensures) (c .before .before .before .before .before .before .pack .result) (c .before .before .before .before .before .before .pack .ensures (c .before .before .before .before .before .if3 .left)) (c .enter .result) _ (or-left _ _ (sym (c .before .before .before .before .before .before .before .before .either .ensures) ∙ not-false _ (c .before .before .before .before .before .before .before .if2 .left)) (c .before .before .if5 .left)) (c .before .before .if5 .left) (sym (not-false _ (c .before .before .before .if4 .left)) ∙ c .before .before .before .before .in-range .ensures) (c .enter .ensures)
+returns-6 c = met-enter (c .before .before .before .before .before .before .before .before .before .before .before .before .before .before .args .mode)
+    (c .before .before .before .before .before .before .before .before .before .before .before .before .before .before .args .text .now)
+    (c .before .before .before .before .before .before .before .before .before .before .before .before .before .before .args .at)
+    (c .before .before .before .before .before .before .before .before .before .before .before .before .before .before .args .t)
+    (c .before .before .before .before .before .before .before .before .before .before .before .before .before .before .pre .0)
+    (c .before .before .before .before .before .before .before .before .before .before .before .before .before .before .pre .1)
+    (c .before .before .before .before .before .before .before .before .before .before .before .before .before .before .args .a .now)
+    (c .before .before .before .before .before .before .before .before .before .before .before .before .before .before .args .c .low)
+    (c .before .before .before .before .before .before .before .before .before .before .before .before .before .before .args .c .high)
+    (c .before .before .before .before .before .before .before .before .before .before .before .before .before .before .args .c .count)
+    (c .before .before .before .before .before .before .before .before .before .before .before .before .before .before .args .marks .now)
+    (omega (arith, c .before .before .before .before .before .before .before .before .before .before .before .before .if1 .left))
+    (c .before .before .before .before .before .before .before .before .before .before .before .name-start .result)
+    (c .before .before .before .before .before .before .before .before .before .before .before .name-start .ensures)
+    (c .before .before .before .before .before .before .before .before .before .is-left .result)
+    (c .before .before .before .before .before .before .before .before .before .before .reserved-name .result)
+    (c .before .before .before .before .before .before .before .before .before .is-left .ensures)
+    (c .before .before .before .before .before .before .before .before .before .before .reserved-name .ensures) (c .before .before .before .before .before .before .pack .result)
+    (c .before .before .before .before .before .before .pack .ensures (c .before .before .before .before .before .if3 .left)) (c .enter .result) _
+    (or-left _ _ (sym (c .before .before .before .before .before .before .before .before .either .ensures) ∙ not-false _
+    (c .before .before .before .before .before .before .before .if2 .left)) (c .before .before .if5 .left)) (c .before .before .if5 .left)
+    (sym (not-false _ (c .before .before .before .if4 .left)) ∙ c .before .before .before .before .in-range .ensures) (c .enter .ensures)
 
 pub meet-spec : {M : Type 1} → statement M
 meet-spec =

@@ -15,13 +15,21 @@ token-at-requires : tie.Need-token-at-requires
 token-at-requires c κs = search needs
 
 returns : tie.Need-returns
-returns c = place-none (c .before .before .before .before .args .mode) (c .before .before .before .before .args .text .now) (c .before .before .before .before .args .at) (c .before .before .token-at .result) (c .before .before .token-at .ensures) (c .if1 .taken)
+returns c = place-none (c .before .before .before .before .args .mode) (c .before .before .before .before .args .text .now) (c .before .before .before .before .args .at)
+    (c .before .before .token-at .result) (c .before .before .token-at .ensures) (c .if1 .taken)
 
 add-result : tie.Need-add-result
-add-result c = omega (arith, here (c .before .before .before .before .before .args .mode) (c .before .before .before .before .before .args .text .now) (c .before .before .before .before .before .args .at) (c .before .before .before .token-at .result) (c .before .before .before .token-at .ensures) (c .before .if1 .left) .before-end, c .before .before .before .before .before .pre)
+add-result c = omega (
+  arith,
+  here (c .before .before .before .before .before .args .mode) (c .before .before .before .before .before .args .text .now)
+      (c .before .before .before .before .before .args .at) (c .before .before .before .token-at .result) (c .before .before .before .token-at .ensures)
+      (c .before .if1 .left) .before-end,
+  c .before .before .before .before .before .pre,
+)
 
 returns-2 : tie.Need-returns-2
-returns-2 c = place-some (c .before .before .before .before .before .args .mode) (c .before .before .before .before .before .args .text .now) (c .before .before .before .before .before .args .at) (c .before .before .before .token-at .result) (c .before .before .before .token-at .ensures) (c .before .if1 .left)
+returns-2 c = place-some (c .before .before .before .before .before .args .mode) (c .before .before .before .before .before .args .text .now)
+    (c .before .before .before .before .before .args .at) (c .before .before .before .token-at .result) (c .before .before .before .token-at .ensures) (c .before .if1 .left)
 
 pub place-of-spec : {M : Type 1} → statement M
 place-of-spec = tie.close (tie.spec token-at-requires returns add-result returns-2)

@@ -20,10 +20,21 @@ returns : tie.Need-returns
 returns c = λ z. absurd (z refl)
 
 uses-requires : tie.Need-uses-requires
-uses-requires c κs = (c .before .before .before .before .before .pre .0, c .before .before .before .before .before .pre .1, c .before .before .before .before .before .pre .2, c .before .before .sweep .ensures (λ z. omega (arith, z, c .before .if1 .left, c .before .before .before .before .before .pre .0)) .1 (c .before .if1 .left))
+uses-requires c κs = (
+  c .before .before .before .before .before .pre .0,
+  c .before .before .before .before .before .pre .1,
+  c .before .before .before .before .before .pre .2,
+  c .before .before .sweep .ensures (λ z. omega (arith, z, c .before .if1 .left, c .before .before .before .before .before .pre .0)) .1 (c .before .if1 .left),
+)
 
 returns-2 : tie.Need-returns-2
-returns-2 c = λ z. (c .uses .ensures z, subst (λ (r : ℕ). Swept4 (c .before .before .before .before .before .before .args .mode) (c .before .before .before .before .before .before .args .text .now) (c .before .before .before .before .before .before .args .c .low) (c .before .before .before .before .before .before .args .c .high) (length (c .before .before .before .before .before .before .args .text .now)) r) (c .before .before .if1 .left) (c .before .before .before .sweep .ensures (λ z. omega (arith, z, c .before .before .if1 .left, c .before .before .before .before .before .before .pre .0)) .0))
+returns-2 c = λ z. (
+  c .uses .ensures z,
+  subst (λ (r : ℕ). Swept4 (c .before .before .before .before .before .before .args .mode)
+      (c .before .before .before .before .before .before .args .text .now) (c .before .before .before .before .before .before .args .c .low)
+      (c .before .before .before .before .before .before .args .c .high) (length (c .before .before .before .before .before .before .args .text .now)) r)
+      (c .before .before .if1 .left) (c .before .before .before .sweep .ensures (λ z. omega (arith, z, c .before .before .if1 .left, c .before .before .before .before .before .before .pre .0)) .0),
+)
 
 pub unruled-in-spec : {M : Type 1} → statement M
 unruled-in-spec = tie.close (tie.spec sweep-requires returns uses-requires returns-2)

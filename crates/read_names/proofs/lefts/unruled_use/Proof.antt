@@ -23,13 +23,30 @@ abbrev μ-loop : tie.MeasureT-loop
 μ-loop mode text a₀ low₀ limit₀ passed₀ a low limit passed = 64 - passed
 
 loop-holds : tie.Need-loop-holds Inv-loop μ-loop
-loop-holds c = (fits-new (c .before .args .text .now) 20480, fits-none (c .before .args .text .now), upto-none (c .before .args .mode) (c .before .args .text .now) (lacks5 (c .before .args .mode) (c .before .args .text .now)), upto-none (c .before .args .mode) (c .before .args .text .now) (second4 (c .before .args .mode) (c .before .args .text .now)))
+loop-holds c = (
+  fits-new (c .before .args .text .now) 20480,
+  fits-none (c .before .args .text .now),
+  upto-none (c .before .args .mode) (c .before .args .text .now)
+      (lacks5 (c .before .args .mode) (c .before .args .text .now)),
+  upto-none (c .before .args .mode) (c .before .args .text .now) (second4 (c .before .args .mode) (c .before .args .text .now)),
+)
 
 gather-requires : tie.Need-gather-requires Inv-loop μ-loop
 gather-requires c κs = (c .before .before .before .before .pre, c .before .before .loop .inv .0, c .before .before .loop .inv .1)
 
 unruled-in-requires : tie.Need-unruled-in-requires Inv-loop μ-loop
-unruled-in-requires c κs = (c .before .before .before .before .before .before .pre, record { fits = c .before .gather .ensures .fits; from = subst (inText (c .before .before .before .before .before .before .args .text .now)) (sym (c .before .gather .ensures .above)) (c .before .before .before .before .loop .inv .1); bound = c .before .gather .ensures .bound; few = c .before .gather .ensures .few }, c .before .before .before .before .loop .inv .2 .less)
+unruled-in-requires c κs = (
+  c .before .before .before .before .before .before .pre,
+  record {
+    fits = c .before .gather .ensures .fits;
+    from = subst
+        (inText (c .before .before .before .before .before .before .args .text .now)) (sym (c .before .gather .ensures .above))
+        (c .before .before .before .before .loop .inv .1);
+    bound = c .before .gather .ensures .bound;
+    few = c .before .gather .ensures .few;
+  },
+  c .before .before .before .before .loop .inv .2 .less,
+)
 
 returns : tie.Need-returns Inv-loop μ-loop
 returns c = λ z. absurd (z refl)
@@ -38,7 +55,37 @@ place-of-requires : tie.Need-place-of-requires Inv-loop μ-loop
 place-of-requires c κs = search needs
 
 returns-2 : tie.Need-returns-2 Inv-loop μ-loop
-returns-2 c = λ z. (second-none (c .before .before .before .before .before .before .before .before .before .before .args .mode) (c .before .before .before .before .before .before .before .before .before .before .args .text .now) (upto-all (c .before .before .before .before .before .before .before .before .before .before .args .mode) (c .before .before .before .before .before .before .before .before .before .before .args .text .now) (second4 (c .before .before .before .before .before .before .before .before .before .before .args .mode) (c .before .before .before .before .before .before .before .before .before .before .args .text .now)) (c .before .before .before .before .before .before .before .before .loop .inv .3) (c .before .before .before .before .before .gather .result .high) _ (swept-low (c .before .before .before .before .before .before .before .before .before .before .args .mode) (c .before .before .before .before .before .before .before .before .before .before .args .text .now) (second4 (c .before .before .before .before .before .before .before .before .before .before .args .mode) (c .before .before .before .before .before .before .before .before .before .before .args .text .now)) (c .before .before .before .before .before .gather .result .low) (c .before .before .before .before .before .before .before .before .loop .low) (c .before .before .before .before .before .gather .result .high) _ _ (c .before .before .before .before .before .gather .ensures .above) (c .before .before .before .unruled-in .ensures (c .before .before .if1 .left) .1)) (c .before .if2 .taken)), unruled-says (c .before .before .before .before .before .before .before .before .before .before .args .mode) (c .before .before .before .before .before .before .before .before .before .before .args .text .now) (c .before .before .before .unruled-in .result) (c .place-of .result) (upto-all (c .before .before .before .before .before .before .before .before .before .before .args .mode) (c .before .before .before .before .before .before .before .before .before .before .args .text .now) (lacks5 (c .before .before .before .before .before .before .before .before .before .before .args .mode) (c .before .before .before .before .before .before .before .before .before .before .args .text .now)) (c .before .before .before .before .before .before .before .before .loop .inv .2) (c .before .before .before .before .before .gather .result .high) (c .before .before .before .unruled-in .result) (swept-low (c .before .before .before .before .before .before .before .before .before .before .args .mode) (c .before .before .before .before .before .before .before .before .before .before .args .text .now) (lacks5 (c .before .before .before .before .before .before .before .before .before .before .args .mode) (c .before .before .before .before .before .before .before .before .before .before .args .text .now)) (c .before .before .before .before .before .gather .result .low) (c .before .before .before .before .before .before .before .before .loop .low) (c .before .before .before .before .before .gather .result .high) (c .before .before .before .before .before .before .before .before .loop .limit) (c .before .before .before .unruled-in .result) (c .before .before .before .before .before .gather .ensures .above) (c .before .before .before .unruled-in .ensures (c .before .before .if1 .left) .0)) (c .before .if2 .taken)) (c .place-of .ensures))
+returns-2 c = λ z. (
+  second-none (c .before .before .before .before .before .before .before .before .before .before .args .mode)
+      (c .before .before .before .before .before .before .before .before .before .before .args .text .now)
+      (upto-all (c .before .before .before .before .before .before .before .before .before .before .args .mode)
+      (c .before .before .before .before .before .before .before .before .before .before .args .text .now)
+      (second4 (c .before .before .before .before .before .before .before .before .before .before .args .mode)
+      (c .before .before .before .before .before .before .before .before .before .before .args .text .now))
+      (c .before .before .before .before .before .before .before .before .loop .inv .3) (c .before .before .before .before .before .gather .result .high) _
+      (swept-low (c .before .before .before .before .before .before .before .before .before .before .args .mode)
+      (c .before .before .before .before .before .before .before .before .before .before .args .text .now)
+      (second4 (c .before .before .before .before .before .before .before .before .before .before .args .mode)
+      (c .before .before .before .before .before .before .before .before .before .before .args .text .now)) (c .before .before .before .before .before .gather .result .low)
+      (c .before .before .before .before .before .before .before .before .loop .low) (c .before .before .before .before .before .gather .result .high) _ _
+      (c .before .before .before .before .before .gather .ensures .above) (c .before .before .before .unruled-in .ensures (c .before .before .if1 .left) .1))
+      (c .before .if2 .taken)),
+  unruled-says (c .before .before .before .before .before .before .before .before .before .before .args .mode)
+      (c .before .before .before .before .before .before .before .before .before .before .args .text .now) (c .before .before .before .unruled-in .result) (c .place-of .result)
+      (upto-all (c .before .before .before .before .before .before .before .before .before .before .args .mode)
+      (c .before .before .before .before .before .before .before .before .before .before .args .text .now)
+      (lacks5 (c .before .before .before .before .before .before .before .before .before .before .args .mode)
+      (c .before .before .before .before .before .before .before .before .before .before .args .text .now))
+      (c .before .before .before .before .before .before .before .before .loop .inv .2) (c .before .before .before .before .before .gather .result .high)
+      (c .before .before .before .unruled-in .result) (swept-low (c .before .before .before .before .before .before .before .before .before .before .args .mode)
+      (c .before .before .before .before .before .before .before .before .before .before .args .text .now)
+      (lacks5 (c .before .before .before .before .before .before .before .before .before .before .args .mode)
+      (c .before .before .before .before .before .before .before .before .before .before .args .text .now)) (c .before .before .before .before .before .gather .result .low)
+      (c .before .before .before .before .before .before .before .before .loop .low) (c .before .before .before .before .before .gather .result .high)
+      (c .before .before .before .before .before .before .before .before .loop .limit) (c .before .before .before .unruled-in .result)
+      (c .before .before .before .before .before .gather .ensures .above) (c .before .before .before .unruled-in .ensures (c .before .before .if1 .left) .0)) (c .before .if2 .taken))
+      (c .place-of .ensures),
+)
 
 add-passed : tie.Need-add-passed Inv-loop μ-loop
 add-passed c = search needs
@@ -47,7 +94,35 @@ loop-less : tie.Need-loop-less Inv-loop μ-loop
 loop-less c = omega (arith, c .before .before .before .before .before .before .loop-test .taken)
 
 loop-again : tie.Need-loop-again Inv-loop μ-loop
-loop-again c = (c .before .before .before .before .gather .ensures .fits, c .before .before .before .before .gather .ensures .bound, upto-next (c .before .before .before .before .before .before .before .before .before .args .mode) (c .before .before .before .before .before .before .before .before .before .args .text .now) (lacks5 (c .before .before .before .before .before .before .before .before .before .args .mode) (c .before .before .before .before .before .before .before .before .before .args .text .now)) (c .before .before .before .before .before .before .before .loop .inv .2) (c .before .before .before .before .gather .result .high) (c .before .before .unruled-in .result) (swept-low (c .before .before .before .before .before .before .before .before .before .args .mode) (c .before .before .before .before .before .before .before .before .before .args .text .now) (lacks5 (c .before .before .before .before .before .before .before .before .before .args .mode) (c .before .before .before .before .before .before .before .before .before .args .text .now)) (c .before .before .before .before .gather .result .low) (c .before .before .before .before .before .before .before .loop .low) (c .before .before .before .before .gather .result .high) (c .before .before .before .before .before .before .before .loop .limit) (c .before .before .unruled-in .result) (c .before .before .before .before .gather .ensures .above) (c .before .before .unruled-in .ensures (c .before .if1 .left) .0)) (c .if2 .left), upto-next (c .before .before .before .before .before .before .before .before .before .args .mode) (c .before .before .before .before .before .before .before .before .before .args .text .now) (second4 (c .before .before .before .before .before .before .before .before .before .args .mode) (c .before .before .before .before .before .before .before .before .before .args .text .now)) (c .before .before .before .before .before .before .before .loop .inv .3) (c .before .before .before .before .gather .result .high) _ (swept-low (c .before .before .before .before .before .before .before .before .before .args .mode) (c .before .before .before .before .before .before .before .before .before .args .text .now) (second4 (c .before .before .before .before .before .before .before .before .before .args .mode) (c .before .before .before .before .before .before .before .before .before .args .text .now)) (c .before .before .before .before .gather .result .low) (c .before .before .before .before .before .before .before .loop .low) (c .before .before .before .before .gather .result .high) _ _ (c .before .before .before .before .gather .ensures .above) (c .before .before .unruled-in .ensures (c .before .if1 .left) .1)) (c .if2 .left))
+loop-again c = (
+  c .before .before .before .before .gather .ensures .fits,
+  c .before .before .before .before .gather .ensures .bound,
+  upto-next
+      (c .before .before .before .before .before .before .before .before .before .args .mode)
+      (c .before .before .before .before .before .before .before .before .before .args .text .now)
+      (lacks5 (c .before .before .before .before .before .before .before .before .before .args .mode)
+      (c .before .before .before .before .before .before .before .before .before .args .text .now)) (c .before .before .before .before .before .before .before .loop .inv .2)
+      (c .before .before .before .before .gather .result .high) (c .before .before .unruled-in .result)
+      (swept-low (c .before .before .before .before .before .before .before .before .before .args .mode)
+      (c .before .before .before .before .before .before .before .before .before .args .text .now)
+      (lacks5 (c .before .before .before .before .before .before .before .before .before .args .mode)
+      (c .before .before .before .before .before .before .before .before .before .args .text .now)) (c .before .before .before .before .gather .result .low)
+      (c .before .before .before .before .before .before .before .loop .low) (c .before .before .before .before .gather .result .high)
+      (c .before .before .before .before .before .before .before .loop .limit) (c .before .before .unruled-in .result) (c .before .before .before .before .gather .ensures .above)
+      (c .before .before .unruled-in .ensures (c .before .if1 .left) .0)) (c .if2 .left),
+  upto-next
+      (c .before .before .before .before .before .before .before .before .before .args .mode)
+      (c .before .before .before .before .before .before .before .before .before .args .text .now)
+      (second4 (c .before .before .before .before .before .before .before .before .before .args .mode)
+      (c .before .before .before .before .before .before .before .before .before .args .text .now)) (c .before .before .before .before .before .before .before .loop .inv .3)
+      (c .before .before .before .before .gather .result .high) _
+      (swept-low (c .before .before .before .before .before .before .before .before .before .args .mode)
+      (c .before .before .before .before .before .before .before .before .before .args .text .now)
+      (second4 (c .before .before .before .before .before .before .before .before .before .args .mode)
+      (c .before .before .before .before .before .before .before .before .before .args .text .now)) (c .before .before .before .before .gather .result .low)
+      (c .before .before .before .before .before .before .before .loop .low) (c .before .before .before .before .gather .result .high) _ _
+      (c .before .before .before .before .gather .ensures .above) (c .before .before .unruled-in .ensures (c .before .if1 .left) .1)) (c .if2 .left),
+)
 
 returns-3 : tie.Need-returns-3 Inv-loop μ-loop
 returns-3 c = λ z. absurd (z refl)

@@ -28,7 +28,13 @@ open-bound-requires c κs = search needs
 
 returns-3 : tie.Need-returns-3
 unfolding overBy
-returns-3 c = rw (lt-leb (c .before .before .before .before .args .kind) 2 (omega (arith, c .before .before .before .if1 .left)), ne-eqb _ _ (c .before .before .if2 .left), eq-eqb _ _ (c .before .if3 .taken), c .open-bound .ensures)
+returns-3 c = rw (
+  lt-leb (c .before .before .before .before .args .kind) 2 (omega (arith, c .before .before .before .if1 .left)),
+  ne-eqb _ _
+      (c .before .before .if2 .left),
+  eq-eqb _ _ (c .before .if3 .taken),
+  c .open-bound .ensures,
+)
 
 returns-4 : tie.Need-returns-4
 unfolding overBy

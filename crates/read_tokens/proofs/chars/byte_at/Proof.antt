@@ -16,7 +16,11 @@ wide-requires : tie.Need-wide-requires
 wide-requires c κs = search needs
 
 returns : tie.Need-returns
-returns c = (c .wide .ensures .0 ∙ getD-inside (c .before .before .before .before .args .text .now) (c .before .before .before .before .args .at) 0 256 (c .before .before .if1 .taken), omega (arith, c .wide .ensures .1))
+returns c = (
+  c .wide .ensures .0 ∙ getD-inside (c .before .before .before .before .args .text .now) (c .before .before .before .before .args .at) 0 256
+      (c .before .before .if1 .taken),
+  omega (arith, c .wide .ensures .1),
+)
 
 returns-2 : tie.Need-returns-2
 returns-2 c = (sym (List·getD-eq-default (c .before .before .args .text .now) 256 (c .if1 .left)), omega arith)

@@ -42,7 +42,9 @@ char-of-requires : tie.Need-char-of-requires
 char-of-requires c κs = c .before .before .before .byte-at .ensures .1
 
 returns-2 : tie.Need-returns-2
-returns-2 c = c .char-of .ensures ∙ ap charOf (char-is (c .before .before .before .before .before .before .before .args .text .now) (c .before .before .before .before .before .before .before .args .at) _ _ _ _ (c .before .before .before .before .byte-at .ensures .0) (c .before .before .before .byte-at2 .ensures .0) (c .before .before .byte-at3 .ensures .0) (c .before .byte-at4 .ensures .0))
+returns-2 c = c .char-of .ensures ∙ ap charOf (char-is (c .before .before .before .before .before .before .before .args .text .now)
+    (c .before .before .before .before .before .before .before .args .at) _ _ _ _ (c .before .before .before .before .byte-at .ensures .0)
+    (c .before .before .before .byte-at2 .ensures .0) (c .before .before .byte-at3 .ensures .0) (c .before .byte-at4 .ensures .0))
 
 pub char-at-spec : {M : Type 1} → statement M
 char-at-spec =

@@ -40,7 +40,8 @@ unfolding letters
 returns-8 c = ap charOf (letters-at _ 92 (c .match .keys8))
 
 returns-9 : tie.Need-returns-9
-returns-9 c = let r = c .match .rest in ap charOf (letters-no _ (r .0 .0 .0 .0 .0 .0 .0 .1) (r .0 .0 .0 .0 .0 .0 .1) (r .0 .0 .0 .0 .0 .1) (r .0 .0 .0 .0 .1) (r .0 .0 .0 .1) (r .0 .0 .1) (r .0 .1) (r .1))
+returns-9 c = let r = c .match .rest in ap charOf (letters-no _ (r .0 .0 .0 .0 .0 .0 .0 .1) (r .0 .0 .0 .0 .0 .0 .1) (r .0 .0 .0 .0 .0 .1) (r .0 .0 .0 .0 .1) (r .0 .0 .0 .1)
+    (r .0 .0 .1) (r .0 .1) (r .1))
 
 pub letter-of-spec : {M : Type 1} → statement M
 letter-of-spec =

@@ -30,25 +30,85 @@ add-t12 : tie.Need-add-t12 Inv-loop μ-loop
 add-t12 c = search needs
 
 returns : tie.Need-returns Inv-loop μ-loop
-returns c = at-quote (c .before .before .before .before .before .args .q) (c .before .before .before .before .before .args .text .now) (c .before .before .before .loop .i) (c .before .before .before .loop .n) (c .before .before .loop-test .taken) (c .if1 .taken) ∙ c .before .before .before .loop .inv .2
+returns c = at-quote (c .before .before .before .before .before .args .q) (c .before .before .before .before .before .args .text .now) (c .before .before .before .loop .i)
+    (c .before .before .before .loop .n) (c .before .before .loop-test .taken) (c .if1 .taken) ∙ c .before .before .before .loop .inv .2
 
 char-at-requires : tie.Need-char-at-requires Inv-loop μ-loop
 char-at-requires c κs = search needs
 
 returns-2 : tie.Need-returns-2 Inv-loop μ-loop
-returns-2 c = no-char (c .before .before .before .before .before .before .before .args .q) (c .before .before .before .before .before .before .before .args .text .now) (c .before .before .before .before .before .loop .i) (c .before .before .before .before .before .loop .n) (c .before .before .before .before .loop-test .taken) (c .before .before .if1 .left) (sym (width-of _ (c .before .char-at .ensures)) ∙ c .if2 .taken) ∙ c .before .before .before .before .before .loop .inv .2
+returns-2 c = no-char (c .before .before .before .before .before .before .before .args .q) (c .before .before .before .before .before .before .before .args .text .now)
+    (c .before .before .before .before .before .loop .i) (c .before .before .before .before .before .loop .n) (c .before .before .before .before .loop-test .taken)
+    (c .before .before .if1 .left) (sym (width-of _ (c .before .char-at .ensures)) ∙ c .if2 .taken) ∙ c .before .before .before .before .before .loop .inv .2
 
 add-n : tie.Need-add-n Inv-loop μ-loop
-add-n c = omega (arith, c .before .before .before .before .loop-test .taken, width-of _ (c .before .char-at .ensures), width-inside (c .before .before .before .before .before .before .before .args .text .now) (c .before .before .before .before .before .loop .i) (c .before .before .before .before .before .loop .inv .0), c .if2 .left, c .before .before .before .before .before .loop .inv .0, c .before .before .before .before .before .loop .inv .1)
+add-n c = omega (
+  arith,
+  c .before .before .before .before .loop-test .taken,
+  width-of _ (c .before .char-at .ensures),
+  width-inside
+      (c .before .before .before .before .before .before .before .args .text .now) (c .before .before .before .before .before .loop .i)
+      (c .before .before .before .before .before .loop .inv .0),
+  c .if2 .left,
+  c .before .before .before .before .before .loop .inv .0,
+  c .before .before .before .before .before .loop .inv .1,
+)
 
 add-i : tie.Need-add-i Inv-loop μ-loop
-add-i c = omega (arith, c .before .before .before .before .loop-test .taken, width-of _ (c .before .char-at .ensures), width-inside (c .before .before .before .before .before .before .before .args .text .now) (c .before .before .before .before .before .loop .i) (c .before .before .before .before .before .loop .inv .0), c .if2 .left, c .before .before .before .before .before .loop .inv .0, c .before .before .before .before .before .loop .inv .1)
+add-i c = omega (
+  arith,
+  c .before .before .before .before .loop-test .taken,
+  width-of _ (c .before .char-at .ensures),
+  width-inside
+      (c .before .before .before .before .before .before .before .args .text .now) (c .before .before .before .before .before .loop .i)
+      (c .before .before .before .before .before .loop .inv .0),
+  c .if2 .left,
+  c .before .before .before .before .before .loop .inv .0,
+  c .before .before .before .before .before .loop .inv .1,
+)
 
 loop-less : tie.Need-loop-less Inv-loop μ-loop
-loop-less c = omega (arith, c .before .before .before .before .loop-test .taken, width-of _ (c .before .char-at .ensures), width-inside (c .before .before .before .before .before .before .before .args .text .now) (c .before .before .before .before .before .loop .i) (c .before .before .before .before .before .loop .inv .0), c .if2 .left, c .before .before .before .before .before .loop .inv .0, c .before .before .before .before .before .loop .inv .1)
+loop-less c = omega (
+  arith,
+  c .before .before .before .before .loop-test .taken,
+  width-of _ (c .before .char-at .ensures),
+  width-inside
+      (c .before .before .before .before .before .before .before .args .text .now) (c .before .before .before .before .before .loop .i)
+      (c .before .before .before .before .before .loop .inv .0),
+  c .if2 .left,
+  c .before .before .before .before .before .loop .inv .0,
+  c .before .before .before .before .before .loop .inv .1,
+)
 
 loop-again : tie.Need-loop-again Inv-loop μ-loop
-loop-again c = (omega (arith, c .before .before .before .before .loop-test .taken, width-of _ (c .before .char-at .ensures), width-inside (c .before .before .before .before .before .before .before .args .text .now) (c .before .before .before .before .before .loop .i) (c .before .before .before .before .before .loop .inv .0), c .if2 .left, c .before .before .before .before .before .loop .inv .0, c .before .before .before .before .before .loop .inv .1), omega (arith, c .before .before .before .before .loop-test .taken, width-of _ (c .before .char-at .ensures), width-inside (c .before .before .before .before .before .before .before .args .text .now) (c .before .before .before .before .before .loop .i) (c .before .before .before .before .before .loop .inv .0), c .if2 .left, c .before .before .before .before .before .loop .inv .0, c .before .before .before .before .before .loop .inv .1), one-char (c .before .before .before .before .before .before .before .args .q) (c .before .before .before .before .before .before .before .args .text .now) (c .before .before .before .before .before .loop .i) (c .before .before .before .before .before .loop .n) _ (c .before .before .before .before .loop-test .taken) (c .before .before .if1 .left) (width-of _ (c .before .char-at .ensures)) (c .if2 .left) ∙ c .before .before .before .before .before .loop .inv .2)
+loop-again c = (
+  omega (
+    arith,
+    c .before .before .before .before .loop-test .taken,
+    width-of _ (c .before .char-at .ensures),
+    width-inside
+        (c .before .before .before .before .before .before .before .args .text .now) (c .before .before .before .before .before .loop .i)
+        (c .before .before .before .before .before .loop .inv .0),
+    c .if2 .left,
+    c .before .before .before .before .before .loop .inv .0,
+    c .before .before .before .before .before .loop .inv .1,
+  ),
+  omega (
+    arith,
+    c .before .before .before .before .loop-test .taken,
+    width-of _ (c .before .char-at .ensures),
+    width-inside
+        (c .before .before .before .before .before .before .before .args .text .now) (c .before .before .before .before .before .loop .i)
+        (c .before .before .before .before .before .loop .inv .0),
+    c .if2 .left,
+    c .before .before .before .before .before .loop .inv .0,
+    c .before .before .before .before .before .loop .inv .1,
+  ),
+  one-char (c .before .before .before .before .before .before .before .args .q)
+      (c .before .before .before .before .before .before .before .args .text .now) (c .before .before .before .before .before .loop .i)
+      (c .before .before .before .before .before .loop .n) _ (c .before .before .before .before .loop-test .taken) (c .before .before .if1 .left)
+      (width-of _ (c .before .char-at .ensures)) (c .if2 .left) ∙ c .before .before .before .before .before .loop .inv .2,
+)
 
 returns-3 : tie.Need-returns-3 Inv-loop μ-loop
 returns-3 c = at-end (c .before .before .before .args .q) (c .before .before .before .args .text .now) (c .before .loop .i) (c .before .loop .n) (c .loop-test .left) ∙ c .before .loop .inv .2

@@ -22,7 +22,8 @@ char-is-requires : tie.Need-char-is-requires
 char-is-requires c κs = search needs
 
 returns : tie.Need-returns
-returns c = c .char-is .ensures ∙ ap charOf (octals-1 _ _ _ _ _ _ (c .before .before .before .digit-of .ensures .0) refl refl (sym (c .before .before .is-octal .ensures) ∙ not-true _ (c .before .if1 .taken)))
+returns c = c .char-is .ensures ∙ ap charOf (octals-1 _ _ _ _ _ _ (c .before .before .before .digit-of .ensures .0) refl refl
+    (sym (c .before .before .is-octal .ensures) ∙ not-true _ (c .before .if1 .taken)))
 
 digit-of-requires-2 : tie.Need-digit-of-requires-2
 digit-of-requires-2 c κs = sym (c .before .is-octal .ensures) ∙ not-false _ (c .if1 .left)
@@ -37,7 +38,8 @@ char-is-requires-2 : tie.Need-char-is-requires-2
 char-is-requires-2 c κs = search needs
 
 returns-2 : tie.Need-returns-2
-returns-2 c = c .char-is2 .ensures ∙ ap charOf (octals-2 _ _ _ _ _ _ (c .before .before .before .before .before .digit-of .ensures .0) (c .before .before .digit-of2 .ensures .0) refl (sym (c .before .before .before .before .is-octal .ensures) ∙ not-false _ (c .before .before .before .if1 .left)) (c .before .if2 .taken))
+returns-2 c = c .char-is2 .ensures ∙ ap charOf (octals-2 _ _ _ _ _ _ (c .before .before .before .before .before .digit-of .ensures .0)
+    (c .before .before .digit-of2 .ensures .0) refl (sym (c .before .before .before .before .is-octal .ensures) ∙ not-false _ (c .before .before .before .if1 .left)) (c .before .if2 .taken))
 
 is-octal-requires-2 : tie.Need-is-octal-requires-2
 is-octal-requires-2 c κs = search needs
@@ -52,7 +54,10 @@ char-is-requires-3 : tie.Need-char-is-requires-3
 char-is-requires-3 c κs = search needs
 
 returns-3 : tie.Need-returns-3
-returns-3 c = c .char-is3 .ensures ∙ ap charOf (octals-2′ _ _ _ _ _ _ (c .before .before .before .before .before .before .before .digit-of .ensures .0) (c .before .before .before .before .digit-of2 .ensures .0) refl (sym (c .before .before .before .before .before .before .is-octal .ensures) ∙ not-false _ (c .before .before .before .before .before .if1 .left)) (omega (arith, c .before .before .before .if2 .left)) (sym (c .before .before .is-octal2 .ensures) ∙ not-true _ (c .before .if3 .taken)))
+returns-3 c = c .char-is3 .ensures ∙ ap charOf (octals-2′ _ _ _ _ _ _ (c .before .before .before .before .before .before .before .digit-of .ensures .0)
+    (c .before .before .before .before .digit-of2 .ensures .0) refl
+    (sym (c .before .before .before .before .before .before .is-octal .ensures) ∙ not-false _ (c .before .before .before .before .before .if1 .left))
+    (omega (arith, c .before .before .before .if2 .left)) (sym (c .before .before .is-octal2 .ensures) ∙ not-true _ (c .before .if3 .taken)))
 
 digit-of-requires-3 : tie.Need-digit-of-requires-3
 digit-of-requires-3 c κs = sym (c .before .is-octal2 .ensures) ∙ not-false _ (c .if3 .left)
@@ -73,7 +78,10 @@ char-is-requires-4 : tie.Need-char-is-requires-4
 char-is-requires-4 c κs = search needs
 
 returns-4 : tie.Need-returns-4
-returns-4 c = c .char-is4 .ensures ∙ ap charOf (octals-3 _ _ _ _ _ _ (c .before .before .before .before .before .before .before .before .digit-of .ensures .0) (c .before .before .before .before .before .digit-of2 .ensures .0) (c .before .digit-of3 .ensures .0) (sym (c .before .before .before .before .before .before .before .is-octal .ensures) ∙ not-false _ (c .before .before .before .before .before .before .if1 .left)) (omega (arith, c .before .before .before .before .if2 .left)) (sym (c .before .before .before .is-octal2 .ensures) ∙ not-false _ (c .before .before .if3 .left)))
+returns-4 c = c .char-is4 .ensures ∙ ap charOf (octals-3 _ _ _ _ _ _ (c .before .before .before .before .before .before .before .before .digit-of .ensures .0)
+    (c .before .before .before .before .before .digit-of2 .ensures .0) (c .before .digit-of3 .ensures .0)
+    (sym (c .before .before .before .before .before .before .before .is-octal .ensures) ∙ not-false _ (c .before .before .before .before .before .before .if1 .left))
+    (omega (arith, c .before .before .before .before .if2 .left)) (sym (c .before .before .before .is-octal2 .ensures) ∙ not-false _ (c .before .before .if3 .left)))
 
 pub octal-of-spec : {M : Type 1} → statement M
 octal-of-spec =

@@ -23,7 +23,8 @@ element-copy-out-if1 : tie.Need-element-copy-out-if1 Inv-loop μ-loop
 element-copy-out-if1 c = search needs
 
 returns : tie.Need-returns Inv-loop μ-loop
-returns c = mark-yes (c .before .before .before .loop .i) (c .before .before .before .before .args .marks .now) (c .before .before .loop-test .taken) (c .if1 .taken) ∙ c .before .before .before .loop .inv
+returns c = mark-yes (c .before .before .before .loop .i) (c .before .before .before .before .args .marks .now) (c .before .before .loop-test .taken)
+    (c .if1 .taken) ∙ c .before .before .before .loop .inv
 
 add-i : tie.Need-add-i Inv-loop μ-loop
 add-i c = search needs
@@ -32,7 +33,8 @@ loop-less : tie.Need-loop-less Inv-loop μ-loop
 loop-less c = omega (arith, c .before .before .loop-test .taken)
 
 loop-again : tie.Need-loop-again Inv-loop μ-loop
-loop-again c = mark-no (c .before .before .before .loop .i) (c .before .before .before .before .args .marks .now) (c .before .before .loop-test .taken) (c .if1 .left) ∙ c .before .before .before .loop .inv
+loop-again c = mark-no (c .before .before .before .loop .i) (c .before .before .before .before .args .marks .now) (c .before .before .loop-test .taken)
+    (c .if1 .left) ∙ c .before .before .before .loop .inv
 
 returns-2 : tie.Need-returns-2 Inv-loop μ-loop
 returns-2 c = mark-end (c .before .loop .i) (c .before .before .args .marks .now) (c .loop-test .left) ∙ c .before .loop .inv

@@ -32,16 +32,27 @@ add-class-from : tie.Need-add-class-from
 add-class-from c = search needs
 
 class-from-requires : tie.Need-class-from-requires
-class-from-requires c κs = omega (arith, caret-inside (c .before .before .before .before .before .args .mode) (c .before .before .before .before .before .args .text .now) (c .before .before .before .before .before .args .at + 1) (ap (λ (x : ℕ). caretAt (c .before .before .before .before .before .args .mode) x) (sym (c .before .before .byte-at .ensures .0)) ∙ sym (c .before .is-caret .ensures) ∙ c .if2 .taken))
+class-from-requires c κs = omega (
+  arith,
+  caret-inside (c .before .before .before .before .before .args .mode) (c .before .before .before .before .before .args .text .now)
+      (c .before .before .before .before .before .args .at + 1)
+      (ap (λ (x : ℕ). caretAt (c .before .before .before .before .before .args .mode) x) (sym (c .before .before .byte-at .ensures .0)) ∙ sym (c .before .is-caret .ensures) ∙ c .if2 .taken),
+)
 
 returns-2 : tie.Need-returns-2
-returns-2 c = c .class-from .ensures ∙ class-caret (c .before .before .before .before .before .before .args .mode) (c .before .before .before .before .before .before .args .text .now) (c .before .before .before .before .before .before .args .at) (ap (λ (x : ℕ). caretAt (c .before .before .before .before .before .before .args .mode) x) (sym (c .before .before .before .byte-at .ensures .0)) ∙ sym (c .before .before .is-caret .ensures) ∙ c .before .if2 .taken)
+returns-2 c = c .class-from .ensures ∙ class-caret (c .before .before .before .before .before .before .args .mode)
+    (c .before .before .before .before .before .before .args .text .now) (c .before .before .before .before .before .before .args .at)
+    (ap (λ (x : ℕ). caretAt (c .before .before .before .before .before .before .args .mode) x) (sym (c .before .before .before .byte-at .ensures .0)) ∙ sym
+    (c .before .before .is-caret .ensures) ∙ c .before .if2 .taken)
 
 class-from-requires-2 : tie.Need-class-from-requires-2
 class-from-requires-2 c κs = search needs
 
 returns-3 : tie.Need-returns-3
-returns-3 c = c .class-from2 .ensures ∙ class-raw (c .before .before .before .before .before .before .args .mode) (c .before .before .before .before .before .before .args .text .now) (c .before .before .before .before .before .before .args .at) (ap (λ (x : ℕ). caretAt (c .before .before .before .before .before .before .args .mode) x) (sym (c .before .before .before .byte-at .ensures .0)) ∙ sym (c .before .before .is-caret .ensures) ∙ c .before .if2 .left)
+returns-3 c = c .class-from2 .ensures ∙ class-raw (c .before .before .before .before .before .before .args .mode)
+    (c .before .before .before .before .before .before .args .text .now) (c .before .before .before .before .before .before .args .at)
+    (ap (λ (x : ℕ). caretAt (c .before .before .before .before .before .before .args .mode) x) (sym (c .before .before .before .byte-at .ensures .0)) ∙ sym
+    (c .before .before .is-caret .ensures) ∙ c .before .if2 .left)
 
 pub class-at-spec : {M : Type 1} → statement M
 class-at-spec =

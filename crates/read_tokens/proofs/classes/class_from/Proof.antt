@@ -26,7 +26,8 @@ no-class-requires : tie.Need-no-class-requires
 no-class-requires c κs = search needs
 
 returns : tie.Need-returns
-returns c = c .no-class .ensures ∙ nothing-listed (c .before .before .before .before .args .complement) (c .before .before .before .before .args .text .now) (c .before .before .before .before .args .at) (sym (c .before .before .byte-at .ensures .0) ∙ c .before .if1 .taken)
+returns c = c .no-class .ensures ∙ nothing-listed (c .before .before .before .before .args .complement) (c .before .before .before .before .args .text .now)
+    (c .before .before .before .before .args .at) (sym (c .before .before .byte-at .ensures .0) ∙ c .before .if1 .taken)
 
 set-items-requires : tie.Need-set-items-requires
 set-items-requires c κs = search needs
@@ -35,7 +36,9 @@ no-class-requires-2 : tie.Need-no-class-requires-2
 no-class-requires-2 c κs = search needs
 
 returns-2 : tie.Need-returns-2
-returns-2 c = c .no-class2 .ensures ∙ broken-is _ _ (c .before .before .before .before .before .before .before .args .complement) (c .before .before .before .before .before .before .before .args .text .now) (c .before .before .before .before .before .before .before .args .at) (c .before .before .before .before .before .before .before .pre) (c .before .before .set-items .ensures) (c .before .if2 .taken)
+returns-2 c = c .no-class2 .ensures ∙ broken-is _ _ (c .before .before .before .before .before .before .before .args .complement)
+    (c .before .before .before .before .before .before .before .args .text .now) (c .before .before .before .before .before .before .before .args .at)
+    (c .before .before .before .before .before .before .before .pre) (c .before .before .set-items .ensures) (c .before .if2 .taken)
 
 turn-requires : tie.Need-turn-requires
 turn-requires c κs = search needs
@@ -44,7 +47,13 @@ settled-requires : tie.Need-settled-requires
 settled-requires c κs = search needs
 
 returns-3 : tie.Need-returns-3
-returns-3 c = c .settled .ensures ∙ ap (λ (l : List Bool). classIs (marked (someFrom 0 256 l) l 0 (c .before .before .before .before .before .set-items .result))) (c .before .turn .ensures) ∙ turned-is _ _ (c .before .before .before .before .before .before .before .before .before .before .args .text .now) (c .before .before .before .before .before .before .before .before .before .before .args .at) (λ x. c .before .before .before .before .before .before .before .if1 .left (c .before .before .before .before .before .before .before .before .byte-at .ensures .0 ∙ x)) (c .before .before .before .before .before .set-items .ensures) (c .before .before .before .before .if2 .left) ∙ ap (λ (x : Bool). classIs (classBy x 0 (from 93 listed (c .before .before .before .before .before .before .before .before .before .before .args .text .now) (c .before .before .before .before .before .before .before .before .before .before .args .at)))) (sym (c .before .before .before .if3 .taken))
+returns-3 c = c .settled .ensures ∙ ap (λ (l : List Bool). classIs (marked (someFrom 0 256 l) l 0 (c .before .before .before .before .before .set-items .result)))
+    (c .before .turn .ensures) ∙ turned-is _ _ (c .before .before .before .before .before .before .before .before .before .before .args .text .now)
+    (c .before .before .before .before .before .before .before .before .before .before .args .at)
+    (λ x. c .before .before .before .before .before .before .before .if1 .left (c .before .before .before .before .before .before .before .before .byte-at .ensures .0 ∙ x))
+    (c .before .before .before .before .before .set-items .ensures) (c .before .before .before .before .if2 .left) ∙ ap
+    (λ (x : Bool). classIs (classBy x 0 (from 93 listed (c .before .before .before .before .before .before .before .before .before .before .args .text .now)
+    (c .before .before .before .before .before .before .before .before .before .before .args .at)))) (sym (c .before .before .before .if3 .taken))
 
 cast-settled : tie.Need-cast-settled
 cast-settled c = search needs
@@ -53,7 +62,12 @@ settled-requires-2 : tie.Need-settled-requires-2
 settled-requires-2 c κs = search needs
 
 returns-4 : tie.Need-returns-4
-returns-4 c = c .settled2 .ensures ∙ plain-is _ _ (c .before .before .before .before .before .before .before .before .args .text .now) (c .before .before .before .before .before .before .before .before .args .at) (λ x. c .before .before .before .before .before .if1 .left (c .before .before .before .before .before .before .byte-at .ensures .0 ∙ x)) (c .before .before .before .set-items .ensures) (c .before .before .if2 .left) ∙ ap (λ (x : Bool). classIs (classBy x 0 (from 93 listed (c .before .before .before .before .before .before .before .before .args .text .now) (c .before .before .before .before .before .before .before .before .args .at)))) (sym (c .before .if3 .left))
+returns-4 c = c .settled2 .ensures ∙ plain-is _ _ (c .before .before .before .before .before .before .before .before .args .text .now)
+    (c .before .before .before .before .before .before .before .before .args .at)
+    (λ x. c .before .before .before .before .before .if1 .left (c .before .before .before .before .before .before .byte-at .ensures .0 ∙ x))
+    (c .before .before .before .set-items .ensures) (c .before .before .if2 .left) ∙ ap
+    (λ (x : Bool). classIs (classBy x 0 (from 93 listed (c .before .before .before .before .before .before .before .before .args .text .now)
+    (c .before .before .before .before .before .before .before .before .args .at)))) (sym (c .before .if3 .left))
 
 pub class-from-spec : {M : Type 1} → statement M
 class-from-spec =

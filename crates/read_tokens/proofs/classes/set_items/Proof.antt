@@ -27,13 +27,17 @@ add-result : tie.Need-add-result Inv-loop μ-loop
 add-result c = omega (arith, c .before .before .loop-test .taken)
 
 returns : tie.Need-returns Inv-loop μ-loop
-returns c = c .before .before .before .loop .inv .1 .back _ _ (at-close (c .before .before .before .before .before .args .text .now) (c .before .before .before .loop .i) (c .before .before .before .loop .marks) (c .before .before .loop-test .taken) (c .if1 .taken))
+returns c = c .before .before .before .loop .inv .1 .back _ _
+    (at-close (c .before .before .before .before .before .args .text .now) (c .before .before .before .loop .i) (c .before .before .before .loop .marks)
+    (c .before .before .loop-test .taken) (c .if1 .taken))
 
 item-at-requires : tie.Need-item-at-requires Inv-loop μ-loop
 item-at-requires c κs = c .before .before .before .loop .inv .0
 
 returns-2 : tie.Need-returns-2 Inv-loop μ-loop
-returns-2 c = c .before .before .before .before .before .loop .inv .1 .back _ _ (no-item (c .before .before .before .before .before .before .before .args .text .now) (c .before .before .before .before .before .loop .i) (c .before .before .before .before .loop-test .taken) (c .before .before .if1 .left) _ (c .before .item-at .ensures .0) (c .before .before .before .before .before .loop .marks) _ (c .if2 .taken))
+returns-2 c = c .before .before .before .before .before .loop .inv .1 .back _ _
+    (no-item (c .before .before .before .before .before .before .before .args .text .now) (c .before .before .before .before .before .loop .i)
+    (c .before .before .before .before .loop-test .taken) (c .before .before .if1 .left) _ (c .before .item-at .ensures .0) (c .before .before .before .before .before .loop .marks) _ (c .if2 .taken))
 
 set-range-requires : tie.Need-set-range-requires Inv-loop μ-loop
 set-range-requires c κs = search needs
@@ -45,7 +49,13 @@ loop-less : tie.Need-loop-less Inv-loop μ-loop
 loop-less c = omega (arith, c .before .before .before .item-at .ensures .1, c .before .before .if2 .left)
 
 loop-again : tie.Need-loop-again Inv-loop μ-loop
-loop-again c = (c .before .before .before .item-at .ensures .1, to-on (c .set-range .ensures) (one-item (c .before .before .before .before .before .before .before .before .before .args .text .now) (c .before .before .before .before .before .before .before .loop .i) (c .before .before .before .before .before .before .loop-test .taken) (c .before .before .before .before .if1 .left) _ (c .before .before .before .item-at .ensures .0) (c .before .before .before .before .before .before .before .loop .marks) (c .before .before .if2 .left)) (c .before .before .before .before .before .before .before .loop .inv .1))
+loop-again c = (
+  c .before .before .before .item-at .ensures .1,
+  to-on (c .set-range .ensures)
+      (one-item (c .before .before .before .before .before .before .before .before .before .args .text .now) (c .before .before .before .before .before .before .before .loop .i)
+      (c .before .before .before .before .before .before .loop-test .taken) (c .before .before .before .before .if1 .left) _ (c .before .before .before .item-at .ensures .0)
+      (c .before .before .before .before .before .before .before .loop .marks) (c .before .before .if2 .left)) (c .before .before .before .before .before .before .before .loop .inv .1),
+)
 
 returns-3 : tie.Need-returns-3 Inv-loop μ-loop
 returns-3 c = c .before .loop .inv .1 .back _ _ (at-end (c .before .before .before .args .text .now) (c .before .loop .i) (c .before .loop .marks) _ (c .loop-test .left))

@@ -38,7 +38,8 @@ loop-less : tie.Need-loop-less Inv-loop μ-loop
 loop-less c = omega arith
 
 loop-again : tie.Need-loop-again Inv-loop μ-loop
-loop-again c = rw (c .before .blank-of .ensures) (sym (skip-more _ _ _ (c .before .before .before .loop-test .taken) (ne-eqb _ _ (λ e. c .if1 .left (c .before .blank-of .ensures ∙ e)))) ∙ c .before .before .before .before .loop .inv)
+loop-again c = rw (c .before .blank-of .ensures) (sym (skip-more _ _ _ (c .before .before .before .loop-test .taken)
+    (ne-eqb _ _ (λ e. c .if1 .left (c .before .blank-of .ensures ∙ e)))) ∙ c .before .before .before .before .loop .inv)
 
 returns-2 : tie.Need-returns-2 Inv-loop μ-loop
 returns-2 c = sym (skip-end _ _ _ (c .loop-test .left)) ∙ c .before .loop .inv

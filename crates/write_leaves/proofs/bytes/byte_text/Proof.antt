@@ -62,7 +62,10 @@ same-length-5 : tie.Need-same-length-5
 same-length-5 c = search needs
 
 returns-5 : tie.Need-returns-5
-returns-5 c = penned-is (raw (c .before .before .before .before .before .before .before .before .before .before .args .c) (c .before .before .before .before .before .before .before .before .if1 .left) (c .before .before .before .before .before .before .before .if2 .left) (c .before .before .before .before .before .before .if3 .left) (c .before .before .before .before .before .if4 .left) (c .before .before .before .before .if5 .taken)) (c .before .before .emit .ensures)
+returns-5 c = penned-is (raw (c .before .before .before .before .before .before .before .before .before .before .args .c)
+    (c .before .before .before .before .before .before .before .before .if1 .left) (c .before .before .before .before .before .before .before .if2 .left)
+    (c .before .before .before .before .before .before .if3 .left) (c .before .before .before .before .before .if4 .left) (c .before .before .before .before .if5 .taken))
+    (c .before .before .emit .ensures)
 
 add-emit4 : tie.Need-add-emit4
 add-emit4 c = search needs
@@ -80,7 +83,10 @@ same-length-6 : tie.Need-same-length-6
 same-length-6 c = search needs
 
 returns-6 : tie.Need-returns-6
-returns-6 c = penned-is (control (c .before .before .before .before .before .before .before .before .before .before .before .args .c) (c .before .before .before .before .before .before .before .before .before .if1 .left) (c .before .before .before .before .before .before .before .before .if2 .left) (c .before .before .before .before .before .before .before .if3 .left) (c .before .before .before .before .before .before .if4 .left) (c .before .before .before .before .if6 .taken)) (c .before .before .emit4 .ensures)
+returns-6 c = penned-is (control (c .before .before .before .before .before .before .before .before .before .before .before .args .c)
+    (c .before .before .before .before .before .before .before .before .before .if1 .left) (c .before .before .before .before .before .before .before .before .if2 .left)
+    (c .before .before .before .before .before .before .before .if3 .left) (c .before .before .before .before .before .before .if4 .left)
+    (c .before .before .before .before .if6 .taken)) (c .before .before .emit4 .ensures)
 
 emit-requires-2 : tie.Need-emit-requires-2
 emit-requires-2 c κs = c .before .before .before .before .before .before .before .before .before .pre
@@ -89,7 +95,11 @@ same-length-7 : tie.Need-same-length-7
 same-length-7 c = search needs
 
 returns-7 : tie.Need-returns-7
-returns-7 c = penned-is (printable (c .before .before .before .before .before .before .before .before .before .before .before .before .args .c) (c .before .before .before .before .before .before .before .before .before .before .if1 .left) (c .before .before .before .before .before .before .before .before .before .if2 .left) (c .before .before .before .before .before .before .before .before .if3 .left) (c .before .before .before .before .before .before .before .if4 .left) (omega (arith, c .before .before .before .before .before .if6 .left)) (c .before .before .before .before .if7 .taken)) (c .before .before .emit3 .ensures)
+returns-7 c = penned-is (printable (c .before .before .before .before .before .before .before .before .before .before .before .before .args .c)
+    (c .before .before .before .before .before .before .before .before .before .before .if1 .left)
+    (c .before .before .before .before .before .before .before .before .before .if2 .left) (c .before .before .before .before .before .before .before .before .if3 .left)
+    (c .before .before .before .before .before .before .before .if4 .left) (omega (arith, c .before .before .before .before .before .if6 .left))
+    (c .before .before .before .before .if7 .taken)) (c .before .before .emit3 .ensures)
 
 add-emit4-4 : tie.Need-add-emit4-4
 add-emit4-4 c = search needs
@@ -107,7 +117,11 @@ same-length-8 : tie.Need-same-length-8
 same-length-8 c = search needs
 
 returns-8 : tie.Need-returns-8
-returns-8 c = penned-is (middle (c .before .before .before .before .before .before .before .before .before .before .before .before .args .c) (c .before .before .before .before .before .before .before .before .before .before .if1 .left) (c .before .before .before .before .before .before .before .before .before .if2 .left) (c .before .before .before .before .before .before .before .before .if3 .left) (c .before .before .before .before .before .before .before .if4 .left) (omega (arith, c .before .before .before .before .if7 .left)) (omega (arith, c .before .before .before .before .before .before .if5 .left))) (c .before .before .emit42 .ensures)
+returns-8 c = penned-is (middle (c .before .before .before .before .before .before .before .before .before .before .before .before .args .c)
+    (c .before .before .before .before .before .before .before .before .before .before .if1 .left)
+    (c .before .before .before .before .before .before .before .before .before .if2 .left) (c .before .before .before .before .before .before .before .before .if3 .left)
+    (c .before .before .before .before .before .before .before .if4 .left) (omega (arith, c .before .before .before .before .if7 .left))
+    (omega (arith, c .before .before .before .before .before .before .if5 .left))) (c .before .before .emit42 .ensures)
 
 pub byte-text-spec : {M : Type 1} → statement M
 byte-text-spec =

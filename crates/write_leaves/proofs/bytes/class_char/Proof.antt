@@ -62,7 +62,9 @@ same-length-5 : tie.Need-same-length-5
 same-length-5 c = search needs
 
 returns-5 : tie.Need-returns-5
-returns-5 c = penned-is (plain-class (c .before .before .before .before .before .before .before .before .before .args .c) (c .before .before .before .before .before .before .before .if1 .left) (c .before .before .before .before .before .before .if2 .left) (c .before .before .before .before .before .if3 .left) (c .before .before .before .before .if4 .left)) (c .before .before .byte-text .ensures)
+returns-5 c = penned-is (plain-class (c .before .before .before .before .before .before .before .before .before .args .c)
+    (c .before .before .before .before .before .before .before .if1 .left) (c .before .before .before .before .before .before .if2 .left)
+    (c .before .before .before .before .before .if3 .left) (c .before .before .before .before .if4 .left)) (c .before .before .byte-text .ensures)
 
 pub class-char-spec : {M : Type 1} → statement M
 class-char-spec =

@@ -26,19 +26,27 @@ same-length : tie.Need-same-length
 same-length c = search needs
 
 returns-2 : tie.Need-returns-2
-returns-2 c = subst (λ (w : Bool). Penned w (c .before .before .before .args .b ∷ []) (c .before .before .before .args .out .now) (c .before .before .before .args .at) (set (c .before .before .before .args .out .now) (c .before .before .before .args .at) (c .before .before .before .args .b)) (c .before .before .before .args .at + 1)) (sym (c .before .if2 .taken)) (byte-on (c .before .before .before .args .out .now) (c .before .before .before .args .at) (c .before .before .before .args .b) (omega (arith, c .before .before .if1 .left)))
+returns-2 c = subst (λ (w : Bool). Penned w (c .before .before .before .args .b ∷ []) (c .before .before .before .args .out .now) (c .before .before .before .args .at)
+    (set (c .before .before .before .args .out .now) (c .before .before .before .args .at) (c .before .before .before .args .b)) (c .before .before .before .args .at + 1))
+    (sym (c .before .if2 .taken)) (byte-on (c .before .before .before .args .out .now) (c .before .before .before .args .at) (c .before .before .before .args .b)
+    (omega (arith, c .before .before .if1 .left)))
 
 add-result-2 : tie.Need-add-result-2
 add-result-2 c = search needs
 
 returns-3 : tie.Need-returns-3
-returns-3 c = subst (λ (w : Bool). Penned w (c .before .before .before .args .b ∷ []) (c .before .before .before .args .out .now) (c .before .before .before .args .at) (c .before .before .before .args .out .now) (c .before .before .before .args .at + 1)) (sym (c .before .if2 .taken)) (byte-past (c .before .before .before .args .out .now) (c .before .before .before .args .at) (c .before .before .before .args .b) (omega (arith, c .before .before .if1 .left)) (omega (arith, c .if3 .left)))
+returns-3 c = subst (λ (w : Bool). Penned w (c .before .before .before .args .b ∷ []) (c .before .before .before .args .out .now) (c .before .before .before .args .at)
+    (c .before .before .before .args .out .now) (c .before .before .before .args .at + 1)) (sym (c .before .if2 .taken))
+    (byte-past (c .before .before .before .args .out .now) (c .before .before .before .args .at) (c .before .before .before .args .b) (omega (arith, c .before .before .if1 .left))
+    (omega (arith, c .if3 .left)))
 
 add-result-3 : tie.Need-add-result-3
 add-result-3 c = search needs
 
 returns-4 : tie.Need-returns-4
-returns-4 c = subst (λ (w : Bool). Penned w (c .before .before .args .b ∷ []) (c .before .before .args .out .now) (c .before .before .args .at) (c .before .before .args .out .now) (c .before .before .args .at + 1)) (sym (c .if2 .left)) (byte-counted (c .before .before .args .out .now) (c .before .before .args .at) (c .before .before .args .b) (omega (arith, c .before .if1 .left)))
+returns-4 c = subst (λ (w : Bool). Penned w (c .before .before .args .b ∷ []) (c .before .before .args .out .now) (c .before .before .args .at) (c .before .before .args .out .now)
+    (c .before .before .args .at + 1)) (sym (c .if2 .left)) (byte-counted (c .before .before .args .out .now) (c .before .before .args .at) (c .before .before .args .b)
+    (omega (arith, c .before .if1 .left)))
 
 pub emit-spec : {M : Type 1} → statement M
 emit-spec =

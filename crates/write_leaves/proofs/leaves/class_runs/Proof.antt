@@ -35,10 +35,22 @@ penned-run : {w : Bool} (lo b : ℕ) {old new : List ℕ} {at r : ℕ} → b ≡
 penned-run {w} lo b {old} {new} {at} {r} e p = let z : 255 ≡ b - 1 = omega (arith, e) in subst (λ (x : ℕ). Penned w (runText (range lo x)) old at new r) z p
 
 loop-holds : tie.Need-loop-holds Inv-loop μ-loop
-loop-holds c = (omega arith, omega arith, λ f. absurd (f refl), along-is (sym (class-start (c .before .before .args .t .now) (c .before .before .args .i))) (along-start (c .before .before .args .write) _ (c .before .before .args .out .now) (c .before .before .args .at) (c .before .before .pre .0)))
+loop-holds c = (
+  omega arith,
+  omega arith,
+  λ f. absurd (f refl),
+  along-is (sym (class-start (c .before .before .args .t .now) (c .before .before .args .i)))
+      (along-start (c .before .before .args .write) _ (c .before .before .args .out .now) (c .before .before .args .at) (c .before .before .pre .0)),
+)
 
 mark-requires : tie.Need-mark-requires Inv-loop μ-loop
-mark-requires c κs = (c .before .before .loop .inv .3 .small, c .before .before .before .before .before .pre .1, c .before .loop-test .taken, c .before .before .loop .inv .1, c .before .before .loop .inv .2)
+mark-requires c κs = (
+  c .before .before .loop .inv .3 .small,
+  c .before .before .before .before .before .pre .1,
+  c .before .loop-test .taken,
+  c .before .before .loop .inv .1,
+  c .before .before .loop .inv .2,
+)
 
 add-b : tie.Need-add-b Inv-loop μ-loop
 add-b c = omega (arith, c .before .before .before .before .loop-test .taken)
@@ -47,13 +59,20 @@ loop-less : tie.Need-loop-less Inv-loop μ-loop
 loop-less c = omega (arith, c .before .before .before .before .loop-test .taken)
 
 loop-again : tie.Need-loop-again Inv-loop μ-loop
-loop-again c = (omega (arith, c .before .before .before .before .loop-test .taken), c .before .before .mark .ensures .small, c .before .before .mark .ensures .begun, along-on (omega arith) (along-is (c .before .before .mark .ensures .said) (c .before .before .before .before .before .loop .inv .3)) (c .before .before .mark .ensures .penned))
+loop-again c = (
+  omega (arith, c .before .before .before .before .loop-test .taken),
+  c .before .before .mark .ensures .small,
+  c .before .before .mark .ensures .begun,
+  along-on
+      (omega arith) (along-is (c .before .before .mark .ensures .said) (c .before .before .before .before .before .loop .inv .3)) (c .before .before .mark .ensures .penned),
+)
 
 same-length : tie.Need-same-length Inv-loop μ-loop
 same-length c = c .before .before .loop .inv .3 .long
 
 returns : tie.Need-returns Inv-loop μ-loop
-returns c = along-end (along-is (class-end (c .before .before .before .before .before .args .t .now) (c .before .before .before .before .before .args .i) (c .before .before .loop .run) (c .before .before .loop .b) (omega (arith, c .before .loop-test .left)) (c .if1 .taken)) (c .before .before .loop .inv .3))
+returns c = along-end (along-is (class-end (c .before .before .before .before .before .args .t .now) (c .before .before .before .before .before .args .i)
+    (c .before .before .loop .run) (c .before .before .loop .b) (omega (arith, c .before .loop-test .left)) (c .if1 .taken)) (c .before .before .loop .inv .3))
 
 cast-run-text : tie.Need-cast-run-text Inv-loop μ-loop
 cast-run-text c = omega (arith, c .before .before .before .loop .inv .1, c .before .if1 .left)
@@ -65,7 +84,12 @@ same-length-2 : tie.Need-same-length-2 Inv-loop μ-loop
 same-length-2 c = c .before .before .run-text .kept .0 ∙ c .before .before .before .before .before .before .loop .inv .3 .long
 
 returns-2 : tie.Need-returns-2 Inv-loop μ-loop
-returns-2 c = along-end (along-on (omega arith) (along-is (class-last (c .before .before .before .before .before .before .before .before .before .args .t .now) (c .before .before .before .before .before .before .before .before .before .args .i) (c .before .before .before .before .before .before .loop .run) (c .before .before .before .before .before .before .loop .b) (omega (arith, c .before .before .before .before .before .loop-test .left)) (c .before .before .before .before .if1 .left)) (c .before .before .before .before .before .before .loop .inv .3)) (penned-run (c .before .before .before .before .before .before .loop .run) (c .before .before .before .before .before .before .loop .b) (omega (arith, c .before .before .before .before .before .loop-test .left, c .before .before .before .before .before .before .loop .inv .0)) (c .before .before .run-text .ensures)))
+returns-2 c = along-end (along-on (omega arith) (along-is (class-last (c .before .before .before .before .before .before .before .before .before .args .t .now)
+    (c .before .before .before .before .before .before .before .before .before .args .i) (c .before .before .before .before .before .before .loop .run)
+    (c .before .before .before .before .before .before .loop .b) (omega (arith, c .before .before .before .before .before .loop-test .left))
+    (c .before .before .before .before .if1 .left)) (c .before .before .before .before .before .before .loop .inv .3))
+    (penned-run (c .before .before .before .before .before .before .loop .run) (c .before .before .before .before .before .before .loop .b)
+    (omega (arith, c .before .before .before .before .before .loop-test .left, c .before .before .before .before .before .before .loop .inv .0)) (c .before .before .run-text .ensures)))
 
 pub class-runs-spec : {M : Type 1} → statement M
 class-runs-spec =

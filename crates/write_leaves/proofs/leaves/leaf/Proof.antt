@@ -35,7 +35,8 @@ same-length : tie.Need-same-length
 same-length c = search needs
 
 returns : tie.Need-returns
-returns c = penned-is (any-text (c .before .before .before .before .before .before .before .before .before .args .t .now) (c .before .before .before .before .before .before .before .before .before .args .x)
+returns c = penned-is (any-text (c .before .before .before .before .before .before .before .before .before .args .t .now)
+    (c .before .before .before .before .before .before .before .before .before .args .x)
     (c .before .before .before .before .before .leaf-kind .result) (c .before .before .before .before .before .leaf-kind .ensures .0) (c .before .before .before .before .if1 .taken))
     (c .before .before .emit .ensures)
 
@@ -46,7 +47,15 @@ emit-requires-2 : tie.Need-emit-requires-2
 emit-requires-2 c κs = search needs
 
 lit-chars-requires : tie.Need-lit-chars-requires
-lit-chars-requires c κs = (penned-most (c .before .before .before .emit2 .ensures), omega (arith, c .before .before .before .before .before .before .before .before .before .content-at .ensures, c .before .before .before .before .before .before .before .before .before .before .before .before .pre .1), c .before .before .before .before .before .leaf-length .ensures .1)
+lit-chars-requires c κs = (
+  penned-most (c .before .before .before .emit2 .ensures),
+  omega (
+    arith,
+    c .before .before .before .before .before .before .before .before .before .content-at .ensures,
+    c .before .before .before .before .before .before .before .before .before .before .before .before .pre .1,
+  ),
+  c .before .before .before .before .before .leaf-length .ensures .1,
+)
 
 emit-requires-3 : tie.Need-emit-requires-3
 emit-requires-3 c κs = penned-most (c .before .before .before .lit-chars .ensures)
@@ -63,14 +72,23 @@ returns-2 c = penned-is (literal-text
     (c .before .before .before .before .before .before .before .before .before .before .before .before .leaf-length .result)
     (c .before .before .before .before .before .before .before .before .before .before .before .before .leaf-length .ensures .0)
     (c .before .before .before .before .before .before .before .before .before .before .before .before .before .if2 .taken)) (on (omega arith)
-    (c .before .before .before .before .before .before .before .before .before .before .emit2 .ensures) (on (omega arith) (penned-is (ap (λ (i : ℕ). litChars (map low (wordsFrom (c .before .before .before .before .before .before .before .before .before .before .before .before .before .before .before .before .before .before .before .args .t .now) i (c .before .before .before .before .before .before .before .before .before .before .before .before .leaf-length .result)))) (c .before .before .before .before .before .before .before .before .before .before .before .before .before .before .before .before .content-at .ensures)) (c .before .before .before .before .before .before .lit-chars .ensures))
+    (c .before .before .before .before .before .before .before .before .before .before .emit2 .ensures)
+    (on (omega arith) (penned-is (ap (λ (i : ℕ). litChars
+    (map low (wordsFrom (c .before .before .before .before .before .before .before .before .before .before .before .before .before .before .before .before .before .before .before .args .t .now) i (c .before .before .before .before .before .before .before .before .before .before .before .before .leaf-length .result)))) (c .before .before .before .before .before .before .before .before .before .before .before .before .before .before .before .before .content-at .ensures)) (c .before .before .before .before .before .before .lit-chars .ensures))
     (c .before .before .emit3 .ensures)))
 
 emit-requires-4 : tie.Need-emit-requires-4
 emit-requires-4 c κs = search needs
 
 class-runs-requires : tie.Need-class-runs-requires
-class-runs-requires c κs = (penned-most (c .before .before .before .emit4 .ensures), omega (arith, c .before .before .before .before .before .before .before .before .content-at .ensures, c .before .before .before .before .before .before .before .before .before .before .before .pre .1))
+class-runs-requires c κs = (
+  penned-most (c .before .before .before .emit4 .ensures),
+  omega (
+    arith,
+    c .before .before .before .before .before .before .before .before .content-at .ensures,
+    c .before .before .before .before .before .before .before .before .before .before .before .pre .1,
+  ),
+)
 
 emit-requires-5 : tie.Need-emit-requires-5
 emit-requires-5 c κs = penned-most (c .before .before .before .class-runs .ensures)
@@ -85,7 +103,9 @@ returns-3 c = penned-is (class-text (c .before .before .before .before .before .
     (c .before .before .before .before .before .before .before .before .before .before .before .before .before .before .leaf-kind .ensures .0)
     (c .before .before .before .before .before .before .before .before .before .before .before .before .before .if1 .left)
     (c .before .before .before .before .before .before .before .before .before .before .before .before .if2 .left)) (on (omega arith)
-    (c .before .before .before .before .before .before .before .before .before .before .emit4 .ensures) (on (omega arith) (penned-is (ap (λ (i : ℕ). runsText (runs none 0 (marksFrom (c .before .before .before .before .before .before .before .before .before .before .before .before .before .before .before .before .before .before .args .t .now) i 256))) (c .before .before .before .before .before .before .before .before .before .before .before .before .before .before .before .content-at .ensures)) (c .before .before .before .before .before .before .class-runs .ensures))
+    (c .before .before .before .before .before .before .before .before .before .before .emit4 .ensures)
+    (on (omega arith) (penned-is (ap (λ (i : ℕ). runsText
+    (runs none 0 (marksFrom (c .before .before .before .before .before .before .before .before .before .before .before .before .before .before .before .before .before .before .args .t .now) i 256))) (c .before .before .before .before .before .before .before .before .before .before .before .before .before .before .before .content-at .ensures)) (c .before .before .before .before .before .before .class-runs .ensures))
     (c .before .before .emit5 .ensures)))
 
 pub leaf-spec : {M : Type 1} → statement M

@@ -27,7 +27,17 @@ word-requires : tie.Need-word-requires
 word-requires c κs = search needs
 
 returns : tie.Need-returns
-returns c = record { bytes = []; said = stays (c .before .before .before .before .before .args .t .now) (c .before .before .before .before .before .args .i) (c .before .before .before .before .before .args .run) (c .before .before .before .before .before .args .b) (c .before .before .before .before .before .pre .2) (sym (c .before .before .word .ensures .0) ∙ c .before .if1 .taken) (c .if2 .taken); penned = penned-none (c .before .before .before .before .before .args .write) (c .before .before .before .before .before .args .out .now) (c .before .before .before .before .before .args .at) (c .before .before .before .before .before .pre .0); small = omega arith; begun = λ f. absurd (f refl) }
+returns c = record {
+  bytes = [];
+  said = stays (c .before .before .before .before .before .args .t .now) (c .before .before .before .before .before .args .i)
+      (c .before .before .before .before .before .args .run) (c .before .before .before .before .before .args .b) (c .before .before .before .before .before .pre .2)
+      (sym (c .before .before .word .ensures .0) ∙ c .before .if1 .taken) (c .if2 .taken);
+  penned = penned-none (c .before .before .before .before .before .args .write)
+      (c .before .before .before .before .before .args .out .now) (c .before .before .before .before .before .args .at)
+      (c .before .before .before .before .before .pre .0);
+  small = omega arith;
+  begun = λ f. absurd (f refl);
+}
 
 cast-run-text : tie.Need-cast-run-text
 cast-run-text c = omega (arith, c .before .before .before .before .before .before .pre .3, c .before .if2 .left)
@@ -45,13 +55,45 @@ same-length : tie.Need-same-length
 same-length c = search needs
 
 returns-2 : tie.Need-returns-2
-returns-2 c = record { bytes = runText (range (c .before .before .before .before .before .before .before .before .before .args .run) (c .before .before .before .before .before .before .before .before .before .args .b - 1)); said = closes (c .before .before .before .before .before .before .before .before .before .args .t .now) (c .before .before .before .before .before .before .before .before .before .args .i) (c .before .before .before .before .before .before .before .before .before .args .run) (c .before .before .before .before .before .before .before .before .before .args .b) (c .before .before .before .before .before .before .before .before .before .pre .2) (sym (c .before .before .before .before .before .before .word .ensures .0) ∙ c .before .before .before .before .before .if1 .taken) (c .before .before .before .before .if2 .left); penned = c .before .before .run-text .ensures; small = omega arith; begun = λ f. absurd (f refl) }
+returns-2 c = record {
+  bytes = runText (range (c .before .before .before .before .before .before .before .before .before .args .run)
+      (c .before .before .before .before .before .before .before .before .before .args .b - 1));
+  said = closes
+      (c .before .before .before .before .before .before .before .before .before .args .t .now) (c .before .before .before .before .before .before .before .before .before .args .i)
+      (c .before .before .before .before .before .before .before .before .before .args .run) (c .before .before .before .before .before .before .before .before .before .args .b)
+      (c .before .before .before .before .before .before .before .before .before .pre .2)
+      (sym (c .before .before .before .before .before .before .word .ensures .0) ∙ c .before .before .before .before .before .if1 .taken)
+      (c .before .before .before .before .if2 .left);
+  penned = c .before .before .run-text .ensures;
+  small = omega arith;
+  begun = λ f. absurd (f refl);
+}
 
 returns-3 : tie.Need-returns-3
-returns-3 c = record { bytes = []; said = opens (c .before .before .before .before .before .args .t .now) (c .before .before .before .before .before .args .i) (c .before .before .before .before .before .args .run) (c .before .before .before .before .before .args .b) (c .before .before .before .before .before .pre .2) (λ z. c .before .if1 .left (c .before .before .word .ensures .0 ∙ z)) (c .if3 .taken); penned = penned-none (c .before .before .before .before .before .args .write) (c .before .before .before .before .before .args .out .now) (c .before .before .before .before .before .args .at) (c .before .before .before .before .before .pre .0); small = omega (arith, c .before .before .before .before .before .pre .2); begun = λ f. omega arith }
+returns-3 c = record {
+  bytes = [];
+  said = opens (c .before .before .before .before .before .args .t .now) (c .before .before .before .before .before .args .i)
+      (c .before .before .before .before .before .args .run) (c .before .before .before .before .before .args .b) (c .before .before .before .before .before .pre .2)
+      (λ z. c .before .if1 .left (c .before .before .word .ensures .0 ∙ z)) (c .if3 .taken);
+  penned = penned-none (c .before .before .before .before .before .args .write)
+      (c .before .before .before .before .before .args .out .now) (c .before .before .before .before .before .args .at)
+      (c .before .before .before .before .before .pre .0);
+  small = omega (arith, c .before .before .before .before .before .pre .2);
+  begun = λ f. omega arith;
+}
 
 returns-4 : tie.Need-returns-4
-returns-4 c = record { bytes = []; said = goes-on (c .before .before .before .before .before .args .t .now) (c .before .before .before .before .before .args .i) (c .before .before .before .before .before .args .run) (c .before .before .before .before .before .args .b) (c .before .before .before .before .before .pre .2) (λ z. c .before .if1 .left (c .before .before .word .ensures .0 ∙ z)) (c .if3 .left); penned = penned-none (c .before .before .before .before .before .args .write) (c .before .before .before .before .before .args .out .now) (c .before .before .before .before .before .args .at) (c .before .before .before .before .before .pre .0); small = c .before .before .before .before .before .pre .3; begun = λ f. omega (arith, c .before .before .before .before .before .pre .4 f) }
+returns-4 c = record {
+  bytes = [];
+  said = goes-on (c .before .before .before .before .before .args .t .now) (c .before .before .before .before .before .args .i)
+      (c .before .before .before .before .before .args .run) (c .before .before .before .before .before .args .b) (c .before .before .before .before .before .pre .2)
+      (λ z. c .before .if1 .left (c .before .before .word .ensures .0 ∙ z)) (c .if3 .left);
+  penned = penned-none (c .before .before .before .before .before .args .write)
+      (c .before .before .before .before .before .args .out .now) (c .before .before .before .before .before .args .at)
+      (c .before .before .before .before .before .pre .0);
+  small = c .before .before .before .before .before .pre .3;
+  begun = λ f. omega (arith, c .before .before .before .before .before .pre .4 f);
+}
 
 pub mark-spec : {M : Type 1} → statement M
 mark-spec =

@@ -29,7 +29,12 @@ byte-of : {w : Bool} {x y : ℕ} {old new : List ℕ} {at r : ℕ} → x ≡ y �
 byte-of {w} {x} {y} {old} {new} {at} {r} e p = subst (λ (x : ℕ). Penned w (low x ∷ []) old at new r) e p
 
 loop-holds : tie.Need-loop-holds Inv-loop μ-loop
-loop-holds c = (omega arith, along-is (ap (λ (l : List ℕ). (map low l)) (sym (words-start (c .before .before .args .t .now) (c .before .before .args .i) (c .before .before .args .n)))) (along-start (c .before .before .args .write) _ (c .before .before .args .out .now) (c .before .before .args .at) (c .before .before .pre .0)))
+loop-holds c = (
+  omega arith,
+  along-is (ap (λ (l : List ℕ). (map low l))
+      (sym (words-start (c .before .before .args .t .now) (c .before .before .args .i) (c .before .before .args .n))))
+      (along-start (c .before .before .args .write) _ (c .before .before .args .out .now) (c .before .before .args .at) (c .before .before .pre .0)),
+)
 
 add-word : tie.Need-add-word Inv-loop μ-loop
 add-word c = omega (arith, c .before .before .before .before .pre .1, c .before .before .before .before .pre .2, c .loop-test .taken)
@@ -50,13 +55,21 @@ loop-less : tie.Need-loop-less Inv-loop μ-loop
 loop-less c = omega (arith, c .before .before .before .before .before .loop-test .taken)
 
 loop-again : tie.Need-loop-again Inv-loop μ-loop
-loop-again c = (omega (arith, c .before .before .before .before .before .loop-test .taken), along-on (omega arith) (along-is (name-more (c .before .before .before .before .before .before .before .before .before .args .t .now) (c .before .before .before .before .before .before .before .before .before .args .i) (c .before .before .before .before .before .before .before .before .before .args .n) (c .before .before .before .before .before .before .loop .j) (c .before .before .before .before .before .loop-test .taken)) (c .before .before .before .before .before .before .loop .inv .1)) (byte-of (c .before .before .before .before .word .ensures .0) (c .before .before .emit .ensures)))
+loop-again c = (
+  omega (arith, c .before .before .before .before .before .loop-test .taken),
+  along-on (omega arith)
+      (along-is (name-more (c .before .before .before .before .before .before .before .before .before .args .t .now)
+      (c .before .before .before .before .before .before .before .before .before .args .i) (c .before .before .before .before .before .before .before .before .before .args .n)
+      (c .before .before .before .before .before .before .loop .j) (c .before .before .before .before .before .loop-test .taken))
+      (c .before .before .before .before .before .before .loop .inv .1)) (byte-of (c .before .before .before .before .word .ensures .0) (c .before .before .emit .ensures)),
+)
 
 same-length : tie.Need-same-length Inv-loop μ-loop
 same-length c = c .before .loop .inv .1 .long
 
 returns : tie.Need-returns Inv-loop μ-loop
-returns c = along-end (along-is (name-end (c .before .before .before .before .args .t .now) (c .before .before .before .before .args .i) (c .before .before .before .before .args .n) (c .before .loop .j) (omega (arith, c .loop-test .left))) (c .before .loop .inv .1))
+returns c = along-end (along-is (name-end (c .before .before .before .before .args .t .now) (c .before .before .before .before .args .i)
+    (c .before .before .before .before .args .n) (c .before .loop .j) (omega (arith, c .loop-test .left))) (c .before .loop .inv .1))
 
 pub name-bytes-spec : {M : Type 1} → statement M
 name-bytes-spec =

@@ -25,7 +25,8 @@ same-length : tie.Need-same-length
 same-length c = search needs
 
 returns : tie.Need-returns
-returns c = penned-is (one-byte (c .before .before .before .before .before .before .args .lo) (c .before .before .before .before .before .before .args .hi) (c .before .before .before .before .if1 .taken)) (c .before .before .class-char .ensures)
+returns c = penned-is (one-byte (c .before .before .before .before .before .before .args .lo) (c .before .before .before .before .before .before .args .hi)
+    (c .before .before .before .before .if1 .taken)) (c .before .before .class-char .ensures)
 
 class-char-requires-2 : tie.Need-class-char-requires-2
 class-char-requires-2 c κs = c .before .before .before .pre
@@ -40,7 +41,11 @@ same-length-2 : tie.Need-same-length-2
 same-length-2 c = search needs
 
 returns-2 : tie.Need-returns-2
-returns-2 c = penned-is (more-bytes (c .before .before .before .before .before .before .before .before .before .before .before .before .before .before .args .lo) (c .before .before .before .before .before .before .before .before .before .before .before .before .before .before .args .hi) (c .before .before .before .before .before .before .before .before .before .before .before .before .if1 .left)) (on (omega arith) (c .before .before .before .before .before .before .before .before .before .before .class-char2 .ensures) (on (omega arith) (c .before .before .before .before .before .before .emit .ensures) (c .before .before .class-char3 .ensures)))
+returns-2 c = penned-is (more-bytes (c .before .before .before .before .before .before .before .before .before .before .before .before .before .before .args .lo)
+    (c .before .before .before .before .before .before .before .before .before .before .before .before .before .before .args .hi)
+    (c .before .before .before .before .before .before .before .before .before .before .before .before .if1 .left))
+    (on (omega arith) (c .before .before .before .before .before .before .before .before .before .before .class-char2 .ensures)
+    (on (omega arith) (c .before .before .before .before .before .before .emit .ensures) (c .before .before .class-char3 .ensures)))
 
 pub run-text-spec : {M : Type 1} → statement M
 run-text-spec =

@@ -31,7 +31,12 @@ name-length-requires : tie.Need-name-length-requires
 name-length-requires c κs = search needs
 
 name-bytes-requires : tie.Need-name-bytes-requires
-name-bytes-requires c κs = (c .before .before .before .before .before .before .before .pre .0, omega (arith, c .before .before .before .before .name-at .ensures, c .before .before .before .before .before .before .before .pre .1), c .before .before .name-length .ensures .1)
+name-bytes-requires c κs = (
+  c .before .before .before .before .before .before .before .pre .0,
+  omega
+      (arith, c .before .before .before .before .name-at .ensures, c .before .before .before .before .before .before .before .pre .1),
+  c .before .before .name-length .ensures .1,
+)
 
 same-length : tie.Need-same-length
 same-length c = search needs
@@ -39,8 +44,11 @@ same-length c = search needs
 returns : tie.Need-returns
 returns c = penned-is (name-text (c .before .before .before .before .before .before .before .before .before .before .args .t .now)
     (c .before .before .before .before .before .before .before .before .before .before .args .r) (c .before .before .before .before .before .before .kind .result)
-    (c .before .before .before .before .before .name-length .result) (c .before .before .before .before .before .before .kind .ensures .0) (c .before .before .before .before .before .name-length .ensures .0)
-    (c .before .before .before .before .before .before .before .before .before .before .args .plain) (c .before .before .before .before .if1 .taken)) (penned-is (ap (λ (i : ℕ). map low (wordsFrom (c .before .before .before .before .before .before .before .before .before .before .args .t .now) i (c .before .before .before .before .before .name-length .result))) (c .before .before .before .before .before .before .before .name-at .ensures)) (c .before .before .name-bytes .ensures))
+    (c .before .before .before .before .before .name-length .result) (c .before .before .before .before .before .before .kind .ensures .0)
+    (c .before .before .before .before .before .name-length .ensures .0)
+    (c .before .before .before .before .before .before .before .before .before .before .args .plain) (c .before .before .before .before .if1 .taken))
+    (penned-is (ap (λ (i : ℕ). map low (wordsFrom (c .before .before .before .before .before .before .before .before .before .before .args .t .now) i
+    (c .before .before .before .before .before .name-length .result))) (c .before .before .before .before .before .before .before .name-at .ensures)) (c .before .before .name-bytes .ensures))
 
 emit4-requires : tie.Need-emit4-requires
 emit4-requires c κs = search needs
@@ -49,7 +57,15 @@ emit2-requires : tie.Need-emit2-requires
 emit2-requires c κs = penned-most (c .before .before .before .emit4 .ensures)
 
 name-bytes-requires-2 : tie.Need-name-bytes-requires-2
-name-bytes-requires-2 c κs = (penned-most (c .before .before .before .emit2 .ensures), omega (arith, c .before .before .before .before .before .before .before .before .before .before .before .before .before .name-at .ensures, c .before .before .before .before .before .before .before .before .before .before .before .before .before .before .before .before .pre .1), c .before .before .before .before .before .before .before .before .before .before .before .name-length .ensures .1)
+name-bytes-requires-2 c κs = (
+  penned-most (c .before .before .before .emit2 .ensures),
+  omega (
+    arith,
+    c .before .before .before .before .before .before .before .before .before .before .before .before .before .name-at .ensures,
+    c .before .before .before .before .before .before .before .before .before .before .before .before .before .before .before .before .pre .1,
+  ),
+  c .before .before .before .before .before .before .before .before .before .before .before .name-length .ensures .1,
+)
 
 same-length-2 : tie.Need-same-length-2
 same-length-2 c = search needs
@@ -72,7 +88,15 @@ emit-requires : tie.Need-emit-requires
 emit-requires c κs = search needs
 
 name-bytes-requires-3 : tie.Need-name-bytes-requires-3
-name-bytes-requires-3 c κs = (penned-most (c .before .before .before .emit .ensures), omega (arith, c .before .before .before .before .before .before .before .before .before .name-at .ensures, c .before .before .before .before .before .before .before .before .before .before .before .before .pre .1), c .before .before .before .before .before .before .before .name-length .ensures .1)
+name-bytes-requires-3 c κs = (
+  penned-most (c .before .before .before .emit .ensures),
+  omega (
+    arith,
+    c .before .before .before .before .before .before .before .before .before .name-at .ensures,
+    c .before .before .before .before .before .before .before .before .before .before .before .before .pre .1,
+  ),
+  c .before .before .before .before .before .before .before .name-length .ensures .1,
+)
 
 emit-requires-2 : tie.Need-emit-requires-2
 emit-requires-2 c κs = penned-most (c .before .before .before .name-bytes3 .ensures)
@@ -90,7 +114,12 @@ returns-3 c = penned-is (lake-text (c .before .before .before .before .before .b
     (c .before .before .before .before .before .before .before .before .before .before .before .before .before .before .before .before .before .before .before .args .plain)
     (c .before .before .before .before .before .before .before .before .before .before .before .before .if2 .left)
     (c .before .before .before .before .before .before .before .before .before .before .before .before .before .if1 .left)) (on (omega arith)
-    (c .before .before .before .before .before .before .before .before .before .before .emit .ensures) (on (omega arith) (penned-is (ap (λ (i : ℕ). map low (wordsFrom (c .before .before .before .before .before .before .before .before .before .before .before .before .before .before .before .before .before .before .before .args .t .now) i (c .before .before .before .before .before .before .before .before .before .before .before .before .before .before .name-length .result))) (c .before .before .before .before .before .before .before .before .before .before .before .before .before .before .before .before .name-at .ensures)) (c .before .before .before .before .before .before .name-bytes3 .ensures))
+    (c .before .before .before .before .before .before .before .before .before .before .emit .ensures)
+    (on (omega arith) (penned-is (ap (λ (i : ℕ). map low (wordsFrom
+    (c .before .before .before .before .before .before .before .before .before .before .before .before .before .before .before .before .before .before .before .args .t .now) i
+    (c .before .before .before .before .before .before .before .before .before .before .before .before .before .before .name-length .result)))
+    (c .before .before .before .before .before .before .before .before .before .before .before .before .before .before .before .before .name-at .ensures))
+    (c .before .before .before .before .before .before .name-bytes3 .ensures))
     (c .before .before .emit3 .ensures)))
 
 pub symbol-spec : {M : Type 1} → statement M

@@ -24,7 +24,8 @@ same-length-2 : tie.Need-same-length-2
 same-length-2 c = search needs
 
 returns-2 : tie.Need-returns-2
-returns-2 c = written (omega arith) (c .before .before .before .before .before .before .before .rules .ensures) _ (c .before .before .rules2 .result) (omega (arith, c .before .before .before .before .if1 .left)) (c .before .before .rules2 .ensures)
+returns-2 c = written (omega arith) (c .before .before .before .before .before .before .before .rules .ensures) _ (c .before .before .rules2 .result)
+    (omega (arith, c .before .before .before .before .if1 .left)) (c .before .before .rules2 .ensures)
 
 pub write-spec : {M : Type 1} → statement M
 write-spec =

@@ -1,14 +1,14 @@
--- `match_cells::memory::find` meets its contract. Assumes nothing.
+-- `match_keys::find` meets its contract. Assumes nothing.
 use native.Mathlib.Omega.{arith}
 use Prim.Native.Nat.{_-_, _≤_}
 use borrow.Author.Needs.{needs}
-use Rattle.match_cells.proofs.memory.find.Statement.{statement}
-use Rattle.match_cells.proofs.memory.find.Tie as tie
-use Rattle.match_cells.proofs.memory.find.Reads as reads
-use Rattle.match_cells.proofs.memory.find.Lts as lts
+use Rattle.match_keys.proofs.find.Statement.{statement}
+use Rattle.match_keys.proofs.find.Tie as tie
+use Rattle.match_keys.proofs.find.Reads as reads
+use Rattle.match_keys.proofs.find.Lts as lts
 use Rattle.base_words.proofs.word.Reads as word-reads
 use Rattle.match_eval.proofs.memory.key.Reads as key-reads
-use Rattle.match_cells.proofs.memory.same.Reads as same-reads
+use Rattle.match_keys.proofs.same.Reads as same-reads
 
 abbrev Inv-loop : tie.InvT-loop
 Inv-loop t mem y d k₀ k = k ≤ d

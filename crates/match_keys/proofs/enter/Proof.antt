@@ -1,19 +1,19 @@
--- `match_cells::memory::enter` meets its contract. Assumes nothing.
+-- `match_keys::enter` meets its contract. Assumes nothing.
 use native.Mathlib.Omega.{arith}
 use mathlib.Core.Path.{sym, ap, subst, _∙_}
 use Prim.Native.Nat.{ℕ, _+_}
 use mathlib.Core.List.{List}
 use lib.ListN.{set}
 use Rattle.match_eval.specs.steps.Memory.{Fresh}
-use Rattle.match_cells.specs.laws.Keys.{fresh-like, fresh-own}
+use Rattle.match_keys.specs.laws.Keys.{fresh-like, fresh-own}
 use borrow.Author.Needs.{needs}
-use Rattle.match_cells.proofs.memory.enter.Statement.{statement}
-use Rattle.match_cells.proofs.memory.enter.Tie as tie
-use Rattle.match_cells.proofs.memory.enter.Reads as reads
-use Rattle.match_cells.proofs.memory.enter.Lts as lts
+use Rattle.match_keys.proofs.enter.Statement.{statement}
+use Rattle.match_keys.proofs.enter.Tie as tie
+use Rattle.match_keys.proofs.enter.Reads as reads
+use Rattle.match_keys.proofs.enter.Lts as lts
 use Rattle.base_words.proofs.put.Reads as put-reads
 use Rattle.base_words.proofs.word.Reads as word-reads
-use Rattle.match_cells.proofs.memory.find.Reads as find-reads
+use Rattle.match_keys.proofs.find.Reads as find-reads
 
 find-requires : tie.Need-find-requires
 find-requires c κs = omega (arith, c .before .before .before .pre .0)
@@ -52,7 +52,11 @@ same-length : tie.Need-same-length
 same-length c = search needs
 
 returns : tie.Need-returns
-returns c = subst (λ (v : List ℕ). Fresh (c .before .before .before .before .before .before .before .before .before .args .t .now) v) (sym (c .before .before .put .ensures)) (fresh-like (c .before .before .before .before .before .before .before .before .before .args .t .now) (c .before .before .before .before .before .before .before .before .before .args .mem .now) (c .before .before .before .before .before .before .before .before .before .pre .1) (c .before .before .before .before .before .before .before .before .before .args .y) (c .before .before .before .before .before .before .before .before .before .pre .0) (c .before .before .before .before .before .find .result) (c .before .before .before .before .before .find .ensures .0 (omega (arith, c .before .before .before .before .if1 .taken))))
+returns c = subst (λ (v : List ℕ). Fresh (c .before .before .before .before .before .before .before .before .before .args .t .now) v) (sym (c .before .before .put .ensures))
+    (fresh-like (c .before .before .before .before .before .before .before .before .before .args .t .now)
+    (c .before .before .before .before .before .before .before .before .before .args .mem .now) (c .before .before .before .before .before .before .before .before .before .pre .1)
+    (c .before .before .before .before .before .before .before .before .before .args .y) (c .before .before .before .before .before .before .before .before .before .pre .0)
+    (c .before .before .before .before .before .find .result) (c .before .before .before .before .before .find .ensures .0 (omega (arith, c .before .before .before .before .if1 .taken))))
 
 same-length-2 : tie.Need-same-length-2
 same-length-2 c = search needs

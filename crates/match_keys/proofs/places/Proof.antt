@@ -1,11 +1,11 @@
--- `match_cells::memory::places` meets its contract. Assumes nothing.
+-- `match_keys::places` meets its contract. Assumes nothing.
 use native.Mathlib.Omega.{arith}
 use Prim.Native.Nat.{_≤_}
 use borrow.Author.Needs.{needs}
-use Rattle.match_cells.proofs.memory.places.Statement.{statement}
-use Rattle.match_cells.proofs.memory.places.Tie as tie
-use Rattle.match_cells.proofs.memory.places.Reads as reads
-use Rattle.match_cells.proofs.memory.places.Lts as lts
+use Rattle.match_keys.proofs.places.Statement.{statement}
+use Rattle.match_keys.proofs.places.Tie as tie
+use Rattle.match_keys.proofs.places.Reads as reads
+use Rattle.match_keys.proofs.places.Lts as lts
 
 abbrev Inv-loop : tie.InvT-loop
 Inv-loop d most w₀ w = w ≤ 4096

@@ -1,21 +1,21 @@
--- `match_cells::memory::enter_all` meets its contract. Assumes nothing.
+-- `match_keys::enter_all` meets its contract. Assumes nothing.
 use native.Mathlib.Omega.{arith}
 use mathlib.Core.Path.{_≡_, refl, sym, subst, _∙_}
 use Prim.Native.Nat.{ℕ, _-_}
 use mathlib.Core.List.{List}
 use lib.ListN.{length}
 use Rattle.match_eval.specs.steps.Memory.{Fresh}
-use Rattle.match_cells.specs.laws.Keys.{fresh-places}
+use Rattle.match_keys.specs.laws.Keys.{fresh-places}
 use borrow.Author.Needs.{needs}
-use Rattle.match_cells.proofs.memory.enter_all.Statement.{statement}
-use Rattle.match_cells.proofs.memory.enter_all.Tie as tie
-use Rattle.match_cells.proofs.memory.enter_all.Reads as reads
-use Rattle.match_cells.proofs.memory.enter_all.Lts as lts
+use Rattle.match_keys.proofs.enter_all.Statement.{statement}
+use Rattle.match_keys.proofs.enter_all.Tie as tie
+use Rattle.match_keys.proofs.enter_all.Reads as reads
+use Rattle.match_keys.proofs.enter_all.Lts as lts
 use Rattle.base_words.proofs.put.Reads as put-reads
 use Rattle.base_words.proofs.word.Reads as word-reads
-use Rattle.match_cells.proofs.memory.count.Reads as count-reads
-use Rattle.match_cells.proofs.memory.enter_repeat.Reads as enter-repeat-reads
-use Rattle.match_cells.proofs.memory.places.Reads as places-reads
+use Rattle.match_keys.proofs.count.Reads as count-reads
+use Rattle.match_keys.proofs.enter_repeat.Reads as enter-repeat-reads
+use Rattle.match_keys.proofs.places.Reads as places-reads
 
 abbrev Inv-loop : tie.InvT-loop
 Inv-loop t mem₀ m e₀ mem e = (length mem ≡ length mem₀) × Fresh t mem
@@ -54,7 +54,10 @@ same-length : tie.Need-same-length Inv-loop μ-loop
 same-length c = search needs
 
 returns : tie.Need-returns Inv-loop μ-loop
-returns c = subst (λ (v : List ℕ). Fresh (c .before .before .before .before .before .before .before .before .before .before .before .before .args .t .now) v) (sym (c .before .before .put .ensures)) (fresh-places (c .before .before .before .before .before .before .before .before .before .before .before .before .args .t .now) (c .before .before .before .before .before .before .before .before .loop .mem) (c .before .before .before .before .before .before .before .before .loop .inv .1) (c .before .before .before .places .result))
+returns c = subst (λ (v : List ℕ). Fresh (c .before .before .before .before .before .before .before .before .before .before .before .before .args .t .now) v)
+    (sym (c .before .before .put .ensures)) (fresh-places (c .before .before .before .before .before .before .before .before .before .before .before .before .args .t .now)
+    (c .before .before .before .before .before .before .before .before .loop .mem) (c .before .before .before .before .before .before .before .before .loop .inv .1)
+    (c .before .before .before .places .result))
 
 pub enter-all-spec : {M : Type 1} → statement M
 enter-all-spec =

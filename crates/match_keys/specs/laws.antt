@@ -1,0 +1,2 @@
+-- Laws of the definitions of match_eval.
+pub mod Keys
