@@ -24,6 +24,8 @@ LEFT = {
     "long lines in code": 0,
     "long lines in definitions": 0,
     "long lines in documents": 0,
+    "long lines in proofs": 71,
+    "names with two meanings": 0,
     "edges never named": 0,
     "definitions outside the tour": 0,
     "tour out of order": 0,
@@ -36,6 +38,7 @@ TABLE_NUMBERS = r"\b(?:19208|2696|22280)\b|\b8 \+ 42 \*|\b258 \*"
 RECORD_PLACE = r"\b(?:SYMBOLS|TERMINALS|EXPRESSIONS)_AT\s*\+\s*(?:\w+::)*(?:SYMBOL|TERMINAL|EXPRESSION)_WORDS \*"  # only records.rt says it
 MOST_PARAMETERS = 7
 LONGEST_LINE = 160
+LONGEST_LINE_OF_A_PROOF = 200
 LONGEST_LINE_OF_A_DOCUMENT = 120
 TOUR = "docs/READING-ORDER.md"
 PICTURE = "docs/stages.svg"
@@ -118,6 +121,22 @@ def long_lines(paths, most):
         for number, line in enumerate(read(path).split("\n"), 1):
             if len(line) > most:
                 yield f"{path}:{number}: {len(line)} characters"
+
+
+def believed():
+    """The definitions that have to be believed: those that are not shaped like code."""
+    return [path for path in definitions() if "/specs/steps/" not in path]
+
+
+def two_meanings():
+    """Names that two crates give to a definition, a record or a data type."""
+    crates_of = {}
+    for path in believed():
+        for found in re.findall(r"(?m)^\s*(?:abbrev|unfoldable) pub ([^\W\d][\w′-]*) :|^pub (?:record|data) (\w+)", read(path)):
+            crates_of.setdefault(found[0] or found[1], set()).add(path.split("/")[1])
+    for name, places in sorted(crates_of.items()):
+        if len(places) > 1:
+            yield f"{name}: {', '.join(sorted(places))}"
 
 
 # ── crates.txt: a crate names what it uses, and no more ──
@@ -280,6 +299,8 @@ def counted():
     yield "long lines in code", long_lines(code(), LONGEST_LINE)
     yield "long lines in definitions", long_lines(definitions(), LONGEST_LINE)
     yield "long lines in documents", long_lines(files("*.md") + files("docs/*.md"), LONGEST_LINE_OF_A_DOCUMENT)
+    yield "long lines in proofs", long_lines(files("crates/*/proofs/**/*.antt"), LONGEST_LINE_OF_A_PROOF)
+    yield "names with two meanings", two_meanings()
     yield "edges never named", edges()
     yield "definitions outside the tour", outside_the_tour()
     yield "tour out of order", out_of_order()

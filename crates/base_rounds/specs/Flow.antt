@@ -12,13 +12,13 @@ pub record Edge : Type 0 where
 
 module _ {A : Type 0} (join : A → A → A) (d : A) where
   -- what one edge adds to acc
-  abbrev pub put : Edge → List A → List A → List A
-  put e old acc = set acc (e .to) (join (getD acc (e .to) d) (getD old (e .from) d))
+  abbrev pub handOn : Edge → List A → List A → List A
+  handOn e old acc = set acc (e .to) (join (getD acc (e .to) d) (getD old (e .from) d))
 
   -- what all edges add to acc, from old
   abbrev pub flow : List Edge → List A → List A → List A
   flow [] old acc = acc
-  flow (e ∷ es) old acc = flow es old (put e old acc)
+  flow (e ∷ es) old acc = flow es old (handOn e old acc)
 
 -- whether two states are the same
 abbrev pub sameWords : List ℕ → List ℕ → Bool

@@ -45,8 +45,8 @@ abbrev pub unless : Option Refusal → Said → Said
 unless none x = x
 unless (some r) x = says (refused (r .number) (r .place))
 
-abbrev pub readBy : Counted → Said
-readBy c = unless (verdictSays (c .verdict)) (counted (c .symbols) (c .terminals) (c .expressions))
+abbrev pub readSaid : Counted → Said
+readSaid c = unless (verdictSays (c .verdict)) (counted (c .symbols) (c .terminals) (c .expressions))
 
 abbrev pub roundsBy : SetsOf → Said
 roundsBy r = unless (verdictSays (r .verdict)) (says (value (r .rounds)))
@@ -66,15 +66,15 @@ threeBy r = unless (verdictSays (r .verdict)) (three (r .sets .begin) (r .sets .
 abbrev pub matchedBy : Matching → Said
 matchedBy x = listed (x .answer .outcome) (x .answer .nodes) (take (nodeWords * x .answer .nodes) (x .nodes))
 
-abbrev pub lakeBy : LakeAnswer → Said
-lakeBy x = unless (x .verdict) (says (value (x .way)))
+abbrev pub lakeSaid : LakeAnswer → Said
+lakeSaid x = unless (x .verdict) (says (value (x .way)))
 
 -- room for the longest text of the table
 abbrev pub room : List ℕ
 room = replicate 128 0
 
 unfoldable pub answered : Asked → Said
-answered (reads m t) = readBy (readOf m (bytes t))
+answered (reads m t) = readSaid (readOf m (bytes t))
 answered (rounds m t) = roundsBy (setsOf m (bytes t) 1)
 answered (skips m t) = skipsBy (cannotSkipOf m (bytes t))
 answered (own m t) = textBy (writeOwnOf m (bytes t) room)
@@ -82,7 +82,7 @@ answered (plain m t) = textBy (writePlainOf m (bytes t) room)
 answered (alt m t e) = altBy (setsOf m (bytes t) e)
 answered (sets m t e) = threeBy (setsOf m (bytes t) e)
 answered (matches m t s c w) = matchedBy (matchOf m (bytes t) (bytes s) (replicate c 0) (replicate w 0))
-answered (lakes m t s l q) = lakeBy (lakeOf m (bytes t) (bytes s) (replicate 256 0) l q)
+answered (lakes m t s l q) = lakeSaid (lakeOf m (bytes t) (bytes s) (replicate 256 0) l q)
 
 pub record Case : Type 0 where
   pub asked : Asked

@@ -13,12 +13,12 @@ use Rattle.grammar.specs.Numbers.{Grammar, isLake}
 use Rattle.lake_step_one.specs.Intermediate.{waterIn, rightOr}
 use Rattle.lake_rules.specs.Analysis.{Analysis, bodyAlt}
 use Rattle.lake_plain.specs.Plain.{alternatives}
-use Rattle.match_meaning.specs.Meaning.{Body, rule, lake, Meant}
+use Rattle.match_meaning.specs.Meaning.{SymbolBody, rule, lake, Meant}
 use Rattle.match_eval.specs.Eval.{nowhere}
 use Rattle.prepare.specs.Prepare.{prepared}
 
 -- a lake is its own right side, if it has a rule, and its alternative symbols; a nonterminal is its right side: it has one (laws/Ruled.antt)
-abbrev pub standsFor : Bool → Option (Exp ℕ) → List (Exp ℕ) → Body
+abbrev pub standsFor : Bool → Option (Exp ℕ) → List (Exp ℕ) → SymbolBody
 standsFor true o ss = lake o ss
 standsFor false o ss = rule (rightOr o)
 
@@ -32,7 +32,7 @@ abbrev pub alternativesAt : Grammar → Analysis → ℕ → List (Exp ℕ)
 alternativesAt g a r = alternatives g (bodyAlt a r)
 
 -- a symbol that there is not matches nowhere
-abbrev pub standsIn : Bool → Grammar → Analysis → ℕ → Body
+abbrev pub standsIn : Bool → Grammar → Analysis → ℕ → SymbolBody
 standsIn true g a r = standsFor (isLake (getD (g .names) r (name []))) (rightAt g r) (alternativesAt g a r)
 standsIn false g a r = rule nowhere
 

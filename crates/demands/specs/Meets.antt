@@ -20,15 +20,15 @@ use Rattle.demands.specs.Checks.{FirstRow, NoRow, inputChecks, lakeCheck
 use Rattle.demands.specs.Ways.{Ways}
 
 -- R
-abbrev pub symbolsIn : Mode → List ℕ → ℕ
-symbolsIn m t = length (prepared m t .grammar .names)
+abbrev pub symbolCountOf : Mode → List ℕ → ℕ
+symbolCountOf m t = length (prepared m t .grammar .names)
 
 -- "With R symbols and n bytes, u32 work cell p·R + r holds 0 if symbol r fails at p, else 1 + length taken, for p from 0 to n. Later cells .. stay as
 -- they were"
 pub record Tabled (m : Mode) (t s cs c : List ℕ) : Type 0 where
   pub long : length c ≡ length cs
-  pub cell : (p r : ℕ) → p ≤ length s → r < symbolsIn m t → (ns : List Node) × Derives (meant m t) s 0 (sym r) p (getD c (p * symbolsIn m t + r) 0) ns
-  pub later : (i : ℕ) → (length s + 1) * symbolsIn m t ≤ i → getD c i 0 ≡ getD cs i 0
+  pub cell : (p r : ℕ) → p ≤ length s → r < symbolCountOf m t → (ns : List Node) × Derives (meant m t) s 0 (sym r) p (getD c (p * symbolCountOf m t + r) 0) ns
+  pub later : (i : ℕ) → (length s + 1) * symbolCountOf m t ≤ i → getD c i 0 ≡ getD cs i 0
 
 -- the words are those nodes: "node words .. behind the last one written, stay as they were"
 pub record NodesIn (ws : List ℕ) (ns : List Node) (w : List ℕ) : Type 0 where

@@ -5,7 +5,7 @@ ghost use mathlib.Core.Path.{_≡_};
 ghost use Rattle.match_list.specs.Nodes.{soundAt};
 ghost use Rattle.prepare.specs.Reads.{readOf};
 ghost use Rattle.gurkenmond.specs.Calls.{setsOf, cannotSkipOf, matchOf, lakeOf, writeOwnOf, writePlainOf, symbolNameOf};
-ghost use Rattle.library_numbers.specs.Words.{modeOf, Answers, readWords, setsWords, lakesWords, soundWords, spanWords, SaysMatch, SaysLake, SaysText};
+ghost use Rattle.library_numbers.specs.Words.{modeOf, Answers, readWords, setsWords, lakesWords, soundWords, spanWords, NumbersMatch, NumbersLake, NumbersText};
 
 // 0, symbols, terminals, expressions.
 #[no_mangle]
@@ -57,7 +57,7 @@ pub extern "C" fn gm_match(
     nodes: &mut [u32],
     out: &mut [u64; 4],
 ) -> u64
-    ensures { λ r. ⌜ SaysMatch r (now (out .exit)) (now (cells .exit)) (now (nodes .exit))
+    ensures { λ r. ⌜ NumbersMatch r (now (out .exit)) (now (cells .exit)) (now (nodes .exit))
         (matchOf (modeOf mode) (now (text .entry)) (now (input .entry)) (now (cells .entry)) (now (nodes .entry))) ⌝ }
 {
     let m = library_numbers::mode_of(mode);
@@ -79,7 +79,7 @@ pub extern "C" fn gm_lake_at(
     place: usize,
     out: &mut [u64; 4],
 ) -> u64
-    ensures { λ r. ⌜ SaysLake r (now (out .exit)) (now (cells .exit))
+    ensures { λ r. ⌜ NumbersLake r (now (out .exit)) (now (cells .exit))
         (lakeOf (modeOf mode) (now (text .entry)) (now (input .entry)) (now (cells .entry)) lake place) ⌝ }
 {
     let m = library_numbers::mode_of(mode);
@@ -117,7 +117,7 @@ pub extern "C" fn gm_node_text(input: &[u8], nodes: &[u32], k: usize, out: &mut 
 // 0, bytes written; or 13, bytes needed.
 #[no_mangle]
 pub extern "C" fn gm_write_own(mode: u8, text: &[u8], room: &mut [u8], out: &mut [u64; 4]) -> u64
-    ensures { λ r. ⌜ SaysText r (now (out .exit)) (now (room .exit)) (writeOwnOf (modeOf mode) (now (text .entry)) (now (room .entry))) ⌝ }
+    ensures { λ r. ⌜ NumbersText r (now (out .exit)) (now (room .exit)) (writeOwnOf (modeOf mode) (now (text .entry)) (now (room .entry))) ⌝ }
 {
     let m = library_numbers::mode_of(mode);
     let a = gurkenmond::write_own(m, text, room);
@@ -130,7 +130,7 @@ pub extern "C" fn gm_write_own(mode: u8, text: &[u8], room: &mut [u8], out: &mut
 // The same for the plain text.
 #[no_mangle]
 pub extern "C" fn gm_write_plain(mode: u8, text: &[u8], room: &mut [u8], out: &mut [u64; 4]) -> u64
-    ensures { λ r. ⌜ SaysText r (now (out .exit)) (now (room .exit)) (writePlainOf (modeOf mode) (now (text .entry)) (now (room .entry))) ⌝ }
+    ensures { λ r. ⌜ NumbersText r (now (out .exit)) (now (room .exit)) (writePlainOf (modeOf mode) (now (text .entry)) (now (room .entry))) ⌝ }
 {
     let m = library_numbers::mode_of(mode);
     let a = gurkenmond::write_plain(m, text, room);
@@ -149,7 +149,7 @@ pub extern "C" fn gm_symbol_name(
     room: &mut [u8],
     out: &mut [u64; 4],
 ) -> u64
-    ensures { λ r. ⌜ SaysText r (now (out .exit)) (now (room .exit)) (symbolNameOf (modeOf mode) (now (text .entry)) symbol (now (room .entry))) ⌝ }
+    ensures { λ r. ⌜ NumbersText r (now (out .exit)) (now (room .exit)) (symbolNameOf (modeOf mode) (now (text .entry)) symbol (now (room .entry))) ⌝ }
 {
     let m = library_numbers::mode_of(mode);
     let a = gurkenmond::symbol_name(m, text, symbol, room);

@@ -29,72 +29,72 @@ modeOf (suc k) = Plain
 abbrev pub Answers : ℕ → List ℕ → List ℕ → Type 0
 Answers r out ws = (out ≡ ws) × (r ≡ getD out 0 0)
 
-abbrev pub four : ℕ → ℕ → ℕ → ℕ → List ℕ
-four a b c d = a ∷ b ∷ c ∷ d ∷ []
+abbrev pub fourWords : ℕ → ℕ → ℕ → ℕ → List ℕ
+fourWords a b c d = a ∷ b ∷ c ∷ d ∷ []
 
 -- ── read: 0, symbols, terminals, expressions ──
-abbrev pub readBy : Verdict → ℕ → ℕ → ℕ → List ℕ
-readBy Accepted s t e = four 0 s t e
-readBy (VerdictRefused n p) s t e = four n p 0 0
+abbrev pub readNumbers : Verdict → ℕ → ℕ → ℕ → List ℕ
+readNumbers Accepted s t e = fourWords 0 s t e
+readNumbers (VerdictRefused n p) s t e = fourWords n p 0 0
 
 abbrev pub readWords : Counted → List ℕ
-readWords c = readBy (c .verdict) (c .symbols) (c .terminals) (c .expressions)
+readWords c = readNumbers (c .verdict) (c .symbols) (c .terminals) (c .expressions)
 
 -- ── sets: 0, the round count, the two words each of BEGINNING, SUCCEED and ALT, then 1 for ε and 0 for none ──
 abbrev pub bitOf : Bool → ℕ
 bitOf b = cond b 1 0
 
-abbrev pub setsBy : Verdict → ℕ → Sets → List ℕ
-setsBy Accepted k s =
+abbrev pub setsNumbers : Verdict → ℕ → Sets → List ℕ
+setsNumbers Accepted k s =
     0 ∷ k ∷ getD (s .begin) 0 0 ∷ getD (s .begin) 1 0 ∷ getD (s .succeed) 0 0 ∷ getD (s .succeed) 1 0
     ∷ getD (s .alt) 0 0 ∷ getD (s .alt) 1 0 ∷ bitOf (s .eps) ∷ []
-setsBy (VerdictRefused n p) k s = n ∷ p ∷ 0 ∷ 0 ∷ 0 ∷ 0 ∷ 0 ∷ 0 ∷ 0 ∷ []
+setsNumbers (VerdictRefused n p) k s = n ∷ p ∷ 0 ∷ 0 ∷ 0 ∷ 0 ∷ 0 ∷ 0 ∷ 0 ∷ []
 
 abbrev pub setsWords : SetsOf → List ℕ
-setsWords r = setsBy (r .verdict) (r .rounds) (r .sets)
+setsWords r = setsNumbers (r .verdict) (r .rounds) (r .sets)
 
 -- ── the lakes that cannot skip: 0, their bits ──
-abbrev pub lakesBy : Verdict → ℕ → List ℕ
-lakesBy Accepted w = four 0 w 0 0
-lakesBy (VerdictRefused n p) w = four n p 0 0
+abbrev pub lakesNumbers : Verdict → ℕ → List ℕ
+lakesNumbers Accepted w = fourWords 0 w 0 0
+lakesNumbers (VerdictRefused n p) w = fourWords n p 0 0
 
 abbrev pub lakesWords : Lakes → List ℕ
-lakesWords l = lakesBy (l .verdict) (l .word)
+lakesWords l = lakesNumbers (l .verdict) (l .word)
 
 -- ── match: 0, bytes taken, nodes; the cells and node words are those of the call's definition ──
-abbrev pub matchBy : Says → ℕ → List ℕ
-matchBy (value p) k = four 0 p k 0
-matchBy nomatch k = four 100 0 0 0
-matchBy (refused n p) k = four n p 0 0
+abbrev pub matchNumbers : Says → ℕ → List ℕ
+matchNumbers (value p) k = fourWords 0 p k 0
+matchNumbers nomatch k = fourWords 100 0 0 0
+matchNumbers (refused n p) k = fourWords n p 0 0
 
 abbrev pub matchWords : MatchAnswer → List ℕ
-matchWords m = matchBy (m .outcome) (m .nodes)
+matchWords m = matchNumbers (m .outcome) (m .nodes)
 
-abbrev pub SaysMatch : ℕ → List ℕ → List ℕ → List ℕ → Matching → Type 0
-SaysMatch r out cs ws m = (out ≡ matchWords (m .answer)) × (r ≡ getD out 0 0) × (cs ≡ m .cells) × (ws ≡ m .nodes)
+abbrev pub NumbersMatch : ℕ → List ℕ → List ℕ → List ℕ → Matching → Type 0
+NumbersMatch r out cs ws m = (out ≡ matchWords (m .answer)) × (r ≡ getD out 0 0) × (cs ≡ m .cells) × (ws ≡ m .nodes)
 
 -- ── one value, or a refusal ──
 abbrev pub oneBy : Option Refusal → ℕ → List ℕ
-oneBy none x = four 0 x 0 0
-oneBy (some r) x = four (r .number) (r .place) 0 0
+oneBy none x = fourWords 0 x 0 0
+oneBy (some r) x = fourWords (r .number) (r .place) 0 0
 
 -- ── the lake question: 0, then "0 not, 1 by its rule, 2 by water, 3 by one skipped byte" ──
-abbrev pub SaysLake : ℕ → List ℕ → List ℕ → LakeAnswer → Type 0
-SaysLake r out cs a = (out ≡ oneBy (a .verdict) (a .way)) × (r ≡ getD out 0 0) × (cs ≡ a .cells)
+abbrev pub NumbersLake : ℕ → List ℕ → List ℕ → LakeAnswer → Type 0
+NumbersLake r out cs a = (out ≡ oneBy (a .verdict) (a .way)) × (r ≡ getD out 0 0) × (cs ≡ a .cells)
 
 -- ── a node: 0, then 1 for sound and 0 for unsound ──
 abbrev pub soundWords : Bool → List ℕ
-soundWords b = four 0 (bitOf b) 0 0
+soundWords b = fourWords 0 (bitOf b) 0 0
 
 -- ── its text: 0, where it begins in the input, how many bytes it has; "for an unsound node, the empty part at 0" ──
 abbrev pub spanBy : Bool → Node → List ℕ
-spanBy true x = four 0 (x .start) (x .end - x .start) 0
-spanBy false x = four 0 0 0 0
+spanBy true x = fourWords 0 (x .start) (x .end - x .start) 0
+spanBy false x = fourWords 0 0 0 0
 
 -- s the input, ws the node words; `laws/Parts.antt`: that part of s is what the public call answers
 abbrev pub spanWords : List ℕ → List ℕ → ℕ → List ℕ
 spanWords s ws k = spanBy (soundAt ws k (length s)) (nodeAt ws k)
 
 -- ── writing: 0, bytes written; the room is that of the call's definition ──
-abbrev pub SaysText : ℕ → List ℕ → List ℕ → Writing → Type 0
-SaysText r out room w = (out ≡ oneBy (w .verdict) (w .bytes)) × (r ≡ getD out 0 0) × (room ≡ w .out)
+abbrev pub NumbersText : ℕ → List ℕ → List ℕ → Writing → Type 0
+NumbersText r out room w = (out ≡ oneBy (w .verdict) (w .bytes)) × (r ≡ getD out 0 0) × (room ≡ w .out)

@@ -1,7 +1,7 @@
 // The answers of the public calls as numbers (specs/Words.antt).
 ghost use mathlib.Core.Path.{_≡_};
 ghost use Rattle.gurkenmond.specs.Answers.{verdictSays, outcomeSays, waySays};
-ghost use Rattle.library_numbers.specs.Words.{modeOf, bitOf, four, readBy, setsBy, lakesBy, matchBy, oneBy, spanWords};
+ghost use Rattle.library_numbers.specs.Words.{modeOf, bitOf, fourWords, readNumbers, setsNumbers, lakesNumbers, matchNumbers, oneBy, spanWords};
 use gurkenmond::Mode;
 use gurkenmond::Outcome;
 use gurkenmond::Verdict;
@@ -30,13 +30,13 @@ pub fn bit(b: bool) -> u64
 }
 
 fn refusal(number: usize, place: usize) -> [u64; 4]
-    ensures { λ r. ⌜ r ≡ four number place 0 0 ⌝ }
+    ensures { λ r. ⌜ r ≡ fourWords number place 0 0 ⌝ }
 {
     [number as u64, place as u64, 0, 0]
 }
 
 pub fn of_read(v: Verdict, s: usize, t: usize, e: usize) -> [u64; 4]
-    ensures { λ r. ⌜ r ≡ readBy v s t e ⌝ }
+    ensures { λ r. ⌜ r ≡ readNumbers v s t e ⌝ }
 {
     match v {
         Verdict::Accepted => [0, s as u64, t as u64, e as u64],
@@ -48,7 +48,7 @@ pub fn of_read(v: Verdict, s: usize, t: usize, e: usize) -> [u64; 4]
 }
 
 pub fn of_sets(v: Verdict, rounds: usize, s: gurkenmond::Sets) -> [u64; 9]
-    ensures { λ r. ⌜ r ≡ setsBy v rounds s ⌝ }
+    ensures { λ r. ⌜ r ≡ setsNumbers v rounds s ⌝ }
 {
     let b = s.begin;
     let c = s.succeed;
@@ -64,7 +64,7 @@ pub fn of_sets(v: Verdict, rounds: usize, s: gurkenmond::Sets) -> [u64; 9]
 }
 
 pub fn of_lakes(v: Verdict, w: u64) -> [u64; 4]
-    ensures { λ r. ⌜ r ≡ lakesBy v w ⌝ }
+    ensures { λ r. ⌜ r ≡ lakesNumbers v w ⌝ }
 {
     match v {
         Verdict::Accepted => [0, w, 0, 0],
@@ -76,7 +76,7 @@ pub fn of_lakes(v: Verdict, w: u64) -> [u64; 4]
 }
 
 pub fn of_match(o: Outcome, k: usize) -> [u64; 4]
-    ensures { λ r. ⌜ r ≡ matchBy (outcomeSays o) k ⌝ }
+    ensures { λ r. ⌜ r ≡ matchNumbers (outcomeSays o) k ⌝ }
 {
     match o {
         Outcome::Matched(taken) => [0, taken as u64, k as u64, 0],

@@ -23,13 +23,13 @@ nd r p q d = record { symbol = r; start = p; end = q; depth = d }
 
 -- what a symbol stands for: a right side; or a lake, with its own right side if it has a rule, and its alternative symbols in order:
 -- "only the s are the lake's alternative symbols, in the match too" (01, Lakes made plain, step 2)
-pub data Body : Type 0 where
-  rule : Exp ℕ → Body
-  lake : Option (Exp ℕ) → List (Exp ℕ) → Body
+pub data SymbolBody : Type 0 where
+  rule : Exp ℕ → SymbolBody
+  lake : Option (Exp ℕ) → List (Exp ℕ) → SymbolBody
 
 -- the symbols' bodies by number, and the right side of `water` if there is such a rule
 pub record Meant : Type 0 where
-  pub body : ℕ → Body
+  pub body : ℕ → SymbolBody
   pub water : Option (Exp ℕ)
 
 -- the bytes stand in the text at p
@@ -44,7 +44,7 @@ Marked s p m = (p < length s) × (getD m (getD s p 0) false ≡ true)
 -- what is tried at a place: an expression, a symbol's body, a lake's own right side, water, a lake's alternative symbols one after the other
 pub data Ask : Type 0 where
   exp : Exp ℕ → Ask
-  inside : Body → Ask
+  inside : SymbolBody → Ask
   own wet : Option (Exp ℕ) → Ask
   some-of : List (Exp ℕ) → Ask
 
@@ -111,7 +111,7 @@ abbrev pub Derives : Meant → List ℕ → ℕ → Exp ℕ → ℕ → ℕ → 
 Derives g s d e p x ns = Tries g s d (exp e) p x ns
 
 -- a body made plain (01, Lakes made plain, steps 1 and 2)
-unfoldable pub plainBody : Option (Exp ℕ) → Body → Exp ℕ
+unfoldable pub plainBody : Option (Exp ℕ) → SymbolBody → Exp ℕ
 plainBody w (rule e) = e
 plainBody w (lake o ss) = stepTwo (stepOne w o) ss
 

@@ -1,7 +1,7 @@
 // Refusals 4 and 5 (01, Refusal numbers): the names of the left sides in order, a range of them at a time, each range with one more pass over the text. A
 // name of a range is found by halving; a left side that is not found there would make the functions give up, and the walks of `read_walks` would answer.
 ghost use mathlib.Core.Path.{_≡_};
-ghost use mathlib.Core.Bool.{Bool, true, _||_};
+ghost use mathlib.Core.Bool.{Bool, true};
 ghost use mathlib.Core.List.{[]};
 ghost use Prim.Native.Nat.{_≤_, _<_};
 ghost use lib.ListN.{length, set};
@@ -9,7 +9,7 @@ ghost use Rattle.read_tokens.specs.Tokens.{tokenAt, lexemes};
 ghost use Rattle.read_syntax.specs.Reading.{leftsIn, second, unruled};
 ghost use Rattle.read_walks.specs.steps.Names.{placed};
 ghost use Rattle.read_order.specs.steps.Order.{symbolIn, inText, Fits, TokenOf};
-ghost use Rattle.read_names.specs.steps.Lefts.{marked, Finds, Ranged, Entered, MetAll, UsedAll, placeBy};
+ghost use Rattle.read_names.specs.steps.Lefts.{markedName, Finds, Ranged, Entered, MetAll, UsedAll, placeBy};
 ghost use Rattle.read_names.specs.steps.Lefts.{Walked, Swept4, Swept5, Whole, Held, Answer};
 use base_words::word;
 use read_order::NONE;
@@ -28,7 +28,7 @@ use read_walks::reserved_name;
 use read_walks::second_walked;
 
 // Which names of a range have been passed.
-pub type Marks = [bool; 20480];
+pub type Marks = [bool; 19456];
 
 // What is found of a token: that it is not refused, that it is, or nothing.
 const FINE: usize = 0;
@@ -52,7 +52,7 @@ fn set_mark(marks: &mut [bool], j: usize)
 
 // Marks a name.
 fn enter(text: &[u8], a: &Room, count: usize, v: usize, marks: &mut Marks) -> usize
-    requires { ⌜ Fits (now text) (now a) × inText (now text) v × (count ≤ 20480) ⌝ }
+    requires { ⌜ Fits (now text) (now a) × inText (now text) v × (count ≤ 19456) ⌝ }
     ensures { λ r. ⌜ Entered (now (text .entry)) (now (a .entry)) count (symbolIn (now (text .entry)) v) r (now (marks .entry)) (now (marks .exit)) ⌝ }
 {
     let j = find(text, a, count, v);
@@ -69,8 +69,8 @@ fn enter(text: &[u8], a: &Room, count: usize, v: usize, marks: &mut Marks) -> us
 
 // Whether a name is marked.
 fn known(text: &[u8], a: &Room, count: usize, v: usize, marks: &Marks) -> bool
-    requires { ⌜ Fits (now text) (now a) × inText (now text) v × (count ≤ 20480) ⌝ }
-    ensures { λ r. ⌜ r ≡ marked (now (text .entry)) (now (a .entry)) count (symbolIn (now (text .entry)) v) (now (marks .entry)) ⌝ }
+    requires { ⌜ Fits (now text) (now a) × inText (now text) v × (count ≤ 19456) ⌝ }
+    ensures { λ r. ⌜ r ≡ markedName (now (text .entry)) (now (a .entry)) count (symbolIn (now (text .entry)) v) (now (marks .entry)) ⌝ }
 {
     let j = find(text, a, count, v);
     let w = word(a, j);
@@ -80,17 +80,9 @@ fn known(text: &[u8], a: &Room, count: usize, v: usize, marks: &Marks) -> bool
     marks[j]
 }
 
-fn either(a: bool, b: bool) -> bool
-    ensures { λ r. ⌜ r ≡ (a || b) ⌝ }
-{
-    if a {
-        return true;
-    }
-    b
-}
-
 // ── refusal 4 ──
-// The token t at `at`, if it is a symbol of a range: whether it is a second left side or has a reserved name.
+// The token t at `at`, if it is a symbol of a range: whether it is a second left side or has a reserved name. Most names are of other ranges, so that is asked
+// first.
 fn meet(
     mode: Mode,
     text: &[u8],
@@ -109,11 +101,6 @@ fn meet(
     }
     let from = name_start(kind, t.start);
     let size = t.size;
-    let reserved = reserved_name(mode, text, from, size);
-    let left = is_left(mode, text, t.next);
-    if !either(left, reserved) {
-        return FINE;
-    }
     let v = pack(text, kind, from, size);
     if v == NONE {
         return LOST;
@@ -121,8 +108,11 @@ fn meet(
     if !in_range(text, c.low, c.high, v) {
         return FINE;
     }
-    if reserved {
+    if reserved_name(mode, text, from, size) {
         return BAD;
+    }
+    if !is_left(mode, text, t.next) {
+        return FINE;
     }
     enter(text, a, c.count, v, marks)
 }
@@ -162,7 +152,7 @@ fn second_in(mode: Mode, text: &[u8], a: &Room, c: Range, limit: usize) -> usize
     requires { ⌜ (length (now text) < 4294967296) × Ranged (now text) (now a) (c .low) (c .high) (c .count) × (limit ≤ length (now text)) ⌝ }
     ensures { λ r. ⌜ ((r ≡ 4294967296 → ⊥) → Swept4 mode (now (text .entry)) (c .low) (c .high) limit r) ⌝ }
 {
-    let mut marks: Marks = [false; 20480];
+    let mut marks: Marks = [false; 19456];
     sweep(mode, text, a, c, limit, &mut marks)
 }
 
@@ -176,14 +166,14 @@ fn lacking(mode: Mode, text: &[u8], at: usize, t: Token, a: &Room, c: Range, mar
     if kind != 1 {
         return FINE;
     }
-    if is_left(mode, text, t.next) {
-        return FINE;
-    }
     let v = pack(text, kind, t.start, t.size);
     if v == NONE {
         return LOST;
     }
     if !in_range(text, c.low, c.high, v) {
+        return FINE;
+    }
+    if is_left(mode, text, t.next) {
         return FINE;
     }
     if known(text, a, c.count, v, marks) {
@@ -229,7 +219,7 @@ fn unruled_in(mode: Mode, text: &[u8], a: &Room, c: Range, limit: usize) -> usiz
         → Swept5 mode (now (text .entry)) (c .low) (c .high) limit r
         × Swept4 mode (now (text .entry)) (c .low) (c .high) (length (now (text .entry))) (length (now (text .entry)))) ⌝ }
 {
-    let mut marks: Marks = [false; 20480];
+    let mut marks: Marks = [false; 19456];
     let r = sweep(mode, text, a, c, text.len(), &mut marks);
     if r != text.len() {
         return GIVEN_UP;
@@ -255,7 +245,7 @@ pub fn second_left(mode: Mode, text: &[u8]) -> usize
     requires { ⌜ length (now text) < 4294967296 ⌝ }
     ensures { λ r. ⌜ r ≡ placed (second mode [] (lexemes mode (now (text .entry)))) ⌝ }
 {
-    let mut a: Room = [0; 20480];
+    let mut a: Room = [0; 19456];
     let mut low: usize = 0;
     let mut limit = text.len();
     let mut passed: usize = 0;
@@ -282,7 +272,7 @@ pub fn unruled_use(mode: Mode, text: &[u8]) -> usize
         → (0 ≡ placed (second mode [] (lexemes mode (now (text .entry)))))
         × (r ≡ placed (unruled (leftsIn (lexemes mode (now (text .entry)))) (lexemes mode (now (text .entry)))))) ⌝ }
 {
-    let mut a: Room = [0; 20480];
+    let mut a: Room = [0; 19456];
     let mut low: usize = 0;
     let mut limit = text.len();
     let mut passed: usize = 0;

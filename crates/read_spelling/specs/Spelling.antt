@@ -23,9 +23,9 @@ abbrev pub Between : ℕ → ℕ → ℕ → Type 0
 Between lo hi b = (lo ≤ b) × (b ≤ hi)
 
 -- what the text begins with
-abbrev pub First : (ℕ → Type 0) → List ℕ → Type 0
-First P [] = ⊥
-First P (b ∷ l) = P b
+abbrev pub HeadIs : (ℕ → Type 0) → List ℕ → Type 0
+HeadIs P [] = ⊥
+HeadIs P (b ∷ l) = P b
 
 -- "Blanks are space, tab, CR, LF"
 abbrev pub blankBytes : List ℕ
@@ -59,7 +59,7 @@ Octal c = (x : ℕ) × Digit x c
 -- ── runs and blanks ──
 -- w, bytes that P holds of, as many as stand there
 pub data Run (P : ℕ → Type 0) : List ℕ → List ℕ → List ℕ → Type 0 where
-  stop : {r : List ℕ} → ¬ First P r → Run P [] r r
+  stop : {r : List ℕ} → ¬ HeadIs P r → Run P [] r r
   go : {b : ℕ} {w l r : List ℕ} → P b → Run P w l r → Run P (b ∷ w) (b ∷ l) r
 
 -- blanks, "and `#` up to the next CR or LF or the text's end"
@@ -70,7 +70,7 @@ pub data Blanks : List ℕ → List ℕ → Type 0 where
 
 -- all blanks that stand there
 abbrev pub Skips : List ℕ → List ℕ → Type 0
-Skips l r = Blanks l r × ¬ First (λ (b : ℕ). OneOf blankBytes b ⊎ (b ≡ 35)) r
+Skips l r = Blanks l r × ¬ HeadIs (λ (b : ℕ). OneOf blankBytes b ⊎ (b ≡ 35)) r
 
 -- ── characters ──
 -- behind `\`: "`\n \r \t`" and those that stand for themselves
@@ -86,18 +86,18 @@ pub data Spells : ℕ → List ℕ → List ℕ → Type 0 where
   escaped : {c b : ℕ} {r : List ℕ} → Escape c b → Spells b (92 ∷ c ∷ r) r
   -- "octal `\` with three digits (first 0 to 2), else two, else one"
   three : {x y z c d e : ℕ} {r : List ℕ} → x ≤ 2 → Digit x c → Digit y d → Digit z e → Spells (x * 64 + y * 8 + z) (92 ∷ c ∷ d ∷ e ∷ r) r
-  two : {x y c d : ℕ} {r : List ℕ} → Digit x c → Digit y d → (x ≤ 2 → ¬ First Octal r) → Spells (x * 8 + y) (92 ∷ c ∷ d ∷ r) r
-  one : {x c : ℕ} {r : List ℕ} → Digit x c → ¬ First Octal r → Spells x (92 ∷ c ∷ r) r
+  two : {x y c d : ℕ} {r : List ℕ} → Digit x c → Digit y d → (x ≤ 2 → ¬ HeadIs Octal r) → Spells (x * 8 + y) (92 ∷ c ∷ d ∷ r) r
+  one : {x c : ℕ} {r : List ℕ} → Digit x c → ¬ HeadIs Octal r → Spells x (92 ∷ c ∷ r) r
 
 -- an item of a class: "after a character and `-` the next character ends the range, even `]`"; "a reversed range" is none
-pub data Item : Range → List ℕ → List ℕ → Type 0 where
-  alone : {a : ℕ} {l r : List ℕ} → Spells a l r → ¬ First (λ (b : ℕ). b ≡ 45) r → Item (range a a) l r
-  ranged : {a b : ℕ} {l k r : List ℕ} → Spells a l (45 ∷ k) → Spells b k r → a ≤ b → Item (range a b) l r
+pub data ItemSpelt : Range → List ℕ → List ℕ → Type 0 where
+  alone : {a : ℕ} {l r : List ℕ} → Spells a l r → ¬ HeadIs (λ (b : ℕ). b ≡ 45) r → ItemSpelt (range a a) l r
+  ranged : {a b : ℕ} {l k r : List ℕ} → Spells a l (45 ∷ k) → Spells b k r → a ≤ b → ItemSpelt (range a b) l r
 
 -- xs, one after the other up to the closing byte, and that byte
 pub data UpTo (close : ℕ) {A : Type 0} (One : A → List ℕ → List ℕ → Type 0) : List A → List ℕ → List ℕ → Type 0 where
   closed : {r : List ℕ} → UpTo close One [] (close ∷ r) r
-  more : {x : A} {xs : List A} {l k r : List ℕ} → ¬ First (λ (b : ℕ). b ≡ close) l → One x l k → UpTo close One xs k r → UpTo close One (x ∷ xs) l r
+  more : {x : A} {xs : List A} {l k r : List ℕ} → ¬ HeadIs (λ (b : ℕ). b ≡ close) l → One x l k → UpTo close One xs k r → UpTo close One (x ∷ xs) l r
 
 -- ── tokens ──
 -- a byte that one of a class's items has (01, Notation: single characters and ranges)
@@ -113,7 +113,7 @@ pub record Marks (In : ℕ → Type 0) (k : List Bool) : Type 0 where
 
 -- in lake mode, "a class that begins with `^`"
 abbrev pub Caret : Mode → List ℕ → Type 0
-Caret Lake l = First (λ (b : ℕ). b ≡ 94) l
+Caret Lake l = HeadIs (λ (b : ℕ). b ≡ 94) l
 Caret Plain l = ⊥
 
 -- the tokens of one byte
@@ -137,10 +137,10 @@ pub data Reads : Mode → Tok → List ℕ → List ℕ → Type 0 where
   -- "a lake is `<name>` without blanks inside"; plain mode: "no lakes"
   a-lake : {b : ℕ} {w l r : List ℕ} → Letter b → Run NameByte w l (62 ∷ r) → Reads Lake (symbol (lake (b ∷ w))) (60 ∷ b ∷ l) r
   a-literal : {m : Mode} {q b : ℕ} {bs l r : List ℕ} → OneOf quotes q → UpTo q Spells (b ∷ bs) l r → Reads m (leaf (literal (b ∷ bs))) (q ∷ l) r
-  a-class : {m : Mode} {x : Range} {xs : List Range} {k : List Bool} {l r : List ℕ} → ¬ Caret m l → UpTo 93 Item (x ∷ xs) l r → Marks (InItems (x ∷ xs)) k
+  a-class : {m : Mode} {x : Range} {xs : List Range} {k : List Bool} {l r : List ℕ} → ¬ Caret m l → UpTo 93 ItemSpelt (x ∷ xs) l r → Marks (InItems (x ∷ xs)) k
       → Reads m (leaf (class k)) (91 ∷ l) r
   -- "the complement"
-  a-complement : {x : Range} {xs : List Range} {k : List Bool} {l r : List ℕ} → UpTo 93 Item (x ∷ xs) l r → Marks (λ (b : ℕ). ¬ InItems (x ∷ xs) b) k
+  a-complement : {x : Range} {xs : List Range} {k : List Bool} {l r : List ℕ} → UpTo 93 ItemSpelt (x ∷ xs) l r → Marks (λ (b : ℕ). ¬ InItems (x ∷ xs) b) k
       → Reads Lake (leaf (class k)) (91 ∷ 94 ∷ l) r
 
 abbrev pub tokenIs : Option Tok → ℕ → ℕ → Token

@@ -15,8 +15,8 @@ use Rattle.read_tokens.specs.declared.classes.Item as declared
 use Rattle.read_tokens.specs.declared.classes.Class.{Class}
 use Rattle.read_tokens.specs.Token as spec
 use Rattle.read_tokens.specs.Token.{leaf, class}
-use Rattle.read_tokens.specs.Chars.{char, Range, range, Item, item, ranged, dashed, started, listed, Body, shut, broken, also, byWidth, bodyBy, body}
-use Rattle.read_tokens.specs.Tokens.{tok, badAt, among, turned, someTrue, marksOf, marked, classBy, bracket}
+use Rattle.read_tokens.specs.Chars.{char, Range, range, Item, item, ranged, dashed, started, listed, Body, shut, broken, also, byWidth, shutBy, body}
+use Rattle.read_tokens.specs.Tokens.{tok, badAt, among, turned, someTrue, classMarks, classToken, classBy, bracket}
 use Rattle.read_tokens.specs.laws.Tests.{by-test}
 use Rattle.read_tokens.specs.laws.Marks.{paint, paintAll, turnAll, painted, painted-turned, paints-length, table-length}
 use Rattle.read_tokens.specs.laws.Turning.{turnFrom, turns, someFrom, somes}
@@ -169,11 +169,11 @@ unfolding someFrom
 mark-end i l h = let e : 256 - i ≡ 0 = omega arith in sym (ap (λ (n : ℕ). someFrom i n l) e)
 
 -- ── the class ──
-pub settled-yes : (l : List Bool) (e : ℕ) → someFrom 0 256 l ≡ true → (let c : Class = record { marks = l; next = e } in c) ≡ classIs (marked (someFrom 0 256 l) l 0 e)
-settled-yes l e h = sym (ap (λ (x : Bool). classIs (marked x l 0 e)) h)
+pub settled-yes : (l : List Bool) (e : ℕ) → someFrom 0 256 l ≡ true → (let c : Class = record { marks = l; next = e } in c) ≡ classIs (classToken (someFrom 0 256 l) l 0 e)
+settled-yes l e h = sym (ap (λ (x : Bool). classIs (classToken x l 0 e)) h)
 
-pub settled-no : (l : List Bool) (e : ℕ) → someFrom 0 256 l ≡ false → noClass ≡ classIs (marked (someFrom 0 256 l) l 0 e)
-settled-no l e h = sym (ap (λ (x : Bool). classIs (marked x l 0 e)) h)
+pub settled-no : (l : List Bool) (e : ℕ) → someFrom 0 256 l ≡ false → noClass ≡ classIs (classToken (someFrom 0 256 l) l 0 e)
+settled-no l e h = sym (ap (λ (x : Bool). classIs (classToken x l 0 e)) h)
 
 pub nothing-listed : (c : Bool) (s : List ℕ) (i : ℕ) → getD s i 256 ≡ 93 → noClass ≡ classIs (classBy c 0 (rest s i))
 unfolding body classBy
@@ -212,16 +212,16 @@ turned-all l e = ap (λ (n : ℕ). turnFrom 0 n l) (sym e) ∙ turns l
 painted-length : (new : List Bool) (rs : List Range) → new ≡ paintAll rs (replicate 256 false) → length new ≡ 256
 painted-length new rs e = ap length e ∙ paints-length rs (replicate 256 false) ∙ length-replicate 256 false
 
-marks-length : (c : Bool) (rs : List Range) → length (marksOf c rs) ≡ 256
-unfolding marksOf
+marks-length : (c : Bool) (rs : List Range) → length (classMarks c rs) ≡ 256
+unfolding classMarks
 marks-length c rs = table-length (λ b. turned c (among b rs)) 0 256
 
-settled-same : {a b : List Bool} {d e : ℕ} → length a ≡ 256 → a ≡ b → d ≡ e → classIs (marked (someFrom 0 256 a) a 0 d) ≡ classIs (marked (someTrue b) b 0 e)
+settled-same : {a b : List Bool} {d e : ℕ} → length a ≡ 256 → a ≡ b → d ≡ e → classIs (classToken (someFrom 0 256 a) a 0 d) ≡ classIs (classToken (someTrue b) b 0 e)
 settled-same {a} {b} {d} {e} h x y =
-    ap (λ (z : Bool). classIs (marked z a 0 d)) (ap (λ (n : ℕ). someFrom 0 n a) (sym h) ∙ somes a) ∙ same x y
+    ap (λ (z : Bool). classIs (classToken z a 0 d)) (ap (λ (n : ℕ). someFrom 0 n a) (sym h) ∙ somes a) ∙ same x y
   where
-    same : {a b : List Bool} {d e : ℕ} → a ≡ b → d ≡ e → classIs (marked (someTrue a) a 0 d) ≡ classIs (marked (someTrue b) b 0 e)
-    same x y = λ j. classIs (marked (someTrue (x j)) (x j) 0 (y j))
+    same : {a b : List Bool} {d e : ℕ} → a ≡ b → d ≡ e → classIs (classToken (someTrue a) a 0 d) ≡ classIs (classToken (someTrue b) b 0 e)
+    same x y = λ j. classIs (classToken (someTrue (x j)) (x j) 0 (y j))
 
 module _ (new : List Bool) (r : ℕ) where
   broken-go : (c : Bool) (o : Body) (a n : ℕ) → Ended o a n → Painted o (replicate 256 false) new r → r ≡ 0 → noClass ≡ classIs (classBy c 0 o)
@@ -232,27 +232,27 @@ module _ (new : List Bool) (r : ℕ) where
   pub broken-is : (c : Bool) (s : List ℕ) (i : ℕ) → i ≤ length s → Painted (rest s i) (replicate 256 false) new r → r ≡ 0 → noClass ≡ classIs (classBy c 0 (rest s i))
   broken-is c s i h p z = broken-go c (rest s i) i (length s) (body-ended 93 listed 0 i (drop i s) (length s) (omega (arith, length-drop i s))) p z
 
-  plain-go : (o : Body) → Some o → Painted o (replicate 256 false) new r → (r ≡ 0 → ⊥) → classIs (marked (someFrom 0 256 new) new 0 r) ≡ classIs (classBy false 0 o)
+  plain-go : (o : Body) → Some o → Painted o (replicate 256 false) new r → (r ≡ 0 → ⊥) → classIs (classToken (someFrom 0 256 new) new 0 r) ≡ classIs (classBy false 0 o)
   unfolding classBy
   plain-go (shut [] e) u p z = absurd u
   plain-go (shut (x ∷ rs) e) u p z = settled-same (painted-length new (x ∷ rs) (p .1)) (p .1 ∙ painted (x ∷ rs)) (p .0)
   plain-go broken u p z = absurd (z p)
 
   pub plain-is : (s : List ℕ) (i : ℕ) → (getD s i 256 ≡ 93 → ⊥) → Painted (rest s i) (replicate 256 false) new r → (r ≡ 0 → ⊥) → classIs
-      (marked (someFrom 0 256 new) new 0 r) ≡ classIs (classBy false 0 (rest s i))
+      (classToken (someFrom 0 256 new) new 0 r) ≡ classIs (classBy false 0 (rest s i))
   plain-is s i f = plain-go (rest s i) (some-listed s i f)
 
-  turned-go : (o : Body) → Some o → Painted o (replicate 256 false) new r → (r ≡ 0 → ⊥) → classIs (marked (someFrom 0 256 (turnFrom 0 256 new)) (turnFrom 0 256 new) 0 r) ≡ classIs (classBy true 0 o)
+  turned-go : (o : Body) → Some o → Painted o (replicate 256 false) new r → (r ≡ 0 → ⊥) → classIs (classToken (someFrom 0 256 (turnFrom 0 256 new)) (turnFrom 0 256 new) 0 r) ≡ classIs (classBy true 0 o)
   unfolding classBy
   turned-go (shut [] e) u p z = absurd u
   turned-go (shut (x ∷ rs) e) u p z =
       let t : turnFrom 0 256 new ≡ turnAll new = turned-all new (painted-length new (x ∷ rs) (p .1)) in
-      let w : turnFrom 0 256 new ≡ marksOf true (x ∷ rs) = t ∙ ap turnAll (p .1) ∙ painted-turned (x ∷ rs) in
+      let w : turnFrom 0 256 new ≡ classMarks true (x ∷ rs) = t ∙ ap turnAll (p .1) ∙ painted-turned (x ∷ rs) in
       settled-same (ap length w ∙ marks-length true (x ∷ rs)) w (p .0)
   turned-go broken u p z = absurd (z p)
 
   pub turned-is : (s : List ℕ) (i : ℕ) → (getD s i 256 ≡ 93 → ⊥) → Painted (rest s i) (replicate 256 false) new r → (r ≡ 0 → ⊥)
-      → classIs (marked (someFrom 0 256 (turnFrom 0 256 new)) (turnFrom 0 256 new) 0 r) ≡ classIs (classBy true 0 (rest s i))
+      → classIs (classToken (someFrom 0 256 (turnFrom 0 256 new)) (turnFrom 0 256 new) 0 r) ≡ classIs (classBy true 0 (rest s i))
   turned-is s i f = turned-go (rest s i) (some-listed s i f)
 
 -- ── by the mode ──
@@ -260,9 +260,9 @@ unplaced : (c : Bool) (i : ℕ) (o : Body) → classIs (classBy c 0 o) ≡ class
 unfolding classBy
 unplaced c i broken = refl
 unplaced c i (shut [] e) = refl
-unplaced c i (shut (r ∷ rs) e) = go (someTrue (marksOf c (r ∷ rs)))
+unplaced c i (shut (r ∷ rs) e) = go (someTrue (classMarks c (r ∷ rs)))
   where
-    go : (x : Bool) → classIs (marked x (marksOf c (r ∷ rs)) 0 e) ≡ classIs (marked x (marksOf c (r ∷ rs)) i e)
+    go : (x : Bool) → classIs (classToken x (classMarks c (r ∷ rs)) 0 e) ≡ classIs (classToken x (classMarks c (r ∷ rs)) i e)
     go true = refl
     go false = refl
 
@@ -321,7 +321,7 @@ Plainly i t = (classIs t .next ≡ 0 → coded (badAt i) ≡ coded t) × ((class
 bad-plainly : (i : ℕ) → Plainly i (badAt i)
 bad-plainly i = ((λ z. refl), (λ z. absurd (z refl)))
 
-marked-plainly : (x : Bool) (l : List Bool) (i e : ℕ) → 0 < e → Plainly i (marked x l i e)
+marked-plainly : (x : Bool) (l : List Bool) (i e : ℕ) → 0 < e → Plainly i (classToken x l i e)
 marked-plainly true l i e h = ((λ z. absurd (omega arith)), (λ z. refl))
 marked-plainly false l i e h = bad-plainly i
 
@@ -329,7 +329,7 @@ class-plainly : (c : Bool) (i : ℕ) (o : Body) (a n : ℕ) → Ended o a n → 
 unfolding classBy
 class-plainly c i broken a n h = bad-plainly i
 class-plainly c i (shut [] e) a n h = bad-plainly i
-class-plainly c i (shut (r ∷ rs) e) a n h = marked-plainly (someTrue (marksOf c (r ∷ rs))) (marksOf c (r ∷ rs)) i e (omega (arith, h .0))
+class-plainly c i (shut (r ∷ rs) e) a n h = marked-plainly (someTrue (classMarks c (r ∷ rs))) (classMarks c (r ∷ rs)) i e (omega (arith, h .0))
 
 bracket-plainly : (m : Mode) (i : ℕ) (l : List ℕ) → Plainly i (bracket m i l)
 unfolding bracket

@@ -95,14 +95,14 @@ abbrev pub byWidth : ℕ → Range → (ℕ → Body) → Body
 byWidth zero r k = broken
 byWidth (suc n) r k = also r (k n)
 
-abbrev pub bodyBy : Bool → ℕ → Item → (ℕ → Body) → Body
-bodyBy true at i k = shut [] (suc at)
-bodyBy false at i k = byWidth (i .width) (i .span) k
+abbrev pub shutBy : Bool → ℕ → Item → (ℕ → Body) → Body
+shutBy true at i k = shut [] (suc at)
+shutBy false at i k = byWidth (i .width) (i .span) k
 
 -- the loop, over the bytes that are left; its first number counts the bytes of an item that are still to be passed
 module _ (close : ℕ) (step : List ℕ → Item) where
   unfoldable pub body : ℕ → ℕ → List ℕ → Body
   body zero at [] = broken
   body (suc n) at [] = broken
-  body zero at (b ∷ l) = bodyBy (eqb b close) at (step (b ∷ l)) (λ n. body n (suc at) l)
+  body zero at (b ∷ l) = shutBy (eqb b close) at (step (b ∷ l)) (λ n. body n (suc at) l)
   body (suc n) at (b ∷ l) = body n (suc at) l

@@ -85,17 +85,17 @@ abbrev pub turned : Bool → Bool → Bool
 turned true b = not b
 turned false b = b
 
-unfoldable pub marksOf : Bool → List Range → List Bool
-marksOf c rs = table (λ b. turned c (among b rs)) 0 256
+unfoldable pub classMarks : Bool → List Range → List Bool
+classMarks c rs = table (λ b. turned c (among b rs)) 0 256
 
-abbrev pub marked : Bool → List Bool → ℕ → ℕ → Token
-marked true l i e = tok (leaf (class l)) i e
-marked false l i e = badAt i
+abbrev pub classToken : Bool → List Bool → ℕ → ℕ → Token
+classToken true l i e = tok (leaf (class l)) i e
+classToken false l i e = badAt i
 
 unfoldable pub classBy : Bool → ℕ → Body → Token
 classBy c i broken = badAt i
 classBy c i (shut [] e) = badAt i
-classBy c i (shut (r ∷ rs) e) = let l : List Bool = marksOf c (r ∷ rs) in marked (someTrue l) l i e
+classBy c i (shut (r ∷ rs) e) = let l : List Bool = classMarks c (r ∷ rs) in classToken (someTrue l) l i e
 
 -- behind the `[`; in lake mode "a class that begins with `^` is the complement"
 unfoldable pub bracket : Mode → ℕ → List ℕ → Token

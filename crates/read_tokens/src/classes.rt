@@ -3,7 +3,7 @@ ghost use Prim.Native.Nat.{suc, _≤_, _<_, _+_, _-_};
 ghost use mathlib.Core.Path.{_≡_};
 ghost use lib.ListN.{length, drop, getD};
 ghost use Rattle.read_tokens.specs.Chars.{listed, body};
-ghost use Rattle.read_tokens.specs.Tokens.{marked, classBy};
+ghost use Rattle.read_tokens.specs.Tokens.{classToken, classBy};
 ghost use Rattle.read_tokens.specs.laws.Marks.{paint};
 ghost use Rattle.read_tokens.specs.laws.Turning.{turnFrom, someFrom};
 ghost use Rattle.read_tokens.specs.steps.Code.{itemIs, itemOf, Painted, caretAt, noClass, classIs, classAt};
@@ -142,7 +142,7 @@ fn no_class() -> Class
 
 // "A class without bytes" is bad. `hint`: a byte that it may have.
 fn settled(marks: [bool; 256], next: usize, hint: usize) -> Class
-    ensures { λ r. ⌜ r ≡ classIs (marked (someFrom 0 256 marks) marks 0 next) ⌝ }
+    ensures { λ r. ⌜ r ≡ classIs (classToken (someFrom 0 256 marks) marks 0 next) ⌝ }
 {
     if some_set(&marks, hint) {
         return Class {

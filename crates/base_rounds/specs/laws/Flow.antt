@@ -8,7 +8,7 @@ use native.Mathlib.Omega.{arith}
 use lib.ListN.{length, getD, set, length-set, replicate, length-replicate, getD-replicate}
 use lib.Seq.{getD-set-same, getD-set-other}
 use Rattle.base_facts.specs.laws.Numbers.{same?}
-use Rattle.base_rounds.specs.Flow.{Edge, put, flow}
+use Rattle.base_rounds.specs.Flow.{Edge, handOn, flow}
 use Rattle.base_rounds.specs.Rounds.{First, iter}
 use Rattle.base_rounds.specs.laws.Fix.{Lattice, rounds-bound, iter-below, iter-good}
 use Rattle.base_rounds.specs.laws.Cells.{Joins, Every, Below, cells}
@@ -19,9 +19,9 @@ Inside n [] = Unit {0}
 Inside n (e ∷ es) = (e .from < n) × (e .to < n) × Inside n es
 
 module _ {A : Type 0} (join : A → A → A) (d : A) where
-  pub flow-more : (es : List Edge) (e : Edge) (old acc : List A) → flow join d (es ++ (e ∷ [])) old acc ≡ put join d e old (flow join d es old acc)
+  pub flow-more : (es : List Edge) (e : Edge) (old acc : List A) → flow join d (es ++ (e ∷ [])) old acc ≡ handOn join d e old (flow join d es old acc)
   flow-more [] e old acc = refl
-  flow-more (x ∷ es) e old acc = flow-more es e old (put join d x old acc)
+  flow-more (x ∷ es) e old acc = flow-more es e old (handOn join d x old acc)
 
 -- the rules: what is below y is handed on along each edge
 abbrev pub Flows : {A : Type 0} → Lattice A → A → List A → List Edge → Type 0
@@ -39,24 +39,24 @@ module _ {A : Type 0} (L : Lattice A) (join : A → A → A) (bot d : A) (J : Jo
       (λ q. rw (getD-set-other l j i v d q) g) (same? i j)
 
   module _ (e : Edge) (hf : e .from < n) (ht : e .to < n) (old acc : List A) (go : Fine old) (ga : Fine acc) where
-    put-fine : Fine (put join d e old acc)
+    put-fine : Fine (handOn join d e old acc)
     put-fine = record {
       long = length-set acc (e .to) (join (getD acc (e .to) d) (getD old (e .from) d)) ∙ ga .long;
       each = λ i p. cell (L .Good) acc (e .to) i (join (getD acc (e .to) d) (getD old (e .from) d)) (ga .long) ht
           (λ q. J .join-good _ _ (ga .each (e .to) ht) (go .each (e .from) hf)) (ga .each i p);
     }
 
-    put-below : (y : List A) → Below L join bot d J n acc y → L .Le (getD old (e .from) d) (getD y (e .to) d) → Below L join bot d J n (put join d e old acc) y
+    put-below : (y : List A) → Below L join bot d J n acc y → L .Le (getD old (e .from) d) (getD y (e .to) d) → Below L join bot d J n (handOn join d e old acc) y
     put-below y h k i p =
         cell (λ x. L .Le x (getD y i d)) acc (e .to) i (join (getD acc (e .to) d) (getD old (e .from) d)) (ga .long) ht
         (λ q. rw q (J .join-least _ _ _ (ga .each (e .to) ht) (go .each (e .from) hf) (h (e .to) ht) k)) (h i p)
 
-    put-above : Below L join bot d J n acc (put join d e old acc)
+    put-above : Below L join bot d J n acc (handOn join d e old acc)
     put-above i p =
         cell (λ x. L .Le (getD acc i d) x) acc (e .to) i (join (getD acc (e .to) d) (getD old (e .from) d)) (ga .long) ht
         (λ q. rw q (J .join-l _ _ (ga .each (e .to) ht) (go .each (e .from) hf))) (L .le-rfl (getD acc i d))
 
-    put-gets : L .Le (getD old (e .from) d) (getD (put join d e old acc) (e .to) d)
+    put-gets : L .Le (getD old (e .from) d) (getD (handOn join d e old acc) (e .to) d)
     put-gets =
         rw (getD-set-same acc (e .to) (join (getD acc (e .to) d) (getD old (e .from) d)) d (omega (arith, ga .long)))
         (J .join-r _ _ (ga .each (e .to) ht) (go .each (e .from) hf))
@@ -66,30 +66,30 @@ module _ {A : Type 0} (L : Lattice A) (join : A → A → A) (bot d : A) (J : Jo
 
   pub flow-fine : (es : List Edge) → Inside n es → (old acc : List A) → Fine old → Fine acc → Fine (flow join d es old acc)
   flow-fine [] h old acc go ga = ga
-  flow-fine (e ∷ es) h old acc go ga = flow-fine es (h .2) old (put join d e old acc) go (put-fine e (h .0) (h .1) old acc go ga)
+  flow-fine (e ∷ es) h old acc go ga = flow-fine es (h .2) old (handOn join d e old acc) go (put-fine e (h .0) (h .1) old acc go ga)
 
   -- what is below a state that the edges do not leave stays below it
   pub flow-below : (es : List Edge) → Inside n es → (old acc y : List A) → Fine old → Fine acc
       → Below L join bot d J n old y → Below L join bot d J n acc y → Flows L d y es → Below L join bot d J n (flow join d es old acc) y
   flow-below [] h old acc y go ga k l f = l
   flow-below (e ∷ es) h old acc y go ga k l f =
-      flow-below es (h .2) old (put join d e old acc) y go (put-fine e (h .0) (h .1) old acc go ga) k
+      flow-below es (h .2) old (handOn join d e old acc) y go (put-fine e (h .0) (h .1) old acc go ga) k
       (put-below e (h .0) (h .1) old acc go ga y l (J .trans _ _ _ (k (e .from) (h .0)) (f .0))) (f .1)
 
   pub flow-above : (es : List Edge) → Inside n es → (old acc : List A) → Fine old → Fine acc → Below L join bot d J n acc (flow join d es old acc)
   flow-above [] h old acc go ga = λ i p. L .le-rfl (getD acc i d)
   flow-above (e ∷ es) h old acc go ga =
-      below-trans acc (put join d e old acc) (flow join d es old (put join d e old acc)) (put-above e (h .0) (h .1) old acc go ga)
-      (flow-above es (h .2) old (put join d e old acc) go (put-fine e (h .0) (h .1) old acc go ga))
+      below-trans acc (handOn join d e old acc) (flow join d es old (handOn join d e old acc)) (put-above e (h .0) (h .1) old acc go ga)
+      (flow-above es (h .2) old (handOn join d e old acc) go (put-fine e (h .0) (h .1) old acc go ga))
 
   pub flow-mono : (es : List Edge) → Inside n es → (old acc old′ acc′ : List A) → Fine old → Fine acc → Fine old′ → Fine acc′
       → Below L join bot d J n old old′ → Below L join bot d J n acc acc′ → Below L join bot d J n (flow join d es old acc) (flow join d es old′ acc′)
   flow-mono [] h old acc old′ acc′ go ga go′ ga′ k l = l
   flow-mono (e ∷ es) h old acc old′ acc′ go ga go′ ga′ k l =
-      flow-mono es (h .2) old (put join d e old acc) old′ (put join d e old′ acc′) go (put-fine e (h .0) (h .1) old acc go ga)
+      flow-mono es (h .2) old (handOn join d e old acc) old′ (handOn join d e old′ acc′) go (put-fine e (h .0) (h .1) old acc go ga)
       go′ (put-fine e (h .0) (h .1) old′ acc′ go′ ga′) k
-      (put-below e (h .0) (h .1) old acc go ga (put join d e old′ acc′)
-      (below-trans acc acc′ (put join d e old′ acc′) l (put-above e (h .0) (h .1) old′ acc′ go′ ga′))
+      (put-below e (h .0) (h .1) old acc go ga (handOn join d e old′ acc′)
+      (below-trans acc acc′ (handOn join d e old′ acc′) l (put-above e (h .0) (h .1) old′ acc′ go′ ga′))
       (J .trans _ _ _ (k (e .from) (h .0)) (put-gets e (h .0) (h .1) old′ acc′ go′ ga′)))
 
   -- a state that the edges give back has been handed on along each
@@ -99,8 +99,8 @@ module _ {A : Type 0} (L : Lattice A) (join : A → A → A) (bot d : A) (J : Jo
   flow-gives (e ∷ es) h old acc y go ga k l =
       let pf = put-fine e (h .0) (h .1) old acc go ga in (
         J .trans _ _ _ (l (e .from) (h .0)) (J .trans _ _ _ (put-gets e (h .0) (h .1) old acc go ga)
-            (J .trans _ _ _ (flow-above es (h .2) old (put join d e old acc) go pf (e .to) (h .1)) (k (e .to) (h .1)))),
-        flow-gives es (h .2) old (put join d e old acc) y go pf k l,
+            (J .trans _ _ _ (flow-above es (h .2) old (handOn join d e old acc) go pf (e .to) (h .1)) (k (e .to) (h .1)))),
+        flow-gives es (h .2) old (handOn join d e old acc) y go pf k l,
       )
 
   -- ---- the rounds

@@ -11,7 +11,7 @@ use Rattle.base_facts.specs.laws.Numbers.{lt-or-ge}
 use Rattle.base_words.specs.Set.{unionOf, empty}
 use Rattle.base_rounds.specs.Rounds.{First, iter}
 use Rattle.base_rounds.specs.laws.Cells.{Every}
-use Rattle.base_rounds.specs.Flow.{Edge, flow, put}
+use Rattle.base_rounds.specs.Flow.{Edge, flow, handOn}
 use Rattle.base_rounds.specs.laws.Flow.{Inside, flow-more, bound}
 use Rattle.base_rounds.specs.laws.Pair.{Set2, pair, pair-joins}
 
@@ -27,7 +27,7 @@ edges src dst (suc m) = edges src dst m ++ (edge src dst m ∷ [])
 abbrev pub pushed : List ℕ → List ℕ → ℕ → List (List ℕ) → List (List ℕ) → List (List ℕ)
 pushed src dst m old acc = flow unionOf [] (edges src dst m) old acc
 
-pub pushed-more : (src dst : List ℕ) (m : ℕ) (old acc : List (List ℕ)) → pushed src dst (m + 1) old acc ≡ put unionOf [] (edge src dst m) old (pushed src dst m old acc)
+pub pushed-more : (src dst : List ℕ) (m : ℕ) (old acc : List (List ℕ)) → pushed src dst (m + 1) old acc ≡ handOn unionOf [] (edge src dst m) old (pushed src dst m old acc)
 pushed-more src dst m old acc = rw add-one (flow-more unionOf [] (edges src dst m) (edge src dst m) old acc)
 
 -- a round

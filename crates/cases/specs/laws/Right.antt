@@ -5,7 +5,7 @@ use Rattle.read_tokens.specs.Kinds.{oneOf, ranges, kindAt}
 use Rattle.read_tokens.specs.Bounds.{textBound, nameBound, openBound, expressionBound, symbolBound, terminalBound, literalBound, plainBound}
 use Rattle.read_tokens.specs.Bounds.{inputBound, depthBound, firstOctal, rawFrom, nodeWords}
 use Rattle.read_tokens.specs.Chars.{octals, letters, four, char, single, dashed, listed, body}
-use Rattle.read_tokens.specs.Tokens.{skip, nameSpan, angle, literalBy, among, table, someTrue, marksOf as tokens-marksOf, classBy, bracket, byKind}
+use Rattle.read_tokens.specs.Tokens.{skip, nameSpan, angle, literalBy, among, table, someTrue, classMarks, classBy, bracket, byKind}
 use Rattle.read_tokens.specs.Tokens.{tokenFrom, tokenAt, lexemesFrom, lexemes, toksOf, toks}
 use Rattle.grammar.specs.Empty.{emptyLeaf, hasEmpty}
 use Rattle.grammar.specs.Exp.{size, rename, symbolsIn, leavesIn}
@@ -22,7 +22,7 @@ use Rattle.read_syntax.specs.Reading.{startsWith, reserved, second, leftsIn, un
 use Rattle.base_rounds.specs.Rounds.{settle}
 use Rattle.lake_rules.specs.Analysis.{analysed, analysis, blockedBy, cannotSkipBelow, cannotSkip}
 use Rattle.lake_sets.specs.SetsAt.{setsAt}
-use Rattle.lake_rules.specs.Beginning.{markRound, marksOf as sets-marksOf, beginningsFrom, beginnings}
+use Rattle.lake_rules.specs.Beginning.{markRound, marksOf, beginningsFrom, beginnings}
 use Rattle.lake_rules.specs.Flows.{overParts, given, leastBy}
 use Rattle.lake_step_one.specs.Intermediate.{waterIn, bodiesBy, intermediate}
 use Rattle.lake_plain.specs.Calls.{firstCalls, callsOf, allCalled, reach, loopFrom, loop, ranksOf, ofRank, orderFrom, order}
@@ -43,12 +43,12 @@ use Rattle.cases.specs.Table.{cases}
 pub cases-right : map (λ (c : Case). answered (c .asked)) cases ≡ map (λ (c : Case). c .said) cases
 unfolding cases answered text-bytes oneOf ranges kindAt textBound nameBound openBound expressionBound symbolBound terminalBound literalBound
     plainBound inputBound depthBound firstOctal rawFrom nodeWords octals letters four char single dashed listed body skip nameSpan angle literalBy
-    among table someTrue tokens-marksOf classBy bracket byKind tokenFrom tokenAt lexemesFrom lexemes toksOf toks emptyLeaf hasEmpty size rename
+    among table someTrue classMarks classBy bracket byKind tokenFrom tokenAt lexemesFrom lexemes toksOf toks emptyLeaf hasEmpty size rename
     symbolsIn leavesIn waterOf stepOne choiceOf skipOf stepTwo plainName leftSides usesOf onlyLakes looseLakes symbolsOf leavesOf terminalsOf
     expressionsOf numbered partsOf partsAll rootsOf sameBytes sameMarks sameSymbol sameLeaf isIn indexOf newIn tokens choiceToks seqToks prefToks
     sufToks primToks upTo trees treeC treeS treeP treeF treeQ close newRule after step accepting stateAfter offendsFrom finish over judge
     placeOf closeBy primBy sufBy prefBy choiceBy arrowBy ruleBy rulesR rulesP choiceP choiceR seqP seqR prefP primP startsWith reserved second leftsIn
-    unruled tooMany rulesFrom refusesText rulesOf settle analysed analysis setsAt blockedBy cannotSkipBelow cannotSkip markRound sets-marksOf
+    unruled tooMany rulesFrom refusesText rulesOf settle analysed analysis setsAt blockedBy cannotSkipBelow cannotSkip markRound marksOf
     beginningsFrom beginnings overParts given leastBy waterIn bodiesBy intermediate firstCalls callsOf allCalled reach loopFrom loop ranksOf ofRank
     orderFrom order nonterminalsIn terminalsIn alternatives plainFrom plainBodies sizes rulesBy plainRules bodyTakes rowOf fillOf cells stands leafAt
     cellAt joinOf seqOf altOf stepOf rep plusOf optOf aheadOf neverOf ev seqN altN optN stepN repN walkOf nodeIf nodesOf levels listOf listingOf

@@ -22,7 +22,7 @@ use Rattle.lake_plain.specs.Plain.{alternatives, plainBy, plainBodies}
 use Rattle.lake_step_two.specs.laws.Bodies.{plain-at}
 use Rattle.write_text.specs.laws.Own.{lefts-long}
 use Rattle.write_text.specs.laws.Plain.{bodies-long}
-use Rattle.match_meaning.specs.Meaning.{Body, rule, Meant, Node, Derives, plainBody, plainOf}
+use Rattle.match_meaning.specs.Meaning.{SymbolBody, rule, Meant, Node, Derives, plainBody, plainOf}
 use Rattle.match_meaning.specs.laws.LakesPlain.{lakes-are-plain}
 use Rattle.match_eval.specs.Eval.{nowhere, bodyOf}
 use Rattle.match_cells.specs.laws.Sound.{plainly}
@@ -86,7 +86,7 @@ bodies-many m t = bodies-long (rulesOf m t)
 -- so whatever the text means, its plain bodies mean, and nothing else
 module _ (m : Mode) (t s : List ℕ) where
   same-meaning : plainOf (meant m t) ≡ plainly (prepared m t .bodies)
-  same-meaning = ap (λ (b : ℕ → Body). record { body = b; water = none }) (fun-ext (λ (r : ℕ). ap rule (bodies-meant m t r)))
+  same-meaning = ap (λ (b : ℕ → SymbolBody). record { body = b; water = none }) (fun-ext (λ (r : ℕ). ap rule (bodies-meant m t r)))
 
   pub to-plain : {d p x : ℕ} {e : Exp ℕ} {ns : List Node} → Derives (meant m t) s d e p x ns → Derives (plainly (prepared m t .bodies)) s d e p x ns
   to-plain {d} {p} {x} {e} {ns} h = subst (λ (k : Meant). Derives k s d e p x ns) same-meaning (lakes-are-plain (meant m t) s d e p x ns .0 h)

@@ -28,7 +28,7 @@ use Rattle.gurkenmond.specs.Calls.{Matching, matching, cellsNeeded, refusesInpu
 use Rattle.demands.specs.Meant.{meant}
 use Rattle.demands.specs.Offends.{Fits}
 use Rattle.demands.specs.Checks.{NoRow, inputChecks}
-use Rattle.demands.specs.Meets.{symbolsIn, Tabled, NodesIn, Meets, refused, fails, takes, too-deep, no-room}
+use Rattle.demands.specs.Meets.{symbolCountOf, Tabled, NodesIn, Meets, refused, fails, takes, too-deep, no-room}
 use Rattle.demands.specs.laws.Meant.{bodies-many, from-plain}
 use Rattle.demands.specs.laws.Offends.{OneOf, one-of}
 use Rattle.demands.specs.laws.Cells.{filled-as-meant, filled-later}
@@ -52,17 +52,17 @@ rowed R (suc n) i h = go (ltb i (n * R)) refl (λ l. rowed R n i l)
 
 pub tabled-one : (m : Mode) (t s cs c e : List ℕ) → Tabled m t s cs c → Tabled m t s cs e → c ≡ e
 tabled-one m t s cs c e a b =
-    ext-getD 0 c e (a .long ∙ flip (b .long)) (λ i l. at i (ltb i ((length s + 1) * symbolsIn m t)) refl)
+    ext-getD 0 c e (a .long ∙ flip (b .long)) (λ i l. at i (ltb i ((length s + 1) * symbolCountOf m t)) refl)
   where
-    cell-same : (p r : ℕ) → p ≤ length s → r < symbolsIn m t → getD c (p * symbolsIn m t + r) 0 ≡ getD e (p * symbolsIn m t + r) 0
+    cell-same : (p r : ℕ) → p ≤ length s → r < symbolCountOf m t → getD c (p * symbolCountOf m t + r) 0 ≡ getD e (p * symbolCountOf m t + r) 0
     cell-same p r h l = one (meant m t) s (a .cell p r h l .1) (b .cell p r h l .1) .0
 
-    at : (i : ℕ) (x : Bool) → ltb i ((length s + 1) * symbolsIn m t) ≡ x → getD c i 0 ≡ getD e i 0
+    at : (i : ℕ) (x : Bool) → ltb i ((length s + 1) * symbolCountOf m t) ≡ x → getD c i 0 ≡ getD e i 0
     at i true h =
-        let w = rowed (symbolsIn m t) (length s + 1) i (ltb-true i ((length s + 1) * symbolsIn m t) h) in
+        let w = rowed (symbolCountOf m t) (length s + 1) i (ltb-true i ((length s + 1) * symbolCountOf m t) h) in
         subst (λ (j : ℕ). getD c j 0 ≡ getD e j 0) (w .4) (cell-same (w .0) (w .1) (omega (arith, w .2)) (w .3))
     at i false h =
-        let l : (length s + 1) * symbolsIn m t ≤ i = ltb-false i ((length s + 1) * symbolsIn m t) h in
+        let l : (length s + 1) * symbolCountOf m t ≤ i = ltb-false i ((length s + 1) * symbolCountOf m t) h in
         a .later i l ∙ flip (b .later i l)
 
 -- ── two lists of words are one ──
@@ -115,7 +115,7 @@ module _ (m : Mode) (t s cs ws : List ℕ) where
     room = match-passes m t s cs z .2
 
     abbrev R : ℕ
-    R = symbolsIn m t
+    R = symbolCountOf m t
 
     pub table : Tabled m t s cs (filled (prepared m t) s cs)
     table = record {

@@ -1,6 +1,6 @@
 -- `library::gm_match` meets its contract. Assumes nothing.
 use mathlib.Core.Path.{ap₂, _∙_, refl}
-use Rattle.library_numbers.specs.Words.{matchBy}
+use Rattle.library_numbers.specs.Words.{matchNumbers}
 use borrow.Author.Needs.{needs}
 use Rattle.library.proofs.gm_match.Statement.{statement}
 use Rattle.library.proofs.gm_match.Tie as tie
@@ -31,7 +31,7 @@ same-length-2 c = search needs
 returns : tie.Need-returns
 returns c =
     rw (← (c .before .before .before .before .before .before .before .before .mode-of .ensures)) (
-      c .of-match .ensures ∙ ap₂ matchBy (c .before .before .before .before .before .match-input .ensures .1) (c .before .before .before .before .before .match-input .ensures .0),
+      c .of-match .ensures ∙ ap₂ matchNumbers (c .before .before .before .before .before .match-input .ensures .1) (c .before .before .before .before .before .match-input .ensures .0),
       refl,
       c .before .before .before .before .before .match-input .ensures .2,
       c .before .before .before .before .before .match-input .ensures .3,

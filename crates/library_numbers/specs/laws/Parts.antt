@@ -8,7 +8,7 @@ use lib.ListN.{length, getD, take, drop}
 use Rattle.read_tokens.specs.Bounds.{nodeWords}
 use Rattle.match_meaning.specs.Meaning.{Node}
 use Rattle.match_list.specs.Nodes.{nodeAt, soundAt, partOf, nodeText}
-use Rattle.library_numbers.specs.Words.{four, spanBy, spanWords}
+use Rattle.library_numbers.specs.Words.{fourWords, spanBy, spanWords}
 
 -- the part of s that such numbers say
 abbrev pub partSaid : List ℕ → List ℕ → List ℕ
@@ -23,11 +23,11 @@ unfolding nodeText
 text-part s ws k = part-by s (soundAt ws k (length s)) (nodeAt ws k)
 
 module _ (s ws : List ℕ) (k : ℕ) where
-  pub span-none : false ≡ soundAt ws k (length s) → four 0 0 0 0 ≡ spanWords s ws k
+  pub span-none : false ≡ soundAt ws k (length s) → fourWords 0 0 0 0 ≡ spanWords s ws k
   span-none h = ap (λ (b : Bool). spanBy b (nodeAt ws k)) h
 
   pub span-some :
       (a b : ℕ) → a ≡ getD ws (4 * k + 1) 0 → b ≡ getD ws (4 * k + 2) 0 → true ≡ soundAt ws k (length s)
-      → four 0 a (b - a) 0 ≡ spanWords s ws k
+      → fourWords 0 a (b - a) 0 ≡ spanWords s ws k
   unfolding nodeAt nodeWords
   span-some a b start end h = rw (start, end) (ap (λ (x : Bool). spanBy x (nodeAt ws k)) h)

@@ -8,7 +8,7 @@ use mathlib.Core.List.{List, [], map}
 use native.Mathlib.Omega.{arith}
 use lib.ListN.{getD, length, List·getD-map}
 use Rattle.grammar.specs.Exp.{Exp, sym}
-use Rattle.match_meaning.specs.Meaning.{Meant, Node, Body, rule, Derives, plainBody, plainOf}
+use Rattle.match_meaning.specs.Meaning.{Meant, Node, SymbolBody, rule, Derives, plainBody, plainOf}
 use Rattle.match_meaning.specs.laws.Shape.{Climb, shape}
 use Rattle.match_meaning.specs.laws.LakesPlain.{lakes-are-plain}
 use Rattle.match_eval.specs.Eval.{nowhere, bodyOf, ev}
@@ -23,16 +23,16 @@ abbrev pub Holds : List (Exp ℕ) → Meant → Type 0
 Holds bodies g = (r : ℕ) → plainBody (g .water) (g .body r) ≡ bodyOf bodies r
 
 -- a grammar by the list of its bodies, lakes too, and its plain bodies
-abbrev pub lakely : List Body → Option (Exp ℕ) → Meant
+abbrev pub lakely : List SymbolBody → Option (Exp ℕ) → Meant
 lakely bs w = record { body = λ (r : ℕ). getD bs r (rule nowhere); water = w }
 
-pub holds : (bs : List Body) (w : Option (Exp ℕ)) → Holds (map (plainBody w) bs) (lakely bs w)
+pub holds : (bs : List SymbolBody) (w : Option (Exp ℕ)) → Holds (map (plainBody w) bs) (lakely bs w)
 unfolding plainBody
 holds bs w r = flip (List·getD-map (plainBody w) bs r (rule nowhere))
 
 module _ (bodies : List (Exp ℕ)) (g : Meant) (held : Holds bodies g) (s : List ℕ) where
   same-grammar : plainOf g ≡ plainly bodies
-  same-grammar = ap (λ (b : ℕ → Body). record { body = b; water = none }) (fun-ext (λ (r : ℕ). ap rule (held r)))
+  same-grammar = ap (λ (b : ℕ → SymbolBody). record { body = b; water = none }) (fun-ext (λ (r : ℕ). ap rule (held r)))
 
   to-plain : {d p x : ℕ} {e : Exp ℕ} {ns : List Node} → Derives g s d e p x ns → Derives (plainly bodies) s d e p x ns
   to-plain {d} {p} {x} {e} {ns} t = subst (λ (k : Meant). Derives k s d e p x ns) same-grammar (lakes-are-plain g s d e p x ns .0 t)

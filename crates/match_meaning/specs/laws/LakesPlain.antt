@@ -8,7 +8,7 @@ use mathlib.Core.List.{List, [], _∷_}
 use native.Mathlib.Omega.{arith}
 use lib.ListN.{length}
 use Rattle.grammar.specs.Exp.{Exp, alt}
-use Rattle.match_meaning.specs.Meaning.{Meant, Node, Body, rule, lake, Ask, exp, inside, own, wet, some-of, Tries, any-takes, any-fails, lit-takes, lit-fails, cls-takes, cls-fails, sym-takes, sym-fails, seq-fails, seq-fails-later, seq-takes, alt-first, alt-second, star-ends, star-idles, star-goes, plus-fails, plus-takes, opt-skips, opt-takes, ahead-fails, ahead-takes, never-takes, never-fails, by-rule, by-own, by-water, by-skip, stopped, at-end, own-none, own-is, dry-end, dry, wet-is, none-of, this-one, later-one, Derives, plainBody, plainOf}
+use Rattle.match_meaning.specs.Meaning.{Meant, Node, SymbolBody, rule, lake, Ask, exp, inside, own, wet, some-of, Tries, any-takes, any-fails, lit-takes, lit-fails, cls-takes, cls-fails, sym-takes, sym-fails, seq-fails, seq-fails-later, seq-takes, alt-first, alt-second, star-ends, star-idles, star-goes, plus-fails, plus-takes, opt-skips, opt-takes, ahead-fails, ahead-takes, never-takes, never-fails, by-rule, by-own, by-water, by-skip, stopped, at-end, own-none, own-is, dry-end, dry, wet-is, none-of, this-one, later-one, Derives, plainBody, plainOf}
 use Rattle.match_meaning.specs.laws.One.{bare}
 use Rattle.grammar.specs.Lakes.{waterOf, stepOne, choiceOf, skipOf, stepTwo}
 
@@ -107,7 +107,7 @@ module _ (g : Meant) (s : List ℕ) where
   skip-out o (a ∷ ss) b (seq-takes (never-takes t) (any-takes h)) = by-skip (b .0) (b .1) (choice-none a ss t) (omega arith)
 
   -- a body, from what its plain right side derives
-  body-out : {d p x : ℕ} (b : Body) {ns : List Node} → Tries g s d (exp (plainBody (g .water) b)) p x ns → Tries g s d (inside b) p x ns
+  body-out : {d p x : ℕ} (b : SymbolBody) {ns : List Node} → Tries g s d (exp (plainBody (g .water) b)) p x ns → Tries g s d (inside b) p x ns
   unfolding plainBody stepTwo
   body-out (rule e) t = by-rule t
   body-out (lake o ss) (alt-first t) = base-out o t

@@ -7,10 +7,10 @@ use mathlib.Core.List.{List, [], _∷_}
 use native.Mathlib.Omega.{arith}
 use Rattle.read_tokens.specs.Token.{any, literal}
 use Rattle.grammar.specs.Exp.{Exp, sym, ter, seq, opt, star, plus}
-use Rattle.match_meaning.specs.Meaning.{Meant, nd, Body, rule, lake, Here, any-takes, lit-takes, lit-fails, sym-takes, sym-fails, seq-takes, star-idles, plus-takes, opt-skips, opt-takes, by-rule, by-water, by-skip, stopped, own-none, dry-end, dry, wet-is, none-of, this-one, Derives}
+use Rattle.match_meaning.specs.Meaning.{Meant, nd, SymbolBody, rule, lake, Here, any-takes, lit-takes, lit-fails, sym-takes, sym-fails, seq-takes, star-idles, plus-takes, opt-skips, opt-takes, by-rule, by-water, by-skip, stopped, own-none, dry-end, dry, wet-is, none-of, this-one, Derives}
 
 -- ── `a <- 'x' <y>` ──
-abbrev bodies : List (Exp ℕ) → ℕ → Body
+abbrev bodies : List (Exp ℕ) → ℕ → SymbolBody
 bodies ss zero = rule (seq (ter (literal (120 ∷ []))) (sym 1))
 bodies ss (suc r) = lake none ss
 

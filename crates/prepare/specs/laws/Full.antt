@@ -11,7 +11,7 @@ use Rattle.read_tokens.specs.declared.Mode.{Mode}
 use Rattle.read_tokens.specs.declared.Mode.the-variants.{Lake, Plain}
 use Rattle.read_tokens.specs.Token.{Leaf, Tok, symbol, leaf, pre, suf, arrow, slash, opens, closes, bad, Token}
 use Rattle.read_tokens.specs.Chars.{Body, shut, broken, single, listed, body}
-use Rattle.read_tokens.specs.Tokens.{skip, nameSpan, lakeBy, angle, literalBy, someTrue, marksOf, marked, classBy, bracket, byKind, tokenFrom, tokenAt, byEnd, lexemesFrom, lexemes, toksOf, toks}
+use Rattle.read_tokens.specs.Tokens.{skip, nameSpan, lakeBy, angle, literalBy, someTrue, classMarks, classToken, classBy, bracket, byKind, tokenFrom, tokenAt, byEnd, lexemesFrom, lexemes, toksOf, toks}
 use Rattle.read_tokens.specs.laws.Tests.{by-test, by-cond}
 use Rattle.grammar.specs.Empty.{emptyLeaf}
 use Rattle.grammar_table.specs.laws.Rows.{All}
@@ -45,7 +45,7 @@ literal-full i broken = tt
 literal-full i (shut [] e) = tt
 literal-full i (shut (r ∷ rs) e) = refl
 
-marked-full : (x : Bool) (l : List Bool) (i e : ℕ) → FullAt (marked x l i e)
+marked-full : (x : Bool) (l : List Bool) (i e : ℕ) → FullAt (classToken x l i e)
 unfolding emptyLeaf
 marked-full true l i e = refl
 marked-full false l i e = tt
@@ -54,7 +54,7 @@ class-full : (c : Bool) (i : ℕ) (o : Body) → FullAt (classBy c i o)
 unfolding classBy
 class-full c i broken = tt
 class-full c i (shut [] e) = tt
-class-full c i (shut (r ∷ rs) e) = marked-full (someTrue (marksOf c (r ∷ rs))) (marksOf c (r ∷ rs)) i e
+class-full c i (shut (r ∷ rs) e) = marked-full (someTrue (classMarks c (r ∷ rs))) (classMarks c (r ∷ rs)) i e
 
 bracket-full : (m : Mode) (i : ℕ) (l : List ℕ) → FullAt (bracket m i l)
 unfolding bracket

@@ -14,7 +14,7 @@ use Rattle.read_tokens.specs.declared.classes.Class.{Class}
 use Rattle.read_tokens.specs.Token.{Symbol, name, lake, Leaf, any, literal, class, Tok, symbol, leaf, pre, suf, arrow, slash, opens, closes, bad, Lexeme}
 use Rattle.read_tokens.specs.Bounds.{nameBound, literalBound}
 use Rattle.read_tokens.specs.Chars.{Range, Body, shut, broken, listed, body}
-use Rattle.read_tokens.specs.Tokens.{tokenAt, toksOf, toks, lexemes, lexemesFrom, byEnd, table, someTrue, marksOf, marked, classBy, bracket}
+use Rattle.read_tokens.specs.Tokens.{tokenAt, toksOf, toks, lexemes, lexemesFrom, byEnd, table, someTrue, classMarks, classToken, classBy, bracket}
 use Rattle.read_tokens.specs.steps.Code.{classIs, classAt}
 use Rattle.read_tokens.specs.laws.Again.{class-again}
 use Rattle.grammar.specs.Same.{isIn}
@@ -32,14 +32,14 @@ unfolding table
 table-length f i zero = refl
 table-length f i (suc n) = ap suc (table-length f (suc i) n)
 
-marks-length : (c : Bool) (rs : List Range) → length (marksOf c rs) ≡ 256
-unfolding marksOf
+marks-length : (c : Bool) (rs : List Range) → length (classMarks c rs) ≡ 256
+unfolding classMarks
 marks-length c rs = table-length _ 0 256
 
 none-length : length {A = Bool} (replicate 256 false) ≡ 256
 none-length = length-replicate 256 false
 
-marked-256 : (x : Bool) (l : List Bool) (i e : ℕ) → length l ≡ 256 → length (classIs (marked x l i e) .marks) ≡ 256
+marked-256 : (x : Bool) (l : List Bool) (i e : ℕ) → length l ≡ 256 → length (classIs (classToken x l i e) .marks) ≡ 256
 marked-256 true l i e h = h
 marked-256 false l i e h = none-length
 
@@ -47,7 +47,7 @@ class-256 : (c : Bool) (i : ℕ) (o : Body) → length (classIs (classBy c i o) 
 unfolding classBy
 class-256 c i broken = none-length
 class-256 c i (shut [] e) = none-length
-class-256 c i (shut (r ∷ rs) e) = marked-256 (someTrue (marksOf c (r ∷ rs))) (marksOf c (r ∷ rs)) i e (marks-length c (r ∷ rs))
+class-256 c i (shut (r ∷ rs) e) = marked-256 (someTrue (classMarks c (r ∷ rs))) (classMarks c (r ∷ rs)) i e (marks-length c (r ∷ rs))
 
 bracket-256 : (m : Mode) (i : ℕ) (l : List ℕ) → length (classIs (bracket m i l) .marks) ≡ 256
 unfolding bracket

@@ -305,12 +305,3 @@ module _ (m : Mode) (s : List ℕ) (at : ℕ) (t : Token) (e : t ≡ coded (toke
 
       pub used-bad : r ≡ false → UsedAll m s at low high 1
       used-bad z u q = record { fine = λ i. absurd (omega (arith, i)); bad = λ i. sym (told u q) ∙ ap not z }
-
--- ── a token that is left side or reserved ──
-pub or-false : (a b : Bool) → (a || b) ≡ false → (a ≡ false) × (b ≡ false)
-or-false true b e = absurd (false≢true (sym e))
-or-false false b e = (refl, e)
-
-pub or-left : (a b : Bool) → (a || b) ≡ true → b ≡ false → a ≡ true
-or-left true b e f = refl
-or-left false b e f = absurd (false≢true (sym f ∙ e))

@@ -12,9 +12,9 @@ use lib.Seq.{drop-drop, ext-getD}
 use borrow.Author.Tests.{eqb-true, eqb-false, eq-eqb, ne-eqb}
 use Rattle.read_tokens.specs.Kinds.{kindAt, oneOf, ranges}
 use Rattle.read_tokens.specs.Chars as chars
-use Rattle.read_tokens.specs.Chars.{Range, Body, shut, broken, also, byWidth, bodyBy, body}
-use Rattle.read_tokens.specs.Tokens.{blankBy, skip, nameByte, nameSpan, within, among, someTrue, turned, marksOf}
-use Rattle.read_spelling.specs.Spelling.{OneOf, First, blankBytes, lineEnds, NameByte, Run, stop, go, Blanks, none-more, blank, comment, Skips, Spells, itself, escaped, three, two, one, Item, alone, ranged, UpTo, closed, more, InItems, Marks}
+use Rattle.read_tokens.specs.Chars.{Range, Body, shut, broken, also, byWidth, shutBy, body}
+use Rattle.read_tokens.specs.Tokens.{blankBy, skip, nameByte, nameSpan, within, among, someTrue, turned, classMarks}
+use Rattle.read_spelling.specs.Spelling.{OneOf, HeadIs, blankBytes, lineEnds, NameByte, Run, stop, go, Blanks, none-more, blank, comment, Skips, Spells, itself, escaped, three, two, one, ItemSpelt, alone, ranged, UpTo, closed, more, InItems, Marks}
 use Rattle.read_tokens.specs.laws.Bytes.{Bytes, bytes-drop}
 use Rattle.read_tokens.specs.laws.Marks.{table-at, table-length}
 use Rattle.read_tokens.specs.laws.Passing.{passes}
@@ -43,7 +43,7 @@ spells-cut (three n i j k) = (4, refl, omega arith)
 spells-cut (two i j n) = (3, refl, omega arith)
 spells-cut (one i n) = (2, refl, omega arith)
 
-item-cut : {x : Range} {l r : List ℕ} → Item x l r → Cut l r
+item-cut : {x : Range} {l r : List ℕ} → ItemSpelt x l r → Cut l r
 item-cut (alone s n) = spells-cut s
 item-cut (ranged s t n) = let c = spells-cut s in cut-then c (cut-then (1, refl, omega arith) (spells-cut t))
 
@@ -91,7 +91,7 @@ module _ (close : ℕ) {A : Type 0} (One : A → List ℕ → List ℕ → Type 
             also-closed b t l (drop w l) (step (b ∷ l) .span) (o .0) (o .1) n (subst (λ (v : ℕ). One (o .0) (b ∷ l) (drop v (b ∷ l))) q (o .2)) (body close step w (suc at) l) (c w)
 
         turn : (x : Bool) → eqb b close ≡ x → ((n : ℕ) → Closed (drop n l) t (body close step n (suc at) l))
-            → Closed (b ∷ l) t (bodyBy x at (step (b ∷ l)) (λ n. body close step n (suc at) l))
+            → Closed (b ∷ l) t (shutBy x at (step (b ∷ l)) (λ n. body close step n (suc at) l))
         turn true q c = ([], l, subst (λ (j : ℕ). UpTo close One [] (j ∷ l) l) (sym (eqb-true b close q)) closed, refl, omega arith)
         turn false q c = wide (step (b ∷ l) .width) refl (eqb-false b close q) c
     body-sound s (suc k) at t (b ∷ l) h e = body-sound s k (suc at) t l (h .1) (omega arith)
@@ -100,7 +100,7 @@ module _ (close : ℕ) {A : Type 0} (One : A → List ℕ → List ℕ → Type 
         → body close step 0 at (b ∷ l) ≡ also x (body close step 0 (suc at + w) (drop w l))
     unfolding body
     turned-once b at w l x n e =
-        ap (λ (y : Bool). bodyBy y at (step (b ∷ l)) (λ j. body close step j (suc at) l)) (ne-eqb b close n)
+        ap (λ (y : Bool). shutBy y at (step (b ∷ l)) (λ j. body close step j (suc at) l)) (ne-eqb b close n)
         ∙ ap (λ (i : chars.Item). byWidth (i .width) (i .span) (λ j. body close step j (suc at) l)) e
         ∙ ap (also x) (passes close step w (suc at) l)
 
@@ -108,7 +108,7 @@ module _ (close : ℕ) {A : Type 0} (One : A → List ℕ → List ℕ → Type 
         step [] .width ≡ 0 → ((x : A) (l r : List ℕ) → One x l r → Bytes l → Turn step l (f x) r) → {xs : List A} {l r : List ℕ} → UpTo close One xs l r → Bytes l → (at : ℕ)
         → (e : ℕ) × (body close step 0 at l ≡ shut (map f xs) e) × (e + length r ≡ at + length l)
     unfolding body
-    body-complete z c (closed {r = r}) h at = (suc at, ap (λ (y : Bool). bodyBy y at (step (close ∷ r)) (λ j. body close step j (suc at) r)) (eq-eqb close close refl), omega arith)
+    body-complete z c (closed {r = r}) h at = (suc at, ap (λ (y : Bool). shutBy y at (step (close ∷ r)) (λ j. body close step j (suc at) r)) (eq-eqb close close refl), omega arith)
     body-complete z c (more {x = x} {l = []} {k = k} n o u) h at = let g = c x [] k o h in absurd (omega (arith, sym z ∙ ap (λ (i : chars.Item). i .width) (g .1)))
     body-complete z c (more {x = x} {xs = xs} {l = b ∷ l} {k = k} n o u) h at =
         let g = c x (b ∷ l) k o h in
@@ -118,8 +118,8 @@ module _ (close : ℕ) {A : Type 0} (One : A → List ℕ → List ℕ → Type 
 pub literal-cut : (q : ℕ) {bs l r : List ℕ} → UpTo q Spells bs l r → Cut l r
 literal-cut q u = upto-cut q Spells (λ b l r s. spells-cut s) u
 
-pub class-cut : {xs : List Range} {l r : List ℕ} → UpTo 93 Item xs l r → Cut l r
-class-cut u = upto-cut 93 Item (λ x l r s. item-cut s) u
+pub class-cut : {xs : List Range} {l r : List ℕ} → UpTo 93 ItemSpelt xs l r → Cut l r
+class-cut u = upto-cut 93 ItemSpelt (λ x l r s. item-cut s) u
 
 -- ── names ──
 pub span-run : (l : List ℕ) → Bytes l → Run NameByte (nameSpan l) l (drop (length (nameSpan l)) l)
@@ -178,15 +178,15 @@ turned-is true rs b = (λ e h. never (sym (ap not (true-among b rs h)) ∙ e), �
     pick false e n = refl
 turned-is false rs b = (among-true b rs, true-among b rs)
 
-mark-at : (c : Bool) (rs : List Range) (b : ℕ) → b < 256 → getD (marksOf c rs) b false ≡ turned c (among b rs)
-unfolding marksOf
+mark-at : (c : Bool) (rs : List Range) (b : ℕ) → b < 256 → getD (classMarks c rs) b false ≡ turned c (among b rs)
+unfolding classMarks
 mark-at c rs b h = table-at (λ b. turned c (among b rs)) 0 256 b h ∙ ap (λ (x : ℕ). turned c (among x rs)) (zero-add b)
 
-mark-is : (c : Bool) (rs : List Range) (b : ℕ) → b < 256 → (getD (marksOf c rs) b false ≡ true) ↔ Inside c rs b
+mark-is : (c : Bool) (rs : List Range) (b : ℕ) → b < 256 → (getD (classMarks c rs) b false ≡ true) ↔ Inside c rs b
 mark-is c rs b h = let e = mark-at c rs b h in let t = turned-is c rs b in (λ g. t .0 (sym e ∙ g), λ i. e ∙ t .1 i)
 
-marks-all : (c : Bool) (rs : List Range) → length (marksOf c rs) ≡ 256
-unfolding marksOf
+marks-all : (c : Bool) (rs : List Range) → length (classMarks c rs) ≡ 256
+unfolding classMarks
 marks-all c rs = table-length (λ b. turned c (among b rs)) 0 256
 
 some-mark : (l : List Bool) → someTrue l ≡ true → (b : ℕ) × (b < length l) × (getD l b false ≡ true)
@@ -201,9 +201,9 @@ mark-some [] b e = e
 mark-some (x ∷ l) zero e = ap (λ (y : Bool). y || someTrue l) e
 mark-some (x ∷ l) (suc b) e = or-right x (someTrue l) (mark-some l b e)
 
-pub marks-sound : (c : Bool) (rs : List Range) → someTrue (marksOf c rs) ≡ true → Marks (Inside c rs) (marksOf c rs)
+pub marks-sound : (c : Bool) (rs : List Range) → someTrue (classMarks c rs) ≡ true → Marks (Inside c rs) (classMarks c rs)
 marks-sound c rs e =
-    let m = some-mark (marksOf c rs) e in
+    let m = some-mark (classMarks c rs) e in
     let h : m .0 < 256 = omega (arith, m .1, marks-all c rs) in
     record { all = marks-all c rs; exact = mark-is c rs; some-byte = (m .0, h, mark-is c rs (m .0) h .0 (m .2)) }
 
@@ -212,14 +212,14 @@ same-true true y P h k = sym (k .1 (h .0 refl))
 same-true false true P h k = h .1 (k .0 refl)
 same-true false false P h k = refl
 
-pub marks-complete : (c : Bool) (rs : List Range) (k : List Bool) → Marks (Inside c rs) k → (someTrue (marksOf c rs) ≡ true) × (marksOf c rs ≡ k)
+pub marks-complete : (c : Bool) (rs : List Range) (k : List Bool) → Marks (Inside c rs) k → (someTrue (classMarks c rs) ≡ true) × (classMarks c rs ≡ k)
 marks-complete c rs k m =
     let b : ℕ = m .some-byte .0 in (
-      mark-some (marksOf c rs) b (mark-is c rs b (m .some-byte .1) .1 (m .some-byte .2)),
-      ext-getD false (marksOf c rs) k (marks-all c rs ∙ sym (m .all))
+      mark-some (classMarks c rs) b (mark-is c rs b (m .some-byte .1) .1 (m .some-byte .2)),
+      ext-getD false (classMarks c rs) k (marks-all c rs ∙ sym (m .all))
           (λ i h.
           let j : i < 256 = omega (arith, h, marks-all c rs) in
-          same-true (getD (marksOf c rs) i false) (getD k i false) (Inside c rs i) (mark-is c rs i j) (m .exact i j)),
+          same-true (getD (classMarks c rs) i false) (getD k i false) (Inside c rs i) (mark-is c rs i j) (m .exact i j)),
     )
 
 -- ── blanks ──
@@ -316,7 +316,7 @@ run-skip (stop {r = b ∷ r} n) at = pick (line b)
 run-skip (go {b = b} {w = w} {l = l} {r = k} n u) at =
     skip-on true at b 1 l (line-1 b n) ∙ run-skip u (suc at) ∙ ap (λ (j : ℕ). skip false j k) (omega arith)
 
-pub skip-complete : {l r : List ℕ} → Blanks l r → Bytes l → ¬ First (λ (b : ℕ). OneOf blankBytes b ⊎ (b ≡ 35)) r → (at : ℕ) → skip false at l + length r ≡ at + length l
+pub skip-complete : {l r : List ℕ} → Blanks l r → Bytes l → ¬ HeadIs (λ (b : ℕ). OneOf blankBytes b ⊎ (b ≡ 35)) r → (at : ℕ) → skip false at l + length r ≡ at + length l
 unfolding skip
 skip-complete (none-more {r = []}) h n at = omega arith
 skip-complete (none-more {r = b ∷ r}) h n at = pick (how b (h .0))

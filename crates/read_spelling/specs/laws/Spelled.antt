@@ -15,8 +15,8 @@ use Rattle.read_tokens.specs.declared.Mode.{Mode}
 use Rattle.read_tokens.specs.declared.Mode.the-variants.{Lake, Plain}
 use Rattle.read_tokens.specs.Token.{Tok, Token, Lexeme, name, lake, literal, class, symbol, leaf, pre, suf, arrow, slash, opens, closes, bad}
 use Rattle.read_tokens.specs.Chars.{Range, range, Body, shut, broken, body, char, four, single, listed}
-use Rattle.read_tokens.specs.Tokens.{tok, badAt, skip, nameSpan, lakeBy, angle, lowOf, literalBy, someTrue, marksOf, marked, classBy, bracket, preOf, sufOf, byKind, tokenFrom, tokenAt, lexeme, lexemes}
-use Rattle.read_spelling.specs.Spelling.{Letter, NameByte, OneOf, quotes, Run, Skips, Spells, Item, UpTo, Marks, Caret, Sign, is-opens, is-closes, is-slash, is-amp, is-bang, is-query, is-asterisk, is-cross, is-any, Reads, a-sign, an-arrow, a-name, a-lake, a-literal, a-class, a-complement, SpelledAt, text-end, good, no-token, Spelled, ended, follows}
+use Rattle.read_tokens.specs.Tokens.{tok, badAt, skip, nameSpan, lakeBy, angle, lowOf, literalBy, someTrue, classMarks, classToken, classBy, bracket, preOf, sufOf, byKind, tokenFrom, tokenAt, lexeme, lexemes}
+use Rattle.read_spelling.specs.Spelling.{Letter, NameByte, OneOf, quotes, Run, Skips, Spells, ItemSpelt, UpTo, Marks, Caret, Sign, is-opens, is-closes, is-slash, is-amp, is-bang, is-query, is-asterisk, is-cross, is-any, Reads, a-sign, an-arrow, a-name, a-lake, a-literal, a-class, a-complement, SpelledAt, text-end, good, no-token, Spelled, ended, follows}
 use Rattle.read_tokens.specs.laws.Bytes.{Bytes, bytes-drop}
 use Rattle.read_tokens.specs.laws.Tests.{by-test}
 use Rattle.read_tokens.specs.laws.Forward.{span-letter, forward, lexemesAt, lex-end, lex-more}
@@ -66,24 +66,24 @@ literal-found m q i l h k = pick (body q single 0 (suc i) l) (body-sound q Spell
 
 -- a class, as listed or turned; `from` tells how its items make it a token
 module _ (m : Mode) (c : Bool) (i at : ℕ) (l t : List ℕ) (far : at + length l ≡ i + length t)
-    (from : (x : Range) (xs : List Range) (k : List Bool) (r : List ℕ) → UpTo 93 Item (x ∷ xs) l r → Marks (Inside c (x ∷ xs)) k → Reads m (leaf (class k)) t r) where
-  marked-found : (x : Range) (xs : List Range) (r : List ℕ) (e : ℕ) → UpTo 93 Item (x ∷ xs) l r → e + length r ≡ at + length l
-      → Found m i t (marked (someTrue (marksOf c (x ∷ xs))) (marksOf c (x ∷ xs)) i e)
-  marked-found x xs r e u n = pick (someTrue (marksOf c (x ∷ xs))) refl
+    (from : (x : Range) (xs : List Range) (k : List Bool) (r : List ℕ) → UpTo 93 ItemSpelt (x ∷ xs) l r → Marks (Inside c (x ∷ xs)) k → Reads m (leaf (class k)) t r) where
+  marked-found : (x : Range) (xs : List Range) (r : List ℕ) (e : ℕ) → UpTo 93 ItemSpelt (x ∷ xs) l r → e + length r ≡ at + length l
+      → Found m i t (classToken (someTrue (classMarks c (x ∷ xs))) (classMarks c (x ∷ xs)) i e)
+  marked-found x xs r e u n = pick (someTrue (classMarks c (x ∷ xs))) refl
     where
-      pick : (y : Bool) → someTrue (marksOf c (x ∷ xs)) ≡ y → Found m i t (marked y (marksOf c (x ∷ xs)) i e)
-      pick true f = reads {n = e} r (from x xs (marksOf c (x ∷ xs)) r u (marks-sound c (x ∷ xs) f)) (omega arith)
+      pick : (y : Bool) → someTrue (classMarks c (x ∷ xs)) ≡ y → Found m i t (classToken y (classMarks c (x ∷ xs)) i e)
+      pick true f = reads {n = e} r (from x xs (classMarks c (x ∷ xs)) r u (marks-sound c (x ∷ xs) f)) (omega arith)
       pick false f = poor
 
   class-found : Bytes l → Found m i t (classBy c i (body 93 listed 0 at l))
   unfolding classBy
-  class-found h = pick (body 93 listed 0 at l) (body-sound 93 Item listed as-is (λ k b w. (listed k .span, refl, listed-sound k b w)) 0 at (at + length l) l h refl)
+  class-found h = pick (body 93 listed 0 at l) (body-sound 93 ItemSpelt listed as-is (λ k b w. (listed k .span, refl, listed-sound k b w)) 0 at (at + length l) l h refl)
     where
-      settled : (x : Range) (xs : List Range) (e : ℕ) (ys : List Range) (p : List ℕ) → UpTo 93 Item ys l p → x ∷ xs ≡ map as-is ys → e + length p ≡ at + length l
-          → Found m i t (marked (someTrue (marksOf c (x ∷ xs))) (marksOf c (x ∷ xs)) i e)
-      settled x xs e ys p u g n = marked-found x xs p e (subst (λ (zs : List Range). UpTo 93 Item zs l p) (sym (g ∙ map-as-is ys)) u) n
+      settled : (x : Range) (xs : List Range) (e : ℕ) (ys : List Range) (p : List ℕ) → UpTo 93 ItemSpelt ys l p → x ∷ xs ≡ map as-is ys → e + length p ≡ at + length l
+          → Found m i t (classToken (someTrue (classMarks c (x ∷ xs))) (classMarks c (x ∷ xs)) i e)
+      settled x xs e ys p u g n = marked-found x xs p e (subst (λ (zs : List Range). UpTo 93 ItemSpelt zs l p) (sym (g ∙ map-as-is ys)) u) n
 
-      pick : (o : Body) → Closed 93 Item listed as-is l (at + length l) o → Found m i t (classBy c i o)
+      pick : (o : Body) → Closed 93 ItemSpelt listed as-is l (at + length l) o → Found m i t (classBy c i o)
       pick broken d = poor
       pick (shut [] e) d = poor
       pick (shut (x ∷ xs) e) d = settled x xs e (d .0) (d .1) (d .2) (d .3) (d .4)
@@ -250,15 +250,15 @@ empty-single : single [] .width ≡ 0
 unfolding single char four
 empty-single = refl
 
-class-gives : (c : Bool) (i at : ℕ) (x : Range) (xs : List Range) (k : List Bool) (l r : List ℕ) → UpTo 93 Item (x ∷ xs) l r → Marks (Inside c (x ∷ xs)) k → Bytes l
+class-gives : (c : Bool) (i at : ℕ) (x : Range) (xs : List Range) (k : List Bool) (l r : List ℕ) → UpTo 93 ItemSpelt (x ∷ xs) l r → Marks (Inside c (x ∷ xs)) k → Bytes l
     → (n : ℕ) × (classBy c i (body 93 listed 0 at l) ≡ tok (leaf (class k)) i n) × (n + length r ≡ at + length l)
 unfolding classBy
 class-gives c i at x xs k l r u n h =
-    let g = body-complete 93 Item listed as-is empty-listed (λ y k p j b. listed-complete j b) u h at in
+    let g = body-complete 93 ItemSpelt listed as-is empty-listed (λ y k p j b. listed-complete j b) u h at in
     let t = marks-complete c (x ∷ xs) k n in (
       g .0,
       ap (classBy c i) (g .1 ∙ ap (λ (ys : List Range). shut ys (g .0)) (map-as-is (x ∷ xs)))
-          ∙ ap (λ (y : Bool). marked y (marksOf c (x ∷ xs)) i (g .0)) (t .0)
+          ∙ ap (λ (y : Bool). classToken y (classMarks c (x ∷ xs)) i (g .0)) (t .0)
           ∙ ap (λ (ms : List Bool). tok (leaf (class ms)) i (g .0)) (t .1),
       g .2,
     )

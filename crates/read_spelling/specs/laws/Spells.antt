@@ -14,7 +14,7 @@ use Rattle.read_tokens.specs.Bounds.{firstOctal}
 use Rattle.read_tokens.specs.Chars as chars
 use Rattle.read_tokens.specs.Chars.{Char, Range, got, octal, octals, letters, four, char, single, dashed, started, listed, range}
 use Rattle.read_tokens.specs.Tokens.{nameByte}
-use Rattle.read_spelling.specs.Spelling.{OneOf, Between, First, blankBytes, quotes, escapes, Letter, NameByte, Digit, Octal, Escape, n-lf, r-cr, t-tab, same, Spells, itself, escaped, three, two, one, Item, alone, ranged}
+use Rattle.read_spelling.specs.Spelling.{OneOf, Between, HeadIs, blankBytes, quotes, escapes, Letter, NameByte, Digit, Octal, Escape, n-lf, r-cr, t-tab, same, Spells, itself, escaped, three, two, one, ItemSpelt, alone, ranged}
 use Rattle.read_tokens.specs.laws.All.{all, all-at, both-left, both-right}
 use Rattle.read_tokens.specs.laws.Bytes.{Bytes, bytes-drop}
 
@@ -300,14 +300,14 @@ char-octal : (x c : ℕ) (r : List ℕ) → Digit x c → char (92 ∷ c ∷ r) 
 unfolding char four
 char-octal x c r h = rw (true-digit x c h)
 
-first-octal : (r : List ℕ) → ¬ First Octal r → octal (getD r 0 256) ≡ false
+first-octal : (r : List ℕ) → ¬ HeadIs Octal r → octal (getD r 0 256) ≡ false
 first-octal [] h = refl
 first-octal (c ∷ r) h = not-octal c h
 
 worth : (x c : ℕ) → Digit x c → c - 48 ≡ x
 worth x c h = omega (arith, h .0)
 
-no-third : (x c : ℕ) (r : List ℕ) → Digit x c → (x ≤ 2 → ¬ First Octal r) → (leb c 50 && octal (getD r 0 256)) ≡ false
+no-third : (x c : ℕ) (r : List ℕ) → Digit x c → (x ≤ 2 → ¬ HeadIs Octal r) → (leb c 50 && octal (getD r 0 256)) ≡ false
 no-third x c r h k = pick (leb c 50) refl
   where
     pick : (t : Bool) → leb c 50 ≡ t → (t && octal (getD r 0 256)) ≡ false
@@ -326,7 +326,7 @@ char-complete (one {x = x} {c = c} {r = r} i n) h = (1, char-octal x c r i ∙ r
 
 -- ── an item of a class ──
 abbrev ItemIs : List ℕ → chars.Item → Type 0
-ItemIs l i = 0 < i .width → Item (i .span) l (drop (i .width) l)
+ItemIs l i = 0 < i .width → ItemSpelt (i .span) l (drop (i .width) l)
 
 nothing : (l : List ℕ) → ItemIs l (chars.item 0 0 0)
 nothing l h = absurd (omega arith)
@@ -340,11 +340,11 @@ ranged-sound a b n zero l k s e t = nothing l
 ranged-sound a b n (suc v) l k s e t = pick (leb a b) refl
   where
     pick : (x : Bool) → leb a b ≡ x → ItemIs l (cond x (chars.item a b (suc n + 1 + suc v)) (chars.item 0 0 0))
-    pick true f = λ _. subst (λ (r : List ℕ). Item (range a b) l r) (sym (far n v l k e)) (ranged s t (leb-true a b f))
+    pick true f = λ _. subst (λ (r : List ℕ). ItemSpelt (range a b) l r) (sym (far n v l k e)) (ranged s t (leb-true a b f))
     pick false f = nothing l
 
-alone-sound : (a n : ℕ) (l k : List ℕ) → Spells a l k → drop (suc n) l ≡ k → ¬ First (λ (b : ℕ). b ≡ 45) k → ItemIs l (chars.item a a (suc n))
-alone-sound a n l k s e f _ = subst (λ (r : List ℕ). Item (range a a) l r) (sym e) (alone s f)
+alone-sound : (a n : ℕ) (l k : List ℕ) → Spells a l k → drop (suc n) l ≡ k → ¬ HeadIs (λ (b : ℕ). b ≡ 45) k → ItemIs l (chars.item a a (suc n))
+alone-sound a n l k s e f _ = subst (λ (r : List ℕ). ItemSpelt (range a a) l r) (sym e) (alone s f)
 
 dashed-sound : (a n : ℕ) (l k : List ℕ) → Spells a l k → drop (suc n) l ≡ k → Bytes k → ItemIs l (dashed a (suc n) k)
 unfolding dashed
@@ -361,7 +361,7 @@ started-sound : (a w : ℕ) (l : List ℕ) → Spelt l a w → Bytes l → ItemI
 started-sound a zero l s h = nothing l
 started-sound a (suc n) l s h = dashed-sound a n l (drop (suc n) l) s refl (bytes-drop (suc n) l h)
 
-pub listed-sound : (l : List ℕ) → Bytes l → 0 < listed l .width → Item (listed l .span) l (drop (listed l .width) l)
+pub listed-sound : (l : List ℕ) → Bytes l → 0 < listed l .width → ItemSpelt (listed l .span) l (drop (listed l .width) l)
 unfolding listed
 listed-sound l h = started-sound (char l .byte) (char l .width) l (char-sound l h) h
 
@@ -373,7 +373,7 @@ single-sound l h k = go (char l .width) (char-sound l h) k
     go zero s k = absurd (omega arith)
     go (suc w) s k = s
 
-dashed-alone : (a n : ℕ) (r : List ℕ) → ¬ First (λ (b : ℕ). b ≡ 45) r → dashed a n r ≡ chars.item a a n
+dashed-alone : (a n : ℕ) (r : List ℕ) → ¬ HeadIs (λ (b : ℕ). b ≡ 45) r → dashed a n r ≡ chars.item a a n
 unfolding dashed
 dashed-alone a n [] f = refl
 dashed-alone a n (b ∷ r) f = rw (dashed, ne-eqb b 45 f)
@@ -394,7 +394,7 @@ dashed-ranged : (a b n v : ℕ) (k : List ℕ) → char k ≡ got b (suc v) → 
 unfolding dashed
 dashed-ranged a b n v k e h = ap (λ (c : Char). chars.ranged a n (c .byte) (c .width)) e ∙ rw (le-leb a b h)
 
-pub listed-complete : {x : Range} {l r : List ℕ} → Item x l r → Bytes l → Turn listed l x r
+pub listed-complete : {x : Range} {l r : List ℕ} → ItemSpelt x l r → Bytes l → Turn listed l x r
 listed-complete (alone {a = a} {l = l} {r = r} s f) h =
     let g = char-complete s h in
     (g .0, listed-at l a (g .0) (g .1) ∙ ap (dashed a (suc (g .0))) (g .2) ∙ dashed-alone a (suc (g .0)) r f, g .2, g .3)

@@ -14,8 +14,8 @@ use Rattle.read_tokens.specs.declared.Mode.{Mode}
 use Rattle.read_tokens.specs.declared.Mode.the-variants.{Lake, Plain}
 use Rattle.read_tokens.specs.declared.classes.Class.{Class}
 use Rattle.read_tokens.specs.Token.{Symbol, name, lake, Leaf, any, literal, class, Tok, symbol, leaf, pre, suf, arrow, slash, opens, closes, bad, Token}
-use Rattle.read_tokens.specs.Chars.{Char, char, Range, range, Item, single, listed, Body, shut, broken, also, byWidth, bodyBy, body}
-use Rattle.read_tokens.specs.Tokens.{tok, badAt, skip, nameByte, nameSpan, lakeBy, angle, lowOf, literalBy, someTrue, marksOf, marked, classBy, bracket, preOf, sufOf, byKind, tokenFrom, tokenAt}
+use Rattle.read_tokens.specs.Chars.{Char, char, Range, range, Item, single, listed, Body, shut, broken, also, byWidth, shutBy, body}
+use Rattle.read_tokens.specs.Tokens.{tok, badAt, skip, nameByte, nameSpan, lakeBy, angle, lowOf, literalBy, someTrue, classMarks, classToken, classBy, bracket, preOf, sufOf, byKind, tokenFrom, tokenAt}
 use Rattle.read_tokens.specs.laws.Tests.{by-test, by-cond}
 use Rattle.read_tokens.specs.laws.Passing.{from, passed}
 use Rattle.read_tokens.specs.steps.Code.{literalFrom, classIs, classAt}
@@ -42,7 +42,7 @@ taken q i (b ∷ l) r rs e h = go (eqb b q) h
     wide zero f h = let z : _≡_ {A = ℕ} 0 1 = cc in absurd (omega arith)
     wide (suc k) f h = rest k f (body q single k (suc i) l) refl h
 
-    go : (x : Bool) → bodyBy x i (single (b ∷ l)) (λ n. body q single n (suc i) l) ≡ shut (r ∷ rs) e → Turn
+    go : (x : Bool) → shutBy x i (single (b ∷ l)) (λ n. body q single n (suc i) l) ≡ shut (r ∷ rs) e → Turn
     go true h = let z : _≡_ {A = ℕ} 0 1 = cc in absurd (omega arith)
     go false h = wide (char (b ∷ l) .width) refl h
 
@@ -111,7 +111,7 @@ module _ (m : Mode) (s : List ℕ) where
   literal-held q i (shut (r ∷ rs) e) h =
       ap (λ (n : ℕ). literalFrom n s (suc i)) (length-map (r ∷ rs) lowOf) ∙ literal-chars q s (suc i) (r ∷ rs) e h
 
-  marked-held : (x : Bool) (l : List Bool) (i e : ℕ) → classAt m s i ≡ classIs (marked x l i e) → Holds (marked x l i e)
+  marked-held : (x : Bool) (l : List Bool) (i e : ℕ) → classAt m s i ≡ classIs (classToken x l i e) → Holds (classToken x l i e)
   marked-held true l i e h = h
   marked-held false l i e h = tt
 
@@ -119,7 +119,7 @@ module _ (m : Mode) (s : List ℕ) where
   unfolding classBy
   class-held c i broken h = tt
   class-held c i (shut [] e) h = tt
-  class-held c i (shut (r ∷ rs) e) h = marked-held (someTrue (marksOf c (r ∷ rs))) (marksOf c (r ∷ rs)) i e h
+  class-held c i (shut (r ∷ rs) e) h = marked-held (someTrue (classMarks c (r ∷ rs))) (classMarks c (r ∷ rs)) i e h
 
   bracket-held : (k : Mode) (i : ℕ) (l : List ℕ) → classAt m s i ≡ classIs (bracket k i l) → Holds (bracket k i l)
   unfolding bracket

@@ -14,8 +14,8 @@ use Rattle.read_tokens.specs.Kinds.{kindAt}
 use Rattle.read_tokens.specs.declared.Mode.{Mode}
 use Rattle.read_tokens.specs.declared.Mode.the-variants.{Lake, Plain}
 use Rattle.read_tokens.specs.Token.{name, lake, any, Tok, symbol, leaf, pre, suf, arrow, slash, opens, closes, bad, Token, Lexeme}
-use Rattle.read_tokens.specs.Chars.{Range, Item, single, listed, Body, shut, broken, also, byWidth, bodyBy, body}
-use Rattle.read_tokens.specs.Tokens.{tok, blankBy, skip, nameByte, nameSpan, lakeBy, angle, literalBy, within, someTrue, marksOf, marked, classBy, bracket, preOf, sufOf, byKind, tokenFrom, tokenAt, lexeme, byEnd, lexemesFrom}
+use Rattle.read_tokens.specs.Chars.{Range, Item, single, listed, Body, shut, broken, also, byWidth, shutBy, body}
+use Rattle.read_tokens.specs.Tokens.{tok, blankBy, skip, nameByte, nameSpan, lakeBy, angle, literalBy, within, someTrue, classMarks, classToken, classBy, bracket, preOf, sufOf, byKind, tokenFrom, tokenAt, lexeme, byEnd, lexemesFrom}
 use Rattle.read_tokens.specs.laws.Tests.{by-test, by-cond}
 
 -- ── where a literal's or a class's body ends ──
@@ -31,7 +31,7 @@ width-ended : (w : ℕ) (r : Range) (k : ℕ → Body) (at n : ℕ) → ((j : �
 width-ended zero r k at n h = tt
 width-ended (suc w) r k at n h = also-ended r (k w) at n (h w)
 
-turn-ended : (x : Bool) (i : Item) (k : ℕ → Body) (at n : ℕ) → at < n → ((j : ℕ) → Ended (k j) (suc at) n) → Ended (bodyBy x at i k) at n
+turn-ended : (x : Bool) (i : Item) (k : ℕ → Body) (at n : ℕ) → at < n → ((j : ℕ) → Ended (k j) (suc at) n) → Ended (shutBy x at i k) at n
 turn-ended true i k at n l h = (omega arith, l)
 turn-ended false i k at n l h = width-ended (i .width) (i .span) k at n h
 
@@ -86,15 +86,15 @@ module _ (at n : ℕ) where
   literal-fwd i (shut [] e) a b h = byte bad i a b
   literal-fwd i (shut (r ∷ rs) e) a b h = sound (literalBy i (shut (r ∷ rs) e)) a (omega (arith, h .0)) (h .1)
 
-  marked-fwd : (x : Bool) (l : List Bool) (i e : ℕ) → at ≤ i → i < n → i < e → e ≤ n → Fwd at n (marked x l i e)
-  marked-fwd true l i e a b h k = sound (marked true l i e) a h k
+  marked-fwd : (x : Bool) (l : List Bool) (i e : ℕ) → at ≤ i → i < n → i < e → e ≤ n → Fwd at n (classToken x l i e)
+  marked-fwd true l i e a b h k = sound (classToken true l i e) a h k
   marked-fwd false l i e a b h k = byte bad i a b
 
   class-fwd : (c : Bool) (i : ℕ) (o : Body) → at ≤ i → i < n → Ended o (suc i) n → Fwd at n (classBy c i o)
   unfolding classBy
   class-fwd c i broken a b h = byte bad i a b
   class-fwd c i (shut [] e) a b h = byte bad i a b
-  class-fwd c i (shut (r ∷ rs) e) a b h = marked-fwd (someTrue (marksOf c (r ∷ rs))) (marksOf c (r ∷ rs)) i e a b (omega (arith, h .0)) (h .1)
+  class-fwd c i (shut (r ∷ rs) e) a b h = marked-fwd (someTrue (classMarks c (r ∷ rs))) (classMarks c (r ∷ rs)) i e a b (omega (arith, h .0)) (h .1)
 
   bracket-fwd : (m : Mode) (i : ℕ) (l : List ℕ) → at ≤ i → suc i + length l ≤ n → Fwd at n (bracket m i l)
   unfolding bracket

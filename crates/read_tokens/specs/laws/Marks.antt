@@ -12,7 +12,7 @@ use borrow.Author.Tests.{leb-true, leb-false}
 use lib.Seq.{getD-set-same, getD-set-other, ext-getD}
 use Rattle.base_facts.specs.laws.Bools.{or-turn}
 use Rattle.read_tokens.specs.Chars.{Range}
-use Rattle.read_tokens.specs.Tokens.{within, among, table, marksOf}
+use Rattle.read_tokens.specs.Tokens.{within, among, table, classMarks}
 
 -- n marks from lo on
 unfoldable pub paint : ℕ → ℕ → List Bool → List Bool
@@ -81,8 +81,8 @@ unfolding table
 table-length f i zero = refl
 table-length f i (suc n) = ap suc (table-length f (suc i) n)
 
-pub painted : (rs : List Range) → paintAll rs (replicate 256 false) ≡ marksOf false rs
-unfolding marksOf
+pub painted : (rs : List Range) → paintAll rs (replicate 256 false) ≡ classMarks false rs
+unfolding classMarks
 painted rs =
     ext-getD false _ _ (paints-length rs (replicate 256 false) ∙ length-replicate 256 false ∙ sym (table-length (λ b. among b rs) 0 256))
     (λ i h.
@@ -97,6 +97,6 @@ unfolding turnAll table
 turn-table f i zero = refl
 turn-table f i (suc n) = ap (λ (l : List Bool). not (f i) ∷ l) (turn-table f (suc i) n)
 
-pub painted-turned : (rs : List Range) → turnAll (paintAll rs (replicate 256 false)) ≡ marksOf true rs
-unfolding marksOf
+pub painted-turned : (rs : List Range) → turnAll (paintAll rs (replicate 256 false)) ≡ classMarks true rs
+unfolding classMarks
 painted-turned rs = ap turnAll (painted rs) ∙ turn-table (λ b. among b rs) 0 256

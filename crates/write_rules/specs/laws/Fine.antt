@@ -13,8 +13,8 @@ use Rattle.read_tokens.specs.declared.Mode.{Mode}
 use Rattle.read_tokens.specs.declared.Mode.the-variants.{Lake, Plain}
 use Rattle.read_tokens.specs.Token.{amp, bang, query, asterisk, cross, Tok, symbol, leaf, pre, suf, arrow, slash, opens, closes, bad, Token, Lexeme}
 use Rattle.read_tokens.specs.Bounds.{firstOctal}
-use Rattle.read_tokens.specs.Chars.{Char, got, octal, octals, letters, four, char, Range, Item, single, Body, shut, broken, also, byWidth, bodyBy, body}
-use Rattle.read_tokens.specs.Tokens.{skip, nameByte, nameSpan, lakeBy, angle, lowOf, literalBy, among, someTrue, turned, marksOf, marked, classBy, bracket, byKind, tokenFrom, tokenAt, byEnd, lexemesFrom, lexemes, toksOf, toks}
+use Rattle.read_tokens.specs.Chars.{Char, got, octal, octals, letters, four, char, Range, Item, single, Body, shut, broken, also, byWidth, shutBy, body}
+use Rattle.read_tokens.specs.Tokens.{skip, nameByte, nameSpan, lakeBy, angle, lowOf, literalBy, among, someTrue, turned, classMarks, classToken, classBy, bracket, byKind, tokenFrom, tokenAt, byEnd, lexemesFrom, lexemes, toksOf, toks}
 use Rattle.read_tokens.specs.laws.Bytes.{Bytes, bytes-drop}
 use Rattle.read_tokens.specs.laws.Tests.{by-test, by-cond}
 use Rattle.read_tokens.specs.laws.Forward.{span-letter}
@@ -81,7 +81,7 @@ width-low : (n : ℕ) (r : Range) (k : ℕ → Body) → r .lo < 256 → ((j : �
 width-low zero r k h b = tt
 width-low (suc n) r k h b = also-low r (k n) h (b n)
 
-turn-low : (x : Bool) (at : ℕ) (i : Item) (k : ℕ → Body) → i .span .lo < 256 → ((j : ℕ) → LowBody (k j)) → LowBody (bodyBy x at i k)
+turn-low : (x : Bool) (at : ℕ) (i : Item) (k : ℕ → Body) → i .span .lo < 256 → ((j : ℕ) → LowBody (k j)) → LowBody (shutBy x at i k)
 turn-low true at i k h b = tt
 turn-low false at i k h b = width-low (i .width) (i .span) k h b
 
@@ -118,15 +118,15 @@ literal-fine m i broken h = tt
 literal-fine m i (shut [] e) h = tt
 literal-fine m i (shut (r ∷ rs) e) h = h
 
-marked-fine : (m : Mode) (l : List Bool) (i e : ℕ) → length l ≡ 256 → (x : Bool) → someTrue l ≡ x → F m (marked x l i e)
+marked-fine : (m : Mode) (l : List Bool) (i e : ℕ) → length l ≡ 256 → (x : Bool) → someTrue l ≡ x → F m (classToken x l i e)
 marked-fine m l i e n true h = (n, h)
 marked-fine m l i e n false h = tt
 
 class-fine : (m : Mode) (c : Bool) (i : ℕ) (o : Body) → F m (classBy c i o)
-unfolding classBy marksOf
+unfolding classBy classMarks
 class-fine m c i broken = tt
 class-fine m c i (shut [] e) = tt
-class-fine m c i (shut (r ∷ rs) e) = marked-fine m (marksOf c (r ∷ rs)) i e (table-length (λ b. turned c (among b (r ∷ rs))) 0 256) (someTrue (marksOf c (r ∷ rs))) refl
+class-fine m c i (shut (r ∷ rs) e) = marked-fine m (classMarks c (r ∷ rs)) i e (table-length (λ b. turned c (among b (r ∷ rs))) 0 256) (someTrue (classMarks c (r ∷ rs))) refl
 
 bracket-fine : (m : Mode) (i : ℕ) (l : List ℕ) → F m (bracket m i l)
 unfolding bracket

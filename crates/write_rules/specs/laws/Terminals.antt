@@ -14,7 +14,7 @@ use Rattle.read_tokens.specs.declared.Mode.{Mode}
 use Rattle.read_tokens.specs.declared.Mode.the-variants.{Lake, Plain}
 use Rattle.read_tokens.specs.Token.{Symbol, name, lake, Leaf, any, literal, class, symbol, leaf, arrow}
 use Rattle.read_tokens.specs.Chars.{Range, single, listed, Body, shut, body}
-use Rattle.read_tokens.specs.Tokens.{tok, skip, nameByte, nameSpan, lakeBy, angle, literalBy, among, table, someTrue, marksOf, marked, classBy, bracket, byKind, tokenFrom, tokenAt}
+use Rattle.read_tokens.specs.Tokens.{tok, skip, nameByte, nameSpan, lakeBy, angle, literalBy, among, table, someTrue, classMarks, classToken, classBy, bracket, byKind, tokenFrom, tokenAt}
 use Rattle.read_tokens.specs.laws.Bytes.{Bytes}
 use Rattle.read_tokens.specs.laws.Forward.{letter-name}
 use Rattle.write_rules.specs.Writing.{litChars, runs, runsText, leafText, symbolText}
@@ -74,14 +74,14 @@ bracket-plain Lake i [] h = refl
 bracket-plain Plain i (b ∷ l) h = refl
 bracket-plain Lake i (b ∷ l) h = rw (bracket, h)
 
-class-marks : (l : List Bool) → length l ≡ 256 → marksOf false (runs none 0 l) ≡ l
-unfolding marksOf
+class-marks : (l : List Bool) → length l ≡ 256 → classMarks false (runs none 0 l) ≡ l
+unfolding classMarks
 class-marks l h = ap (λ (n : ℕ). table (λ b. among b (runs none 0 l)) 0 n) (sym h) ∙ runs-table none 0 l tt
 
-class-shut : (rs : List Range) (l : List Bool) (i e : ℕ) → marksOf false rs ≡ l → someTrue l ≡ true → classBy false i (shut rs e) ≡ tok (leaf (class l)) i e
-unfolding classBy marksOf table among someTrue
+class-shut : (rs : List Range) (l : List Bool) (i e : ℕ) → classMarks false rs ≡ l → someTrue l ≡ true → classBy false i (shut rs e) ≡ tok (leaf (class l)) i e
+unfolding classBy classMarks table among someTrue
 class-shut [] l i e h t = absurd (false≢true (ap someTrue h ∙ t))
-class-shut (r ∷ rs) l i e h t = ap (λ (x : List Bool). marked (someTrue x) x i e) h ∙ ap (λ (x : Bool). marked x l i e) t
+class-shut (r ∷ rs) l i e h t = ap (λ (x : List Bool). classToken (someTrue x) x i e) h ∙ ap (λ (x : Bool). classToken x l i e) t
 
 class-token : (m : Mode) (s : List ℕ) (at : ℕ) (l : List Bool) (rest : List ℕ) → length l ≡ 256 → someTrue l ≡ true → drop at s ≡ leafText (class l) ++ rest
     → tokenAt m s at ≡ tok (leaf (class l)) at (at + length (leafText (class l)))

@@ -5,13 +5,12 @@ use native.Mathlib.Omega.{arith}
 use borrow.Author.Tests.{not-true, not-false}
 use Rattle.read_tokens.specs.laws.Here.{here}
 use Rattle.read_walks.specs.laws.Offences.{inside}
-use Rattle.read_names.specs.laws.Marks.{met-other, met-lost, met-use, met-reserved, met-out, met-enter, or-false, or-left}
+use Rattle.read_names.specs.laws.Marks.{met-other, met-lost, met-use, met-reserved, met-out, met-enter}
 use borrow.Author.Needs.{needs}
 use Rattle.read_names.proofs.lefts.meet.Statement.{statement}
 use Rattle.read_names.proofs.lefts.meet.Tie as tie
 use Rattle.read_names.proofs.lefts.meet.Reads as reads
 use Rattle.read_names.proofs.lefts.meet.Lts as lts
-use Rattle.read_names.proofs.lefts.either.Reads as either-reads
 use Rattle.read_names.proofs.lefts.enter.Reads as enter-reads
 use Rattle.read_order.proofs.in_range.Reads as in-range-reads
 use Rattle.read_order.proofs.pack.Reads as pack-reads
@@ -32,64 +31,65 @@ name-start-requires c κs = omega (
   c .before .before .pre .2,
 )
 
-reserved-name-requires : tie.Need-reserved-name-requires
-reserved-name-requires c κs = omega (
-  arith,
-  inside (c .before .before .before .args .mode) (c .before .before .before .args .text .now) (c .before .before .before .args .at)
-      (c .before .before .before .args .t) (c .before .before .before .pre .0) (c .before .before .before .pre .1) (omega (arith, c .before .if1 .left)),
-  c .name-start .ensures,
+pack-requires : tie.Need-pack-requires
+pack-requires c κs = (
+  omega (arith, c .before .before .before .pre .1),
+  omega (arith, c .before .if1 .left),
+  omega (
+    arith,
+    inside (c .before .before .before .args .mode) (c .before .before .before .args .text .now) (c .before .before .before .args .at) (c .before .before .before .args .t)
+        (c .before .before .before .pre .0) (c .before .before .before .pre .1) (omega (arith, c .before .if1 .left)),
+    c .name-start .ensures,
+  ),
 )
 
-is-left-requires : tie.Need-is-left-requires
-is-left-requires c κs = search needs
-
-either-requires : tie.Need-either-requires
-either-requires c κs = search needs
-
 returns-2 : tie.Need-returns-2
-returns-2 c = let n = or-false _ _ (sym (c .before .either .ensures) ∙ not-true _ (c .if2 .taken)) in met-use
-    (c .before .before .before .before .before .before .before .args .mode) (c .before .before .before .before .before .before .before .args .text .now)
+returns-2 c = met-lost (c .before .before .before .before .before .args .mode) (c .before .before .before .before .before .args .text .now)
+    (c .before .before .before .before .before .args .at) (c .before .before .before .before .before .args .t) (c .before .before .before .before .before .pre .0)
+    (c .before .before .before .before .before .pre .1) (c .before .before .before .before .before .args .a .now) (c .before .before .before .before .before .args .c .low)
+    (c .before .before .before .before .before .args .c .high) (c .before .before .before .before .before .args .c .count) (c .before .before .before .before .before .args .marks .now) _
+
+in-range-requires : tie.Need-in-range-requires
+in-range-requires c κs = (c .before .before .before .before .before .pre .3 .from, c .before .before .before .before .before .pre .3 .bound, (c .before .pack .ensures (c .if2 .left)) .fits)
+
+returns-3 : tie.Need-returns-3
+returns-3 c = met-out (c .before .before .before .before .before .before .before .args .mode) (c .before .before .before .before .before .before .before .args .text .now)
     (c .before .before .before .before .before .before .before .args .at) (c .before .before .before .before .before .before .before .args .t)
     (c .before .before .before .before .before .before .before .pre .0) (c .before .before .before .before .before .before .before .pre .1)
     (c .before .before .before .before .before .before .before .args .a .now) (c .before .before .before .before .before .before .before .args .c .low)
     (c .before .before .before .before .before .before .before .args .c .high) (c .before .before .before .before .before .before .before .args .c .count)
     (c .before .before .before .before .before .before .before .args .marks .now) (omega (arith, c .before .before .before .before .before .if1 .left))
-    (c .before .before .before .before .name-start .result) (c .before .before .before .before .name-start .ensures) (c .before .before .is-left .result)
-    (c .before .before .before .reserved-name .result) (c .before .before .is-left .ensures) (c .before .before .before .reserved-name .ensures) (n .0) (n .1)
+    (c .before .before .before .before .name-start .result) (c .before .before .before .before .name-start .ensures) _ _ refl refl (c .before .before .before .pack .result)
+    (c .before .before .before .pack .ensures (c .before .before .if2 .left)) (sym (not-true _ (c .if3 .taken)) ∙ c .before .in-range .ensures)
 
-pack-requires : tie.Need-pack-requires
-pack-requires c κs = (
-  omega (arith, c .before .before .before .before .before .before .before .pre .1),
-  (omega (arith, c .before .before .before .before .before .if1 .left)),
-  omega (
-    arith,
-    inside (c .before .before .before .before .before .before .before .args .mode) (c .before .before .before .before .before .before .before .args .text .now)
-        (c .before .before .before .before .before .before .before .args .at) (c .before .before .before .before .before .before .before .args .t)
-        (c .before .before .before .before .before .before .before .pre .0) (c .before .before .before .before .before .before .before .pre .1)
-        (omega (arith, c .before .before .before .before .before .if1 .left)),
-    c .before .before .before .before .name-start .ensures,
-  ),
+reserved-name-requires : tie.Need-reserved-name-requires
+reserved-name-requires c κs = omega (
+  arith,
+  inside (c .before .before .before .before .before .before .before .args .mode)
+      (c .before .before .before .before .before .before .before .args .text .now) (c .before .before .before .before .before .before .before .args .at)
+      (c .before .before .before .before .before .before .before .args .t) (c .before .before .before .before .before .before .before .pre .0)
+      (c .before .before .before .before .before .before .before .pre .1) (omega (arith, c .before .before .before .before .before .if1 .left)),
+  c .before .before .before .before .name-start .ensures,
 )
 
-returns-3 : tie.Need-returns-3
-returns-3 c = met-lost (c .before .before .before .before .before .before .before .before .before .args .mode)
+returns-4 : tie.Need-returns-4
+returns-4 c = met-reserved (c .before .before .before .before .before .before .before .before .before .args .mode)
     (c .before .before .before .before .before .before .before .before .before .args .text .now)
     (c .before .before .before .before .before .before .before .before .before .args .at) (c .before .before .before .before .before .before .before .before .before .args .t)
     (c .before .before .before .before .before .before .before .before .before .pre .0) (c .before .before .before .before .before .before .before .before .before .pre .1)
     (c .before .before .before .before .before .before .before .before .before .args .a .now)
     (c .before .before .before .before .before .before .before .before .before .args .c .low)
     (c .before .before .before .before .before .before .before .before .before .args .c .high)
-    (c .before .before .before .before .before .before .before .before .before .args .c .count) (c .before .before .before .before .before .before .before .before .before .args .marks .now) _
+    (c .before .before .before .before .before .before .before .before .before .args .c .count)
+    (c .before .before .before .before .before .before .before .before .before .args .marks .now)
+    (omega (arith, c .before .before .before .before .before .before .before .if1 .left)) (c .before .before .before .before .before .before .name-start .result)
+    (c .before .before .before .before .before .before .name-start .ensures) _ (c .before .reserved-name .result) refl (c .before .reserved-name .ensures) _ (c .if4 .taken)
 
-in-range-requires : tie.Need-in-range-requires
-in-range-requires c κs = (
-  c .before .before .before .before .before .before .before .before .before .pre .3 .from,
-  c .before .before .before .before .before .before .before .before .before .pre .3 .bound,
-  (c .before .pack .ensures (c .if3 .left)) .fits,
-)
+is-left-requires : tie.Need-is-left-requires
+is-left-requires c κs = search needs
 
-returns-4 : tie.Need-returns-4
-returns-4 c = met-out (c .before .before .before .before .before .before .before .before .before .before .before .args .mode)
+returns-5 : tie.Need-returns-5
+returns-5 c = met-use (c .before .before .before .before .before .before .before .before .before .before .before .args .mode)
     (c .before .before .before .before .before .before .before .before .before .before .before .args .text .now)
     (c .before .before .before .before .before .before .before .before .before .before .before .args .at)
     (c .before .before .before .before .before .before .before .before .before .before .before .args .t)
@@ -102,59 +102,37 @@ returns-4 c = met-out (c .before .before .before .before .before .before .before
     (c .before .before .before .before .before .before .before .before .before .before .before .args .marks .now)
     (omega (arith, c .before .before .before .before .before .before .before .before .before .if1 .left))
     (c .before .before .before .before .before .before .before .before .name-start .result) (c .before .before .before .before .before .before .before .before .name-start .ensures)
-    (c .before .before .before .before .before .before .is-left .result) (c .before .before .before .before .before .before .before .reserved-name .result)
-    (c .before .before .before .before .before .before .is-left .ensures) (c .before .before .before .before .before .before .before .reserved-name .ensures)
-    (c .before .before .before .pack .result) (c .before .before .before .pack .ensures (c .before .before .if3 .left)) (sym (not-true _ (c .if4 .taken)) ∙ c .before .in-range .ensures)
-
-returns-5 : tie.Need-returns-5
-returns-5 c = met-reserved (c .before .before .before .before .before .before .before .before .before .before .before .before .args .mode)
-    (c .before .before .before .before .before .before .before .before .before .before .before .before .args .text .now)
-    (c .before .before .before .before .before .before .before .before .before .before .before .before .args .at)
-    (c .before .before .before .before .before .before .before .before .before .before .before .before .args .t)
-    (c .before .before .before .before .before .before .before .before .before .before .before .before .pre .0)
-    (c .before .before .before .before .before .before .before .before .before .before .before .before .pre .1)
-    (c .before .before .before .before .before .before .before .before .before .before .before .before .args .a .now)
-    (c .before .before .before .before .before .before .before .before .before .before .before .before .args .c .low)
-    (c .before .before .before .before .before .before .before .before .before .before .before .before .args .c .high)
-    (c .before .before .before .before .before .before .before .before .before .before .before .before .args .c .count)
-    (c .before .before .before .before .before .before .before .before .before .before .before .before .args .marks .now)
-    (omega (arith, c .before .before .before .before .before .before .before .before .before .before .if1 .left))
-    (c .before .before .before .before .before .before .before .before .before .name-start .result)
-    (c .before .before .before .before .before .before .before .before .before .name-start .ensures) (c .before .before .before .before .before .before .before .is-left .result)
-    (c .before .before .before .before .before .before .before .before .reserved-name .result) (c .before .before .before .before .before .before .before .is-left .ensures)
-    (c .before .before .before .before .before .before .before .before .reserved-name .ensures) _ (c .if5 .taken)
+    (c .before .is-left .result) (c .before .before .before .reserved-name .result) (c .before .is-left .ensures) (c .before .before .before .reserved-name .ensures)
+    (not-true _ (c .if5 .taken)) (c .before .before .if4 .left)
 
 enter-requires : tie.Need-enter-requires
 enter-requires c κs = (
-  c .before .before .before .before .before .before .before .before .before .before .before .before .before .pre .3 .fits,
-  (c .before .before .before .before .before .pack .ensures
-      (c .before .before .before .before .if3 .left)) .fits,
-  c .before .before .before .before .before .before .before .before .before .before .before .before .before .pre .3 .few,
+  c .before .before .before .before .before .before .before .before .before .before .before .before .pre .3 .fits,
+  (c .before .before .before .before .before .before .before .before .pack .ensures
+      (c .before .before .before .before .before .before .before .if2 .left)) .fits,
+  c .before .before .before .before .before .before .before .before .before .before .before .before .pre .3 .few,
 )
 
 returns-6 : tie.Need-returns-6
-returns-6 c = met-enter (c .before .before .before .before .before .before .before .before .before .before .before .before .before .before .args .mode)
-    (c .before .before .before .before .before .before .before .before .before .before .before .before .before .before .args .text .now)
-    (c .before .before .before .before .before .before .before .before .before .before .before .before .before .before .args .at)
-    (c .before .before .before .before .before .before .before .before .before .before .before .before .before .before .args .t)
-    (c .before .before .before .before .before .before .before .before .before .before .before .before .before .before .pre .0)
-    (c .before .before .before .before .before .before .before .before .before .before .before .before .before .before .pre .1)
-    (c .before .before .before .before .before .before .before .before .before .before .before .before .before .before .args .a .now)
-    (c .before .before .before .before .before .before .before .before .before .before .before .before .before .before .args .c .low)
-    (c .before .before .before .before .before .before .before .before .before .before .before .before .before .before .args .c .high)
-    (c .before .before .before .before .before .before .before .before .before .before .before .before .before .before .args .c .count)
-    (c .before .before .before .before .before .before .before .before .before .before .before .before .before .before .args .marks .now)
-    (omega (arith, c .before .before .before .before .before .before .before .before .before .before .before .before .if1 .left))
-    (c .before .before .before .before .before .before .before .before .before .before .before .name-start .result)
-    (c .before .before .before .before .before .before .before .before .before .before .before .name-start .ensures)
-    (c .before .before .before .before .before .before .before .before .before .is-left .result)
-    (c .before .before .before .before .before .before .before .before .before .before .reserved-name .result)
-    (c .before .before .before .before .before .before .before .before .before .is-left .ensures)
-    (c .before .before .before .before .before .before .before .before .before .before .reserved-name .ensures) (c .before .before .before .before .before .before .pack .result)
-    (c .before .before .before .before .before .before .pack .ensures (c .before .before .before .before .before .if3 .left)) (c .enter .result) _
-    (or-left _ _ (sym (c .before .before .before .before .before .before .before .before .either .ensures) ∙ not-false _
-    (c .before .before .before .before .before .before .before .if2 .left)) (c .before .before .if5 .left)) (c .before .before .if5 .left)
-    (sym (not-false _ (c .before .before .before .if4 .left)) ∙ c .before .before .before .before .in-range .ensures) (c .enter .ensures)
+returns-6 c = met-enter (c .before .before .before .before .before .before .before .before .before .before .before .before .before .args .mode)
+    (c .before .before .before .before .before .before .before .before .before .before .before .before .before .args .text .now)
+    (c .before .before .before .before .before .before .before .before .before .before .before .before .before .args .at)
+    (c .before .before .before .before .before .before .before .before .before .before .before .before .before .args .t)
+    (c .before .before .before .before .before .before .before .before .before .before .before .before .before .pre .0)
+    (c .before .before .before .before .before .before .before .before .before .before .before .before .before .pre .1)
+    (c .before .before .before .before .before .before .before .before .before .before .before .before .before .args .a .now)
+    (c .before .before .before .before .before .before .before .before .before .before .before .before .before .args .c .low)
+    (c .before .before .before .before .before .before .before .before .before .before .before .before .before .args .c .high)
+    (c .before .before .before .before .before .before .before .before .before .before .before .before .before .args .c .count)
+    (c .before .before .before .before .before .before .before .before .before .before .before .before .before .args .marks .now)
+    (omega (arith, c .before .before .before .before .before .before .before .before .before .before .before .if1 .left))
+    (c .before .before .before .before .before .before .before .before .before .before .name-start .result)
+    (c .before .before .before .before .before .before .before .before .before .before .name-start .ensures) (c .before .before .before .is-left .result)
+    (c .before .before .before .before .before .reserved-name .result) (c .before .before .before .is-left .ensures)
+    (c .before .before .before .before .before .reserved-name .ensures) (c .before .before .before .before .before .before .before .before .before .pack .result)
+    (c .before .before .before .before .before .before .before .before .before .pack .ensures (c .before .before .before .before .before .before .before .before .if2 .left))
+    (c .enter .result) _ (not-false _ (c .before .before .if5 .left)) (c .before .before .before .before .if4 .left)
+    (sym (not-false _ (c .before .before .before .before .before .before .if3 .left)) ∙ c .before .before .before .before .before .before .before .in-range .ensures) (c .enter .ensures)
 
 pub meet-spec : {M : Type 1} → statement M
 meet-spec =
@@ -162,14 +140,13 @@ meet-spec =
     (tie.spec
     returns
     name-start-requires
-    reserved-name-requires
-    is-left-requires
-    either-requires
-    returns-2
     pack-requires
-    returns-3
+    returns-2
     in-range-requires
+    returns-3
+    reserved-name-requires
     returns-4
+    is-left-requires
     returns-5
     enter-requires
     returns-6)

@@ -14,7 +14,7 @@ use Rattle.read_names.proofs.lefts.sweep.Reads as sweep-reads
 use Rattle.read_names.proofs.lefts.uses.Reads as uses-reads
 
 sweep-requires : tie.Need-sweep-requires
-sweep-requires c κs = (c .before .before .pre .0, c .before .before .pre .1, omega arith, knows-none (c .before .before .args .text .now) (c .before .before .args .a .now) _ _ _ 20480)
+sweep-requires c κs = (c .before .before .pre .0, c .before .before .pre .1, omega arith, knows-none (c .before .before .args .text .now) (c .before .before .args .a .now) _ _ _ 19456)
 
 returns : tie.Need-returns
 returns c = λ z. absurd (z refl)

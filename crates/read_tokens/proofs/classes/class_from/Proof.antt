@@ -3,7 +3,7 @@ use mathlib.Core.Bool.{Bool, true, false}
 use mathlib.Core.List.{List}
 use Prim.Native.Nat.{ℕ, suc, _+_, _-_, _≤_}
 use Rattle.read_tokens.specs.Chars.{listed}
-use Rattle.read_tokens.specs.Tokens.{marked, classBy}
+use Rattle.read_tokens.specs.Tokens.{classToken, classBy}
 use Rattle.read_tokens.specs.laws.Turning.{someFrom}
 use Rattle.read_tokens.specs.steps.Code.{classIs}
 use Rattle.read_tokens.specs.laws.Passing.{from}
@@ -47,7 +47,7 @@ settled-requires : tie.Need-settled-requires
 settled-requires c κs = search needs
 
 returns-3 : tie.Need-returns-3
-returns-3 c = c .settled .ensures ∙ ap (λ (l : List Bool). classIs (marked (someFrom 0 256 l) l 0 (c .before .before .before .before .before .set-items .result)))
+returns-3 c = c .settled .ensures ∙ ap (λ (l : List Bool). classIs (classToken (someFrom 0 256 l) l 0 (c .before .before .before .before .before .set-items .result)))
     (c .before .turn .ensures) ∙ turned-is _ _ (c .before .before .before .before .before .before .before .before .before .before .args .text .now)
     (c .before .before .before .before .before .before .before .before .before .before .args .at)
     (λ x. c .before .before .before .before .before .before .before .if1 .left (c .before .before .before .before .before .before .before .before .byte-at .ensures .0 ∙ x))
