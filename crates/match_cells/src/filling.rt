@@ -11,6 +11,8 @@ ghost use Rattle.match_eval.specs.steps.Memory.{Fresh, Knows, Roomy};
 ghost use Rattle.match_cells.specs.steps.Runs.{Open, fillBy, FilledBy, Fills};
 use base_words::put;
 use base_words::word;
+use grammar_table::Table;
+use match_eval::memory::Memory;
 
 // The word with symbol r too.
 fn with(w: u64, r: usize) -> u64
@@ -22,7 +24,7 @@ fn with(w: u64, r: usize) -> u64
 
 // Sets the cells of n symbols from i on to what is said of their bodies where byte b stands. The others keep what they have, which is never asked for; the
 // answer has them all.
-fn preset(t: &[u32], cells: &mut [u32], mem: &[u32], n: usize, b: usize, i: usize) -> u64
+fn preset(t: &Table, cells: &mut [u32], mem: &Memory, n: usize, b: usize, i: usize) -> u64
     requires { ⌜ (n ≤ 64) × (i < 4294967296) ⌝ }
     ensures { λ w. ⌜ (now (cells .exit) ≡ presetOf (now (t .entry)) (now (mem .entry)) b i n (now (cells .entry)))
         × Open (now (t .entry)) (now (mem .entry)) b 0 n w ⌝ }
@@ -43,7 +45,7 @@ fn preset(t: &[u32], cells: &mut [u32], mem: &[u32], n: usize, b: usize, i: usiz
 }
 
 // Fills the cell of symbol r at p.
-fn store(t: &[u32], s: &[u8], cells: &mut [u32], mem: &[u32], n: usize, r: usize, p: usize)
+fn store(t: &Table, s: &[u8], cells: &mut [u32], mem: &Memory, n: usize, r: usize, p: usize)
     requires { ⌜ ((n ≡ symbolCount (now t)) × (n ≤ 64) × (r < n) × (length (now s) ≤ 65535) × (p ≤ length (now s)))
         × Knows (now t) (now s) (now cells) n (now mem) (p + 1) p ⌝ }
     ensures { λ _. ⌜ (now (cells .exit)
@@ -57,7 +59,7 @@ fn store(t: &[u32], s: &[u8], cells: &mut [u32], mem: &[u32], n: usize, r: usize
 }
 
 // Fills the cells of all symbols at p: what is decided at once, the others in an order that puts first-called symbols first.
-fn place(t: &[u32], s: &[u8], cells: &mut [u32], mem: &[u32], order: &[u32], n: usize, p: usize)
+fn place(t: &Table, s: &[u8], cells: &mut [u32], mem: &Memory, order: &[u32], n: usize, p: usize)
     requires { ⌜ ((n ≡ symbolCount (now t)) × (n ≤ 64) × ((j : ℕ) → j < n → getD (now order) j 0 < n) × (length (now s) ≤ 65535)
         × (p ≤ length (now s)))
         × Knows (now t) (now s) (now cells) n (now mem) (p + 1) (p + 1) × Roomy (now mem) (now s) n (length (now cells)) ⌝ }
@@ -79,7 +81,7 @@ fn place(t: &[u32], s: &[u8], cells: &mut [u32], mem: &[u32], order: &[u32], n: 
 }
 
 // Fills the cells of the places below k, the last first (01: "for p from 0 to n"), and remembers the rounds of each key at each place.
-fn rows(t: &[u32], s: &[u8], cells: &mut [u32], mem: &mut [u32], order: &[u32], n: usize, k: usize)
+fn rows(t: &Table, s: &[u8], cells: &mut [u32], mem: &mut Memory, order: &[u32], n: usize, k: usize)
     requires { ⌜ ((n ≡ symbolCount (now t)) × (n ≤ 64) × ((j : ℕ) → j < n → getD (now order) j 0 < n) × (length (now s) ≤ 65535)
         × (k ≤ length (now s) + 1)) × Knows (now t) (now s) (now cells) n (now mem) k k × Roomy (now mem) (now s) n (length (now cells)) ⌝ }
     ensures { λ _. ⌜ (now (cells .exit)
@@ -91,12 +93,12 @@ fn rows(t: &[u32], s: &[u8], cells: &mut [u32], mem: &mut [u32], order: &[u32], 
     while 0 < i {
         i -= 1;
         place(t, s, cells, mem, order, n, i);
-        crate::memory::learn_all(t, s, cells, mem, n, i);
+        match_rounds::learn_all(t, s, cells, mem, n, i);
     }
 }
 
 // The same for every place, with a key for each repeated part, what bytes decide, and nothing remembered at first.
-fn rows_in(t: &[u32], s: &[u8], cells: &mut [u32], mem: &mut [u32], order: &[u32], n: usize)
+fn rows_in(t: &Table, s: &[u8], cells: &mut [u32], mem: &mut Memory, order: &[u32], n: usize)
     requires { ⌜ ((n ≡ symbolCount (now t)) × (n ≤ 64) × ((j : ℕ) → j < n → getD (now order) j 0 < n) × (length (now s) ≤ 65535))
         × Fresh (now t) (now mem) ⌝ }
     ensures { λ _. ⌜ FilledBy (now (t .entry)) (bodiesOf (now (t .entry))) (now (s .entry)) n (wordsFrom (now (order .entry)) 0 n) (now (cells .entry))
@@ -110,7 +112,7 @@ fn rows_in(t: &[u32], s: &[u8], cells: &mut [u32], mem: &mut [u32], order: &[u32
 
 // Fills the cells of a table on a text, for every symbol and every position from 0 to the text's length. The memory, lent with nothing but 0, says
 // afterwards what evaluation over these cells need not do again.
-pub fn fill(t: &[u32], s: &[u8], cells: &mut [u32], mem: &mut [u32])
+pub fn fill(t: &Table, s: &[u8], cells: &mut [u32], mem: &mut Memory)
     requires { ⌜ ((symbolCount (now t) ≤ 64) × (length (now s) ≤ 65535)) × Fresh (now t) (now mem) ⌝ }
     ensures { λ u. ⌜ Fills (now (t .entry)) (now (s .entry)) (now (cells .entry)) (now (cells .exit))
         × Knows (now (t .entry)) (now (s .entry)) (now (cells .exit)) (symbolCount (now (t .entry))) (now (mem .exit)) 0 0 ⌝ }

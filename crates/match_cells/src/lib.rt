@@ -1,4 +1,2 @@
-// The work cells of a plain grammar on a text, filled from the text's end (01, Meaning of a match): what is remembered of repeats (memory.rt) and the cells
-// themselves (filling.rt).
+// The work cells of a plain grammar on a text, filled from the text's end (01, Meaning of a match).
 pub mod filling;
-pub mod memory;

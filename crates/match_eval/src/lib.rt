@@ -8,7 +8,9 @@ ghost use Rattle.match_eval.specs.Eval.{leafAt, cellAt, ev};
 ghost use Rattle.match_eval.specs.steps.Memory.{roundsOf, Knows};
 ghost use Rattle.match_eval.specs.steps.Firsts.{byteAt};
 ghost use Rattle.grammar_table.specs.Trees.{treeOf};
+use grammar_table::Table;
 use grammar_table::records;
+use memory::Memory;
 
 pub mod memory;
 
@@ -111,10 +113,10 @@ pub fn cell_at(s: &[u8], cells: &[u32], n: usize, r: usize, p: usize) -> usize
 // What expression x - 1 takes at p, and `.` for 0: 0 for failure, else 1 + the bytes taken. Symbols are looked up, so that it goes down one body only;
 // rounds that are remembered are not asked again, and a part that the byte at its place decides is not evaluated.
 pub fn eval_with(
-    t: &[u32],
+    t: &Table,
     s: &[u8],
     cells: &[u32],
-    mem: &[u32],
+    mem: &Memory,
     n: usize,
     x: usize,
     p: usize,
@@ -186,19 +188,31 @@ pub fn eval_with(
     }
 }
 
-// The bytes that rounds of expression x - 1 take from p on: up to the first that fails or takes nothing, or to a place from which they are known.
-pub fn many(t: &[u32], s: &[u8], cells: &[u32], mem: &[u32], n: usize, x: usize, p: usize) -> usize
+// The bytes that rounds of expression x - 1 take from p on: up to the first that fails or takes nothing, or to a place from which they are known. What the byte
+// at a place decides is asked first: where it says that no round begins, nothing is remembered.
+pub fn many(t: &Table, s: &[u8], cells: &[u32], mem: &Memory, n: usize, x: usize, p: usize) -> usize
     requires { ⌜ ((n ≤ 64) × (x ≤ 4294967296) × (length (now s) ≤ 65535) × (p ≤ length (now s))) × Knows (now t) (now s) (now cells) n (now mem) 0 p ⌝ }
     ensures { λ r. ⌜ r ≡ roundsOf (now (t .entry)) (now (s .entry)) (now (cells .entry)) n x p ⌝ }
 {
     let mut k = s.len();
     let mut q = p;
     while 0 < k {
+        let b = byte_at(s, q);
+        let w = memory::said(mem, x, b);
+        if 0 < w {
+            if w < 3 {
+                return q - p;
+            }
+        }
         let c = memory::known(mem, x, q);
         if c < memory::UNKNOWN {
             return q - p + c;
         }
-        let a = round(t, s, cells, mem, n, x, q);
+        let a = if w == 0 {
+            eval_with(t, s, cells, mem, n, x, q)
+        } else {
+            w - 1
+        };
         if a <= 1 {
             return q - p;
         }
@@ -209,7 +223,15 @@ pub fn many(t: &[u32], s: &[u8], cells: &[u32], mem: &[u32], n: usize, x: usize,
 }
 
 // What expression x - 1 takes at p, not evaluated where the byte there decides it.
-pub fn round(t: &[u32], s: &[u8], cells: &[u32], mem: &[u32], n: usize, x: usize, p: usize) -> usize
+pub fn round(
+    t: &Table,
+    s: &[u8],
+    cells: &[u32],
+    mem: &Memory,
+    n: usize,
+    x: usize,
+    p: usize,
+) -> usize
     requires { ⌜ ((n ≤ 64) × (x ≤ 4294967296) × (length (now s) ≤ 65535) × (p ≤ length (now s))) × Knows (now t) (now s) (now cells) n (now mem) 0 p ⌝ }
     ensures { λ r. ⌜ r ≡ ev (now (s .entry)) (now (cells .entry)) n (treeOf (now (t .entry)) x) p ⌝ }
 {
@@ -219,13 +241,4 @@ pub fn round(t: &[u32], s: &[u8], cells: &[u32], mem: &[u32], n: usize, x: usize
         return w - 1;
     }
     eval_with(t, s, cells, mem, n, x, p)
-}
-
-// What an expression takes with nothing remembered.
-pub fn eval(t: &[u32], s: &[u8], cells: &[u32], n: usize, x: usize, p: usize) -> usize
-    requires { ⌜ (n ≤ 64) × (x ≤ 4294967296) × (length (now s) ≤ 65535) × (p ≤ length (now s)) ⌝ }
-    ensures { λ r. ⌜ r ≡ ev (now (s .entry)) (now (cells .entry)) n (treeOf (now (t .entry)) x) p ⌝ }
-{
-    let nothing: [u32; 1] = [0; 1];
-    eval_with(t, s, cells, &nothing, n, x, p)
 }

@@ -1,14 +1,16 @@
 // Rounds that are remembered: a repeat at a place ends with what was known at a later one, so that a run of single bytes takes time linear in the text
 // (01, Meaning of a match). Repeated parts with the same tree share what is remembered: each of them has a key, the same for all. The memory is one run of
 // words: how many places of each key it keeps, how many keys there are, the key of each part (0: none), a part of each key, which bytes have been seen, what
-// bytes decide, then entries.
+// bytes decide, then entries. An entry is about a run of places from which rounds end at one place. Each key has one entry for its newest run, so that a run
+// of single bytes needs no other, and some for places of their own, where a round of more than a byte may begin.
 ghost use Prim.Native.Nat.{_+_, _*_, _^_, _<_, _≤_};
 ghost use mathlib.Core.Path.{_≡_};
+ghost use mathlib.Core.Bool.{true};
 ghost use lib.Bits.{bitOr};
 ghost use lib.ListN.{getD, length, set};
 ghost use Rattle.base_words.specs.Set.{bit};
 ghost use Rattle.match_eval.specs.steps.Firsts.{saidOf};
-ghost use Rattle.match_eval.specs.steps.Memory.{Key, Told, Spoken};
+ghost use Rattle.match_eval.specs.steps.Memory.{Key, About, endOf, Told, Spoken};
 use base_words::word;
 
 pub const PLACES: usize = 0;
@@ -36,15 +38,19 @@ pub const BYTES: usize = 256;
 
 pub const ENTRIES_AT: usize = 18709;
 
-// What an entry is about, in one word, and the bytes that rounds take: key · 65,536 + place.
-pub const ENTRY_WORDS: usize = 2;
+// What an entry is about, key · 65,536 + the first place; the place past the last; where rounds from all of them end.
+pub const ENTRY_WORDS: usize = 3;
+
+pub const PAST: usize = 1;
+
+pub const ENDS: usize = 2;
 
 pub const TEXT: usize = 65536;
 
-// No key has more places than there are entries.
-pub const ENTRIES: usize = 4096;
+// Entries for places of their own: no key has more. Behind them the entry for the newest run of each key.
+pub const ENTRIES: usize = 2048;
 
-pub const WORDS: usize = 26901;
+pub const WORDS: usize = 27931;
 
 pub type Memory = [u32; WORDS];
 
@@ -118,7 +124,7 @@ pub fn say(mem: &mut [u32], x: usize, b: usize, v: usize)
 
 // The number of the entry for key k at place q: some places of each key, the nearest ones. Any answer would do, for an entry says what it is about.
 pub fn slot(mem: &[u32], k: usize, q: usize) -> usize
-    requires { ⌜ k ≤ 1025 ⌝ }
+    requires { ⌜ (0 < k) × (k ≤ 1025) ⌝ }
     ensures { λ r. ⌜ r < 4294967296 ⌝ }
 {
     let w = word(mem, PLACES);
@@ -128,11 +134,49 @@ pub fn slot(mem: &[u32], k: usize, q: usize) -> usize
     if ENTRIES < w {
         return 0;
     }
-    k * w + (q & (w - 1))
+    (k - 1) * w + (q & (w - 1))
+}
+
+// The bytes that rounds of key k take from q on if entry i is about them, else more than a text has.
+pub fn says(mem: &Memory, i: usize, k: usize, q: usize) -> usize
+    requires { ⌜ (i < 4294967296) × (k ≤ 1025) × (q ≤ 65535) ⌝ }
+    ensures { λ r. ⌜ (r < 65536 → About (now (mem .entry)) i k q × (endOf (now (mem .entry)) i ≡ q + r)) ⌝ }
+{
+    let j = ENTRIES_AT + ENTRY_WORDS * i;
+    let a = word(mem, j);
+    if k * TEXT + q < a {
+        return UNKNOWN;
+    }
+    if a < k * TEXT {
+        return UNKNOWN;
+    }
+    let past = word(mem, j + PAST);
+    if past <= q {
+        return UNKNOWN;
+    }
+    let e = word(mem, j + ENDS);
+    if e < q {
+        return UNKNOWN;
+    }
+    e - q
+}
+
+// Whether the run of entry i begins at q, and is of key k.
+pub fn begins(mem: &Memory, i: usize, k: usize, q: usize) -> bool
+    requires { ⌜ (i < 4294967296) × (k ≤ 1025) × (q ≤ 65535) ⌝ }
+    ensures { λ r. ⌜ (r ≡ true → About (now (mem .entry)) i k q) ⌝ }
+{
+    let j = ENTRIES_AT + ENTRY_WORDS * i;
+    let a = word(mem, j);
+    if a != k * TEXT + q {
+        return false;
+    }
+    let past = word(mem, j + PAST);
+    q < past
 }
 
 // The bytes that rounds of part x take from q on if an entry is about them, else more than a text has.
-pub fn known(mem: &[u32], x: usize, q: usize) -> usize
+pub fn known(mem: &Memory, x: usize, q: usize) -> usize
     requires { ⌜ q ≤ 65535 ⌝ }
     ensures { λ r. ⌜ (r < 65536 → Told (now (mem .entry)) x q r) ⌝ }
 {
@@ -140,11 +184,13 @@ pub fn known(mem: &[u32], x: usize, q: usize) -> usize
     if k == 0 {
         return UNKNOWN;
     }
-    let i = slot(mem, k, q);
-    let j = ENTRIES_AT + ENTRY_WORDS * i;
-    let a = word(mem, j);
-    if a != k * TEXT + q {
-        return UNKNOWN;
+    let c = says(mem, ENTRIES + k, k, q);
+    if c < UNKNOWN {
+        return c;
     }
-    word(mem, j + 1)
+    let i = slot(mem, k, q);
+    if begins(mem, i, k, q) {
+        return says(mem, i, k, q);
+    }
+    UNKNOWN
 }

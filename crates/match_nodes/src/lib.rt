@@ -14,6 +14,8 @@ ghost use Rattle.match_walks.specs.steps.Tasks.{enter as entering, after, liste
 ghost use Rattle.match_walks.specs.steps.Waits.{going, waiting, tasksOf, climb};
 ghost use Rattle.match_nodes.specs.steps.Passes.{out, note as noted, run, decode};
 ghost use Rattle.match_nodes.specs.steps.Turns.{Ready, said, Left, State, Turned};
+use grammar_table::Table;
+use match_eval::memory::Memory;
 use match_walks::DONE;
 use match_walks::ENTER;
 use match_walks::OVER;
@@ -153,10 +155,10 @@ fn leave(desk: &[u32], st: Stand) -> Stand
 
 // One turn: an expression is walked, or one that is done gives way to what comes behind it.
 fn turn(
-    t: &[u32],
+    t: &Table,
     s: &[u8],
     cells: &[u32],
-    mem: &[u32],
+    mem: &Memory,
     nodes: &mut [u32],
     desk: &mut [u32],
     tour: Tour,
@@ -214,10 +216,10 @@ fn turn(
 
 // The turns from a stand on: the count of all nodes or, above 2^62, the refusal.
 fn go_on(
-    t: &[u32],
+    t: &Table,
     s: &[u8],
     cells: &[u32],
-    mem: &[u32],
+    mem: &Memory,
     nodes: &mut [u32],
     desk: &mut [u32],
     tour: Tour,
@@ -265,10 +267,10 @@ fn go_on(
 
 // One pass, from the start symbol on. With flag 0 it only looks.
 fn pass(
-    t: &[u32],
+    t: &Table,
     s: &[u8],
     cells: &[u32],
-    mem: &[u32],
+    mem: &Memory,
     nodes: &mut [u32],
     g: Setting,
     desk: &mut [u32],
@@ -322,7 +324,7 @@ fn answer(room: usize, v: usize) -> Listed
 }
 
 // The nodes of the start symbol at 0 into the lent words, all or none. What filling the cells left in the memory is not evaluated again.
-pub fn list(t: &[u32], s: &[u8], cells: &[u32], mem: &[u32], n: usize, nodes: &mut [u32]) -> Listed
+pub fn list(t: &Table, s: &[u8], cells: &[u32], mem: &Memory, n: usize, nodes: &mut [u32]) -> Listed
     requires { ⌜ Ready (now t) (now s) (now cells) n × Knows (now t) (now s) (now cells) n (now mem) 0 0 ⌝ }
     ensures { λ r. ⌜ (said r ≡ listingOf (roomOf (now (nodes .entry))) 0 (listOf (bodiesOf (now (t .entry))) (now (s .entry)) (now (cells .entry))))
         × (now (nodes .exit)

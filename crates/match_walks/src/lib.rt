@@ -13,8 +13,10 @@ ghost use Rattle.match_desk.specs.steps.Desk.{Desk, Silent};
 ghost use Rattle.match_walks.specs.steps.Tasks.{takes};
 ghost use Rattle.match_walks.specs.steps.Picks.{Picked, Chosen};
 ghost use Rattle.match_walks.specs.steps.Walks.{Walkable, Walked, Risen};
+use grammar_table::Table;
 use match_desk::Seen;
 use match_desk::look;
+use match_eval::memory::Memory;
 
 // No alternative matches: above every expression's number.
 const FAILS: usize = 4096;
@@ -44,7 +46,7 @@ pub struct Next {
 }
 
 // x where it matches at p, 4,096 where it fails.
-fn whole(t: &[u32], s: &[u8], cells: &[u32], mem: &[u32], n: usize, x: usize, p: usize) -> usize
+fn whole(t: &Table, s: &[u8], cells: &[u32], mem: &Memory, n: usize, x: usize, p: usize) -> usize
     requires { ⌜ ((n ≤ 64) × (x < 2048) × (length (now s) ≤ 65535) × (p ≤ length (now s))) × Knows (now t) (now s) (now cells) n (now mem) 0 0 ⌝ }
     ensures { λ r. ⌜ Picked (now (t .entry)) (now (s .entry)) (now (cells .entry)) n x p r ⌝ }
 {
@@ -56,7 +58,7 @@ fn whole(t: &[u32], s: &[u8], cells: &[u32], mem: &[u32], n: usize, x: usize, p:
 }
 
 // Whether the byte at p decides that x fails there.
-fn barred(s: &[u8], mem: &[u32], x: usize, p: usize) -> bool
+fn barred(s: &[u8], mem: &Memory, x: usize, p: usize) -> bool
     ensures { λ r. ⌜ (r ≡ true → saidOf (now (mem .entry)) (byteAt (now (s .entry)) p) x ≡ 1) ⌝ }
 {
     let b = match_eval::byte_at(s, p);
@@ -66,7 +68,7 @@ fn barred(s: &[u8], mem: &[u32], x: usize, p: usize) -> bool
 
 // The first alternative of x that matches at p and is no choice itself: choices nest to the left, each alternative is evaluated once, and a choice of which the
 // byte at p rules out all is passed over.
-fn pick(t: &[u32], s: &[u8], cells: &[u32], mem: &[u32], n: usize, x: usize, p: usize) -> usize
+fn pick(t: &Table, s: &[u8], cells: &[u32], mem: &Memory, n: usize, x: usize, p: usize) -> usize
     requires { ⌜ ((n ≤ 64) × (x < 2048) × (length (now s) ≤ 65535) × (p ≤ length (now s))) × Knows (now t) (now s) (now cells) n (now mem) 0 0 ⌝ }
     ensures { λ r. ⌜ Picked (now (t .entry)) (now (s .entry)) (now (cells .entry)) n x p r ⌝ }
 {
@@ -91,7 +93,7 @@ fn pick(t: &[u32], s: &[u8], cells: &[u32], mem: &[u32], n: usize, x: usize, p: 
 }
 
 // Of a choice, one of whose parts matches.
-fn choose(t: &[u32], s: &[u8], cells: &[u32], mem: &[u32], n: usize, g: Seen, p: usize) -> usize
+fn choose(t: &Table, s: &[u8], cells: &[u32], mem: &Memory, n: usize, g: Seen, p: usize) -> usize
     requires { ⌜ ((n ≤ 64) × (g .y < 2048) × (g .z < 2048) × (length (now s) ≤ 65535) × (p ≤ length (now s)))
         × Knows (now t) (now s) (now cells) n (now mem) 0 0 ⌝ }
     ensures { λ r. ⌜ Chosen (now (t .entry)) (now (s .entry)) (now (cells .entry)) n (g .y) (g .z) p r ⌝ }
@@ -107,10 +109,10 @@ fn choose(t: &[u32], s: &[u8], cells: &[u32], mem: &[u32], n: usize, g: Seen, p:
 
 // What lists no node is passed over by what it takes.
 fn across(
-    t: &[u32],
+    t: &Table,
     s: &[u8],
     cells: &[u32],
-    mem: &[u32],
+    mem: &Memory,
     n: usize,
     desk: &[u32],
     st: Stand,
@@ -131,7 +133,7 @@ fn across(
 }
 
 // A guard takes nothing: it is passed over without evaluation.
-fn skip(t: &[u32], s: &[u8], cells: &[u32], mem: &[u32], n: usize, desk: &[u32], st: Stand) -> Next
+fn skip(t: &Table, s: &[u8], cells: &[u32], mem: &Memory, n: usize, desk: &[u32], st: Stand) -> Next
     requires { ⌜ Walkable (now t) (now s) (now cells) n (now desk) (st .x) (st .place) × Silent (treeOf (now t) (st .x))
         × Knows (now t) (now s) (now cells) n (now mem) 0 0 ⌝ }
     ensures { λ r.
@@ -156,10 +158,10 @@ fn skip(t: &[u32], s: &[u8], cells: &[u32], mem: &[u32], n: usize, desk: &[u32],
 
 // What walking the expression of a stand comes to: it matches there, so that nothing is evaluated but what is chosen by it.
 pub fn walk(
-    t: &[u32],
+    t: &Table,
     s: &[u8],
     cells: &[u32],
-    mem: &[u32],
+    mem: &Memory,
     n: usize,
     desk: &[u32],
     st: Stand,
@@ -240,7 +242,7 @@ pub fn walk(
 }
 
 // A round of a part of e is done: a further one, up to the first that fails or takes nothing.
-fn further(t: &[u32], s: &[u8], cells: &[u32], mem: &[u32], n: usize, st: Stand, e: usize) -> Next
+fn further(t: &Table, s: &[u8], cells: &[u32], mem: &Memory, n: usize, st: Stand, e: usize) -> Next
     requires { ⌜ ((n ≤ 64) × (st .x < 4294967296) × (length (now s) ≤ 65535) × (st .place ≤ length (now s)))
         × Knows (now t) (now s) (now cells) n (now mem) 0 0 ⌝ }
     ensures { λ r.
@@ -268,10 +270,10 @@ fn further(t: &[u32], s: &[u8], cells: &[u32], mem: &[u32], n: usize, st: Stand,
 
 // What comes behind an expression that is done: the right part of its sequence, a further round, or its parent is done; OVER says that its body is.
 pub fn rise(
-    t: &[u32],
+    t: &Table,
     s: &[u8],
     cells: &[u32],
-    mem: &[u32],
+    mem: &Memory,
     n: usize,
     desk: &[u32],
     st: Stand,

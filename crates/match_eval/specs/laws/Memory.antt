@@ -7,7 +7,7 @@ use native.Mathlib.Omega.{arith}
 use native.Mathlib.Nat.{suc-mul, mul-le-mul-right}
 use native.Mathlib.Decide.{ℕ-discrete}
 use Rattle.base_facts.specs.laws.Numbers.{lt-or-ge}
-use lib.ListN.{getD, length, set, length-set, replicate}
+use lib.ListN.{getD, length, set, length-set, replicate, List·getD-eq-default}
 use lib.Seq.{getD-set-same, getD-set-other, set-out}
 use Rattle.grammar.specs.Exp.{Exp}
 use Rattle.match_eval.specs.Eval.{ev, rep}
@@ -15,7 +15,7 @@ use Rattle.match_eval.specs.laws.Within.{ev-within, rep-within}
 use Rattle.grammar_table.specs.Table.{symbolWord}
 use Rattle.grammar_table.specs.Trees.{treeOf}
 use Rattle.match_eval.specs.steps.Firsts.{byteAt, saidAt, saidOf, wordOf, Heard, Sure}
-use Rattle.match_eval.specs.steps.Memory.{countAt, keysAt, seenAt, entriesAt, roundsOf, Key, Alike, Words, Ready, About, Told, Knows, Front, Same, Noted}
+use Rattle.match_eval.specs.steps.Memory.{countAt, keysAt, seenAt, entriesAt, roundsOf, Key, Alike, Words, Ready, Told, Knows}
 use Rattle.match_eval.specs.laws.EvalSteps.{rep-more}
 use Rattle.match_eval.specs.laws.Said.{said-same, said-blank}
 use Rattle.match_eval.specs.laws.Frame.{rounds-same, rep-enough}
@@ -41,7 +41,7 @@ words-same t mem new n f w b x v e = sure-wider t mem new n b _ v (wider-same me
 module _ (t s cs mem : List ℕ) (n : ℕ) where
   -- what is told is so
   pub told-right : (k h : ℕ) → Knows t s cs n mem k h → (x q c : ℕ) → q < 65536 → Told mem x q c → c ≡ roundsOf t s cs n x q
-  told-right k h w x q c l (j, i, a, b, d) = sym d ∙ w .right i x j q l a b
+  told-right k h w x q c l (j, i, a, b, d) = omega (arith, d, w .right i x j q l a b)
 
   -- what is said of a part by the byte at a place is what it takes there
   pub said-right : (k p : ℕ) → Knows t s cs n mem k p → (x b u : ℕ) → p ≤ length s → b ≡ byteAt s p → u ≡ saidOf mem b x → (u ≡ 0 → ⊥)
@@ -74,8 +74,8 @@ module _ (t s cs mem : List ℕ) (n : ℕ) where
   knows-ready k h m f = record {
     shared = f .shared;
     words = f .words;
-    from = λ i x j q l a b. absurd (omega (arith, f .blank (entriesAt + 2 * i) (omega arith), a .1, b));
-    right = λ i x j q l a b. absurd (omega (arith, f .blank (entriesAt + 2 * i) (omega arith), a .1, b));
+    from = λ i x j q l a b. absurd (omega (arith, f .blank (entriesAt + 3 * i + 1) (omega arith), b .2));
+    right = λ i x j q l a b. absurd (omega (arith, f .blank (entriesAt + 3 * i + 1) (omega arith), b .2));
     heard = λ q g e. absurd (omega arith);
   }
 
@@ -86,7 +86,8 @@ module _ (t s cs mem : List ℕ) (n : ℕ) where
     shared = w .shared;
     words = w .words;
     from = w .from;
-    right = λ i x j q b a d. w .right i x j q b a d ∙ rounds-same s cs ds n (treeOf t x) q (λ m l. sym (f m (omega (arith, l, mul-le-mul-right {m = k} {n = q} n (w .from i x j q b a d)))));
+    right = λ i x j q b a d. w .right i x j q b a d
+        ∙ ap (λ (z : ℕ). q + z) (rounds-same s cs ds n (treeOf t x) q (λ m l. sym (f m (omega (arith, l, mul-le-mul-right {m = k} {n = q} n (w .from i x j q b a d))))));
     heard = g;
   }
 
@@ -120,70 +121,6 @@ module _ (t s cs mem : List ℕ) (n : ℕ) where
           let b : (q ≡ p) × (i ≡ r) = cell-one p r q i l j a in
           ap (λ (y : ℕ). getD (set cs (p * n + r) v) y 0) a ∙ getD-set-same cs (p * n + r) v 0 d
           ∙ z u (ap (λ (y : ℕ). wordOf t mem (byteAt s y) r) (sym (b .0)) ∙ ap (λ (y : ℕ). wordOf t mem (byteAt s q) y) (sym (b .1)) ∙ e)
-
--- an entry is made
-module _ (t s cs old new : List ℕ) (n x k p c : ℕ) (small : p < 65536) (has : Key old x k) (h : ℕ) (w : Knows t s cs n old p h) (o : Noted k p c old new)
-    (e : c ≡ roundsOf t s cs n x p) where
-  key-back : (y j : ℕ) → Key new y j → Key old y j
-  key-back y j (l, z, a) = (l, z, sym (o .front (keysAt + y) (omega arith)) ∙ a)
-
-  first : (i y j q : ℕ) → q < 65536 → Key new y j → About new i j q → Same i old new ⊎ (About new i k p × (getD new (entriesAt + 2 * i + 1) 0 ≡ c)) → p ≤ q
-  first i y j q l h a (inl b) = w .from i y j q l (key-back y j h) (sym (b .0) ∙ a)
-  first i y j q l h a (inr b) = omega (arith, a, b .0, small, l)
-
-  second : (i y j q : ℕ) → q < 65536 → Key new y j → About new i j q → Same i old new ⊎ (About new i k p × (getD new (entriesAt + 2 * i + 1) 0 ≡ c))
-      → getD new (entriesAt + 2 * i + 1) 0 ≡ roundsOf t s cs n y q
-  second i y j q l h a (inl b) = b .1 ∙ w .right i y j q l (key-back y j h) (sym (b .0) ∙ a)
-  second i y j q l h a (inr b) =
-      let u : j ≡ k = omega (arith, a, b .0, small, l) in
-      let v : p ≡ q = omega (arith, a, b .0, small, l) in
-      let f : treeOf t x ≡ treeOf t y = w .shared .like x y k has (subst (λ (z : ℕ). Key old y z) u (key-back y j h)) in
-      b .1 ∙ e ∙ ap (λ (z : Exp ℕ). rep (length s) (λ (i : ℕ). ev s cs n z i) p) f ∙ ap (λ (z : ℕ). roundsOf t s cs n y z) v
-
-  same-said : (b y : ℕ) → saidOf new b y ≡ saidOf old b y
-  same-said = said-same old new (λ j l m. o .front j m)
-
-  pub knows-noted : Knows t s cs n new p h
-  knows-noted = record {
-    shared = record {
-      most = λ y j h. subst (λ (z : ℕ). j ≤ z) (sym (o .front countAt (omega arith))) (w .shared .most y j (key-back y j h));
-      like = λ y z j h g. w .shared .like y z j (key-back y j h) (key-back z j g);
-    };
-    words = words-same t old new n same-said (w .words);
-    heard = λ q g l. heard-back t new old s cs n q (wider-same new old (λ b y. sym (same-said b y))) (w .heard q g l);
-    from = λ i y j q l h a. first i y j q l h a (o .at i);
-    right = λ i y j q l h a. second i y j q l h a (o .at i);
-  }
-
--- nothing is made
-pub noted-none : (k p c : ℕ) (old : List ℕ) → Noted k p c old old
-noted-none k p c old = record { front = λ j l. refl; at = λ j. inl (refl, refl) }
-
-module _ (old : List ℕ) (i k p c : ℕ) (room : entriesAt + 2 * i + 1 < length old) where
-  abbrev one : List ℕ
-  one = set old (entriesAt + 2 * i) (k * 65536 + p)
-
-  abbrev two : List ℕ
-  two = set one (entriesAt + 2 * i + 1) c
-
-  other : (j : ℕ) → (j ≡ entriesAt + 2 * i → ⊥) → (j ≡ entriesAt + 2 * i + 1 → ⊥) → getD two j 0 ≡ getD old j 0
-  other j f g = getD-set-other one (entriesAt + 2 * i + 1) j c 0 g ∙ getD-set-other old (entriesAt + 2 * i) j (k * 65536 + p) 0 f
-
-  here : About two i k p × (getD two (entriesAt + 2 * i + 1) 0 ≡ c)
-  here = (
-    getD-set-other one (entriesAt + 2 * i + 1) (entriesAt + 2 * i) c 0 (λ e. omega (arith, e)) ∙ getD-set-same old (entriesAt + 2 * i) (k * 65536 + p) 0 (omega (arith, room)),
-    getD-set-same one (entriesAt + 2 * i + 1) c 0 (omega (arith, room, length-set old (entriesAt + 2 * i) (k * 65536 + p))),
-  )
-
-  pub noted : Noted k p c old (set (set old (entriesAt + 2 * i) (k * 65536 + p)) (entriesAt + 2 * i + 1) c)
-  noted = record { front = λ j l. other j (λ e. omega (arith, e, l)) (λ e. omega (arith, e, l)); at = λ j. go j (ℕ-discrete j i) }
-    where
-      go : (j : ℕ) → Dec (j ≡ i) → Same j old two ⊎ (About two j k p × (getD two (entriesAt + 2 * j + 1) 0 ≡ c))
-      go j (yes e) = subst (λ (z : ℕ). Same z old two ⊎ (About two z k p × (getD two (entriesAt + 2 * z + 1) 0 ≡ c))) (sym e) (inr here)
-      go j (no f) = inl (
-        other (entriesAt + 2 * j) (λ e. f (omega (arith, e))) (λ e. omega (arith, e)),
-        other (entriesAt + 2 * j + 1) (λ e. omega (arith, e)) (λ e. f (omega (arith, e))),
-      )
 
 pub rounds-within : (t s cs : List ℕ) (n x q : ℕ) → q ≤ length s → roundsOf t s cs n x q + q ≤ length s
 rounds-within t s cs n x q h = rep-within (length s) (length s) (λ (i : ℕ). ev s cs n (treeOf t x) i) (λ i g. ev-within s cs n (treeOf t x) i g) q h

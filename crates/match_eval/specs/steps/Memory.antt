@@ -1,7 +1,7 @@
 -- Rounds that are remembered, so that a repeat at a place ends with what was known at a later one (01, Meaning of a match: "A repeat ends at the first failing
 -- round or the first round that takes nothing"). Repeated parts with one key have the same tree and share what is remembered. The memory is one run of words:
 -- how many places of each key it keeps, how many keys there are, the key of each part, a part of each key, which bytes have been seen, what bytes decide
--- (Firsts), then two words an entry: what it is about (key · 65,536 + place), and the bytes that rounds take from there.
+-- (Firsts), then three words an entry: what it is about (key · 65,536 + the first place), the place past the last, and where rounds from each of them end.
 -- Assumes nothing: these are definitions.
 use Prim.Native.Nat.{ℕ, suc, _+_, _*_, _≤_, _<_}
 use mathlib.Core.Path.{_≡_}
@@ -67,21 +67,31 @@ pub record Spoken (b x v : ℕ) (old new : List ℕ) : Type 0 where
   pub aside : (j : ℕ) → (j < saidAt) ⊎ (entriesAt ≤ j) → getD new j 0 ≡ getD old j 0
   pub long : length new ≡ length old
 
+-- the three words of entry i
+abbrev pub firstOf : List ℕ → ℕ → ℕ
+firstOf mem i = getD mem (entriesAt + 3 * i) 0
+
+abbrev pub pastOf : List ℕ → ℕ → ℕ
+pastOf mem i = getD mem (entriesAt + 3 * i + 1) 0
+
+abbrev pub endOf : List ℕ → ℕ → ℕ
+endOf mem i = getD mem (entriesAt + 3 * i + 2) 0
+
 -- entry i is about rounds from q on of parts with key k
 abbrev pub About : List ℕ → ℕ → ℕ → ℕ → Type 0
-About mem i k q = getD mem (entriesAt + 2 * i) 0 ≡ k * 65536 + q
+About mem i k q = (k * 65536 ≤ firstOf mem i) × (firstOf mem i ≤ k * 65536 + q) × (q < pastOf mem i)
 
 -- some entry says that rounds of part x from q on take c bytes
 abbrev pub Told : List ℕ → ℕ → ℕ → ℕ → Type 0
-Told mem x q c = (k : ℕ) × (i : ℕ) × Key mem x k × About mem i k q × (getD mem (entriesAt + 2 * i + 1) 0 ≡ c)
+Told mem x q c = (k : ℕ) × (i : ℕ) × Key mem x k × About mem i k q × (endOf mem i ≡ q + c)
 
--- the keys are right and what is said; every entry is about a place from k on, and is what the rounds of each part with its key take by the cells; from h
+-- the keys are right and what is said; every entry is about places from k on, and says where the rounds of each part with its key end by the cells; from h
 -- on the cells are what is said
 pub record Knows (t s cs : List ℕ) (n : ℕ) (mem : List ℕ) (k h : ℕ) : Type 0 where
   pub shared : Alike t mem
   pub words : Words t n mem
   pub from : (i x j q : ℕ) → q < 65536 → Key mem x j → About mem i j q → k ≤ q
-  pub right : (i x j q : ℕ) → q < 65536 → Key mem x j → About mem i j q → getD mem (entriesAt + 2 * i + 1) 0 ≡ roundsOf t s cs n x q
+  pub right : (i x j q : ℕ) → q < 65536 → Key mem x j → About mem i j q → endOf mem i ≡ q + roundsOf t s cs n x q
   pub heard : (q : ℕ) → h ≤ q → q ≤ length s → Heard t mem s cs n q
 
 -- there are cells for every place, or nothing is said: then cells can be set to what is said
@@ -91,12 +101,3 @@ Roomy mem s n have = ((length s + 1) * n ≤ have) ⊎ Silent mem
 -- what stands before the entries is as it was
 abbrev pub Front : List ℕ → List ℕ → Type 0
 Front old new = (j : ℕ) → j < entriesAt → getD new j 0 ≡ getD old j 0
-
--- entry j is as it was
-abbrev pub Same : ℕ → List ℕ → List ℕ → Type 0
-Same j old new = (getD new (entriesAt + 2 * j) 0 ≡ getD old (entriesAt + 2 * j) 0) × (getD new (entriesAt + 2 * j + 1) 0 ≡ getD old (entriesAt + 2 * j + 1) 0)
-
--- what stands before the entries is as it was, and every entry too, or it says that rounds of parts with key k take c bytes from p on
-pub record Noted (k p c : ℕ) (old new : List ℕ) : Type 0 where
-  pub front : Front old new
-  pub at : (j : ℕ) → Same j old new ⊎ (About new j k p × (getD new (entriesAt + 2 * j + 1) 0 ≡ c))

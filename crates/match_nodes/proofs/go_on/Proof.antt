@@ -25,15 +25,15 @@ abbrev μ-loop : tie.MeasureT-loop
 μ-loop t s cells mem nodes₀ desk₀ g at₀ mode₀ d₀ x₀ p₀ nodes desk at mode d x p = turns t s cells (g .n) desk mode d x p
 
 loop-holds : tie.Need-loop-holds Inv-loop μ-loop
-loop-holds c = (c .before .before .before .before .before .before .before .before .pre .1, refl, refl, c .before .before .before .before .before .before .before .before .pre .2, refl)
+loop-holds c = (c .before .before .before .before .before .before .pre .1, refl, refl, c .before .before .before .before .before .before .pre .2, refl)
 
 turn-requires : tie.Need-turn-requires Inv-loop μ-loop
 turn-requires c κs = (
-  c .before .before .before .before .before .before .before .before .before .before .before .before .pre .0,
+  c .before .before .before .before .before .before .before .before .before .before .pre .0,
   c .before .before .before .loop .inv .0,
   c .before .before .loop-test .taken,
   c .before .before .before .loop .inv .3,
-  c .before .before .before .before .before .before .before .before .before .before .before .before .pre .3,
+  c .before .before .before .before .before .before .before .before .before .before .pre .3,
 )
 
 same-length : tie.Need-same-length Inv-loop μ-loop
@@ -43,7 +43,7 @@ same-length-2 : tie.Need-same-length-2 Inv-loop μ-loop
 same-length-2 c = c .before .before .before .before .before .turn .kept .1 .1 .1 .1 .1 .0 ∙ c .before .before .before .before .before .before .before .before .before .loop .inv .2
 
 returns : tie.Need-returns Inv-loop μ-loop
-returns c = (run-stopped _ (c .before .before .before .before .before .before .before .before .before .before .before .before .before .before .before .before .before .before .args .tour .setting .write) _ _ _ (c .if1 .taken) ∙ c .before .before .before .before .before .turn .ensures .same ∙ c .before .before .before .before .before .before .before .before .before .loop .inv .4, c .before .before .before .before .before .turn .ensures .desk)
+returns c = (run-stopped _ (c .before .before .before .before .before .before .before .before .before .before .before .before .before .before .before .before .args .tour .setting .write) _ _ _ (c .if1 .taken) ∙ c .before .before .before .before .before .turn .ensures .same ∙ c .before .before .before .before .before .before .before .before .before .loop .inv .4, c .before .before .before .before .before .turn .ensures .desk)
 
 loop-less : tie.Need-loop-less Inv-loop μ-loop
 unfolding turns
@@ -69,11 +69,11 @@ same-length-4 c = c .before .loop .inv .2
 
 returns-2 : tie.Need-returns-2 Inv-loop μ-loop
 returns-2 c = (
-  sym (end-list (c .before .before .before .before .before .before .before .before .before .before .args .t .now)
-      (c .before .before .before .before .before .before .before .before .before .before .args .s .now)
-      (c .before .before .before .before .before .before .before .before .before .before .args .cells .now)
-      (c .before .before .before .before .before .before .before .before .before .before .args .tour .setting .n) _
-      (c .before .before .before .before .before .before .before .before .before .before .args .tour .setting .write) (c .before .loop .mode) (c .before .loop .d)
+  sym (end-list (c .before .before .before .before .before .before .before .before .args .t .now)
+      (c .before .before .before .before .before .before .before .before .args .s .now)
+      (c .before .before .before .before .before .before .before .before .args .cells .now)
+      (c .before .before .before .before .before .before .before .before .args .tour .setting .n) _
+      (c .before .before .before .before .before .before .before .before .args .tour .setting .write) (c .before .loop .mode) (c .before .loop .d)
       (c .before .loop .x) (c .before .loop .p) (out (c .before .loop .nodes) (c .before .loop .at)) (c .before .loop .desk)
       (omega (arith, c .loop-test .left))) ∙ c .before .loop .inv .4,
   c .before .loop .inv .3 .desk,

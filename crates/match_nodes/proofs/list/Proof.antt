@@ -25,10 +25,10 @@ slice-aggregate-learn-all c = search needs
 
 learn-all-requires : tie.Need-learn-all-requires
 learn-all-requires c κs = (
-  c .before .before .before .before .before .before .pre .0 .fits,
-  c .before .before .before .before .before .before .pre .0 .forest,
+  c .before .before .before .before .before .pre .0 .fits,
+  c .before .before .before .before .before .pre .0 .forest,
   desk-empty
-      (c .before .before .before .before .before .before .args .t .now),
+      (c .before .before .before .before .before .args .t .now),
 )
 
 slice-aggregate-pass : tie.Need-slice-aggregate-pass
@@ -36,9 +36,9 @@ slice-aggregate-pass c = search needs
 
 pass-requires : tie.Need-pass-requires
 pass-requires c κs = (
-  c .before .before .before .before .before .before .before .before .before .before .pre .0,
+  c .before .before .before .before .before .before .before .before .before .pre .0,
   c .before .before .before .learn-all .ensures,
-  c .before .before .before .before .before .before .before .before .before .before .pre .1,
+  c .before .before .before .before .before .before .before .before .before .pre .1,
 )
 
 answer-requires : tie.Need-answer-requires
@@ -49,16 +49,16 @@ same-length c = search needs
 
 returns : tie.Need-returns
 unfolding roomOf nodeWords
-returns c = let a = pass-refused (roomOf (c .before .before .before .before .before .before .before .before .before .before .before .before .before .before .before .before .args .nodes .now)) (c .before .before .before .before .before .before .before .before .before .before .before .before .before .before .before .before .args .nodes .now) _ (c .before .before .before .before .before .pass .result) (listOf (bodiesOf (c .before .before .before .before .before .before .before .before .before .before .before .before .before .before .before .before .args .t .now)) (c .before .before .before .before .before .before .before .before .before .before .before .before .before .before .before .before .args .s .now) (c .before .before .before .before .before .before .before .before .before .before .before .before .before .before .before .before .args .cells .now)) (omega (arith, small (c .before .before .before .before .before .before .before .before .before .before .before .before .before .before .before .before))) (c .before .before .before .before .before .pass .ensures .0) (c .before .if1 .taken) in (c .answer .ensures ∙ a .0, a .1)
+returns c = let a = pass-refused (roomOf (c .before .before .before .before .before .before .before .before .before .before .before .before .before .before .before .args .nodes .now)) (c .before .before .before .before .before .before .before .before .before .before .before .before .before .before .before .args .nodes .now) _ (c .before .before .before .before .before .pass .result) (listOf (bodiesOf (c .before .before .before .before .before .before .before .before .before .before .before .before .before .before .before .args .t .now)) (c .before .before .before .before .before .before .before .before .before .before .before .before .before .before .before .args .s .now) (c .before .before .before .before .before .before .before .before .before .before .before .before .before .before .before .args .cells .now)) (omega (arith, small (c .before .before .before .before .before .before .before .before .before .before .before .before .before .before .before))) (c .before .before .before .before .before .pass .ensures .0) (c .before .if1 .taken) in (c .answer .ensures ∙ a .0, a .1)
 
 slice-aggregate-pass-2 : tie.Need-slice-aggregate-pass-2
 slice-aggregate-pass-2 c = search needs
 
 pass-requires-2 : tie.Need-pass-requires-2
 pass-requires-2 c κs = (
-  c .before .before .before .before .before .before .before .before .before .before .before .before .before .before .before .before .before .pre .0,
+  c .before .before .before .before .before .before .before .before .before .before .before .before .before .before .before .before .pre .0,
   c .before .before .before .before .before .before .pass .ensures .1,
-  c .before .before .before .before .before .before .before .before .before .before .before .before .before .before .before .before .before .pre .1,
+  c .before .before .before .before .before .before .before .before .before .before .before .before .before .before .before .before .pre .1,
 )
 
 answer-requires-2 : tie.Need-answer-requires-2
@@ -69,7 +69,7 @@ same-length-2 c = search needs
 
 returns-2 : tie.Need-returns-2
 unfolding roomOf nodeWords
-returns-2 c = let a = pass-written (roomOf (c .before .before .before .before .before .before .before .before .before .before .before .before .before .before .before .before .before .before .before .before .before .before .args .nodes .now)) (c .before .before .before .before .before .before .before .before .before .before .before .before .before .before .before .before .before .before .before .before .before .before .args .nodes .now) _ (c .before .before .before .before .before .before .before .before .before .before .before .pass .result) (listOf (bodiesOf (c .before .before .before .before .before .before .before .before .before .before .before .before .before .before .before .before .before .before .before .before .before .before .args .t .now)) (c .before .before .before .before .before .before .before .before .before .before .before .before .before .before .before .before .before .before .before .before .before .before .args .s .now) (c .before .before .before .before .before .before .before .before .before .before .before .before .before .before .before .before .before .before .before .before .before .before .args .cells .now)) (omega (arith, small (c .before .before .before .before .before .before .before .before .before .before .before .before .before .before .before .before .before .before .before .before .before .before))) (c .before .before .before .before .before .before .before .before .before .before .before .pass .ensures .0) _ (c .before .before .before .before .pass2 .result) (omega (arith, c .before .before .before .before .before .before .before .if1 .left)) (c .before .before .before .before .pass2 .ensures .0) in (c .answer2 .ensures ∙ a .0, a .1)
+returns-2 c = let a = pass-written (roomOf (c .before .before .before .before .before .before .before .before .before .before .before .before .before .before .before .before .before .before .before .before .before .args .nodes .now)) (c .before .before .before .before .before .before .before .before .before .before .before .before .before .before .before .before .before .before .before .before .before .args .nodes .now) _ (c .before .before .before .before .before .before .before .before .before .before .before .pass .result) (listOf (bodiesOf (c .before .before .before .before .before .before .before .before .before .before .before .before .before .before .before .before .before .before .before .before .before .args .t .now)) (c .before .before .before .before .before .before .before .before .before .before .before .before .before .before .before .before .before .before .before .before .before .args .s .now) (c .before .before .before .before .before .before .before .before .before .before .before .before .before .before .before .before .before .before .before .before .before .args .cells .now)) (omega (arith, small (c .before .before .before .before .before .before .before .before .before .before .before .before .before .before .before .before .before .before .before .before .before))) (c .before .before .before .before .before .before .before .before .before .before .before .pass .ensures .0) _ (c .before .before .before .before .pass2 .result) (omega (arith, c .before .before .before .before .before .before .before .if1 .left)) (c .before .before .before .before .pass2 .ensures .0) in (c .answer2 .ensures ∙ a .0, a .1)
 
 pub list-spec : {M : Type 1} → statement M
 list-spec =

@@ -15,13 +15,13 @@ use Rattle.match_walks.proofs.walk.Reads as walk-reads
 
 rise-requires : tie.Need-rise-requires
 rise-requires c κs = (
-  c .before .before .before .before .before .before .before .before .before .before .before .pre .3 .desk,
-  c .before .before .before .before .before .before .before .before .before .before .before .pre .0 .fits,
-  c .before .before .before .before .before .before .before .before .before .before .before .pre .0 .few,
-  c .before .before .before .before .before .before .before .before .before .before .before .pre .3 .small,
-  c .before .before .before .before .before .before .before .before .before .before .before .pre .0 .short,
-  c .before .before .before .before .before .before .before .before .before .before .before .pre .3 .place,
-  c .before .before .before .before .before .before .before .before .before .before .before .pre .4,
+  c .before .before .before .before .before .before .before .before .before .pre .3 .desk,
+  c .before .before .before .before .before .before .before .before .before .pre .0 .fits,
+  c .before .before .before .before .before .before .before .before .before .pre .0 .few,
+  c .before .before .before .before .before .before .before .before .before .pre .3 .small,
+  c .before .before .before .before .before .before .before .before .before .pre .0 .short,
+  c .before .before .before .before .before .before .before .before .before .pre .3 .place,
+  c .before .before .before .before .before .before .before .before .before .pre .4,
 )
 
 leave-requires : tie.Need-leave-requires
@@ -31,93 +31,7 @@ same-length : tie.Need-same-length
 same-length c = search needs
 
 returns : tie.Need-returns
-returns c = turned-left (c .before .before .before .before .before .before .before .before .before .before .before .before .before .before .before .before .args .t .now)
-    (c .before .before .before .before .before .before .before .before .before .before .before .before .before .before .before .before .args .s .now)
-    (c .before .before .before .before .before .before .before .before .before .before .before .before .before .before .before .before .args .cells .now)
-    (c .before .before .before .before .before .before .before .before .before .before .before .before .before .before .before .before .args .tour .setting .n)
-    (c .before .before .before .before .before .before .before .before .before .before .before .before .before .before .before .before .args .tour .setting .room)
-    (c .before .before .before .before .before .before .before .before .before .before .before .before .before .before .before .before .args .tour .setting .write)
-    (out (c .before .before .before .before .before .before .before .before .before .before .before .before .before .before .before .before .args .nodes .now)
-    (c .before .before .before .before .before .before .before .before .before .before .before .before .before .before .before .before .args .tour .stand .at))
-    (c .before .before .before .before .before .before .before .before .before .before .before .before .before .before .before .before .args .desk .now)
-    (c .before .before .before .before .before .before .before .before .before .before .before .before .before .before .before .before .args .tour .stand .mode)
-    (c .before .before .before .before .before .before .before .before .before .before .before .before .before .before .before .before .args .tour .stand .level)
-    (c .before .before .before .before .before .before .before .before .before .before .before .before .before .before .before .before .args .tour .stand .x)
-    (c .before .before .before .before .before .before .before .before .before .before .before .before .before .before .before .before .args .tour .stand .place)
-    (c .before .before .before .before .before .before .before .before .before .before .before .before .before .before .before .before .pre .3)
-    (c .before .before .before .before .before .before .if1 .taken) (c .before .before .before .before .rise .result .x)
-    (subst (λ (j : ℕ). Risen (c .before .before .before .before .before .before .before .before .before .before .before .before .before .before .before .before .args .t .now)
-    (c .before .before .before .before .before .before .before .before .before .before .before .before .before .before .before .before .args .s .now)
-    (c .before .before .before .before .before .before .before .before .before .before .before .before .before .before .before .before .args .cells .now)
-    (c .before .before .before .before .before .before .before .before .before .before .before .before .before .before .before .before .args .tour .setting .n)
-    (c .before .before .before .before .before .before .before .before .before .before .before .before .before .before .before .before .args .desk .now)
-    (c .before .before .before .before .before .before .before .before .before .before .before .before .before .before .before .before .args .tour .stand .x)
-    (c .before .before .before .before .before .before .before .before .before .before .before .before .before .before .before .before .args .tour .stand .place) j
-    (c .before .before .before .before .rise .result .x)) (c .before .before .if2 .taken) (c .before .before .before .before .rise .ensures .0))
-    (c .before .before .before .before .before .before .before .before .before .before .before .before .before .before .before .before .args .nodes .now)
-    (c .before .before .before .before .before .before .before .before .before .before .before .before .before .before .before .before .args .tour .stand .at) refl
-    (c .leave .result .mode) (c .leave .result .level) (c .leave .result .x) (c .leave .result .place) (c .leave .result .at) (c .leave .ensures)
-
-same-length-2 : tie.Need-same-length-2
-same-length-2 c = search needs
-
-returns-2 : tie.Need-returns-2
-returns-2 c = rw (c .before .before .rise .ensures .2) (turned-up
-    (c .before .before .before .before .before .before .before .before .before .before .before .before .before .before .args .t .now)
-    (c .before .before .before .before .before .before .before .before .before .before .before .before .before .before .args .s .now)
-    (c .before .before .before .before .before .before .before .before .before .before .before .before .before .before .args .cells .now)
-    (c .before .before .before .before .before .before .before .before .before .before .before .before .before .before .args .tour .setting .n)
-    (c .before .before .before .before .before .before .before .before .before .before .before .before .before .before .args .tour .setting .room)
-    (c .before .before .before .before .before .before .before .before .before .before .before .before .before .before .args .tour .setting .write)
-    (out (c .before .before .before .before .before .before .before .before .before .before .before .before .before .before .args .nodes .now)
-    (c .before .before .before .before .before .before .before .before .before .before .before .before .before .before .args .tour .stand .at))
-    (c .before .before .before .before .before .before .before .before .before .before .before .before .before .before .args .desk .now)
-    (c .before .before .before .before .before .before .before .before .before .before .before .before .before .before .args .tour .stand .mode)
-    (c .before .before .before .before .before .before .before .before .before .before .before .before .before .before .args .tour .stand .level)
-    (c .before .before .before .before .before .before .before .before .before .before .before .before .before .before .args .tour .stand .x)
-    (c .before .before .before .before .before .before .before .before .before .before .before .before .before .before .args .tour .stand .place)
-    (c .before .before .before .before .before .before .before .before .before .before .before .before .before .before .pre .3) (c .before .before .before .before .if1 .taken)
-    (c .before .before .rise .result .kind) (c .before .before .rise .result .x) (c .before .before .rise .ensures .0) (c .if2 .left) (c .before .before .rise .ensures .1))
-
-walk-requires : tie.Need-walk-requires
-walk-requires c κs = (
-  walkable (c .before .before .before .before .before .before .before .before .before .before .before .args .t .now)
-      (c .before .before .before .before .before .before .before .before .before .before .before .args .s .now)
-      (c .before .before .before .before .before .before .before .before .before .before .before .args .cells .now)
-      (c .before .before .before .before .before .before .before .before .before .before .before .args .tour .setting .n)
-      (c .before .before .before .before .before .before .before .before .before .before .before .args .tour .setting .room)
-      (c .before .before .before .before .before .before .before .before .before .before .before .args .tour .setting .write)
-      (out (c .before .before .before .before .before .before .before .before .before .before .before .args .nodes .now)
-      (c .before .before .before .before .before .before .before .before .before .before .before .args .tour .stand .at))
-      (c .before .before .before .before .before .before .before .before .before .before .before .args .desk .now)
-      (c .before .before .before .before .before .before .before .before .before .before .before .args .tour .stand .mode)
-      (c .before .before .before .before .before .before .before .before .before .before .before .args .tour .stand .level)
-      (c .before .before .before .before .before .before .before .before .before .before .before .args .tour .stand .x)
-      (c .before .before .before .before .before .before .before .before .before .before .before .args .tour .stand .place)
-      (c .before .before .before .before .before .before .before .before .before .before .before .pre .3)
-      (two-up (c .before .before .before .before .before .before .before .before .before .before .before .args .tour .stand .mode)
-      (c .before .before .before .before .before .before .before .before .before .before .before .pre .2) (c .before .if1 .left))
-      (c .before .before .before .before .before .before .before .before .before .before .before .pre .0),
-  c .before .before .before .before .before .before .before .before .before .before .before .pre .4,
-)
-
-enter-requires : tie.Need-enter-requires
-enter-requires c κs = let a = rest-able (c .before .before .before .before .before .before .before .before .before .before .before .before .before .before .before .before .args .t .now) (c .before .before .before .before .before .before .before .before .before .before .before .before .before .before .before .before .args .s .now) (c .before .before .before .before .before .before .before .before .before .before .before .before .before .before .before .before .args .cells .now) (c .before .before .before .before .before .before .before .before .before .before .before .before .before .before .before .before .args .tour .setting .n) (c .before .before .before .before .before .before .before .before .before .before .before .before .before .before .before .before .args .tour .setting .room) (c .before .before .before .before .before .before .before .before .before .before .before .before .before .before .before .before .args .tour .setting .write) (out (c .before .before .before .before .before .before .before .before .before .before .before .before .before .before .before .before .args .nodes .now) (c .before .before .before .before .before .before .before .before .before .before .before .before .before .before .before .before .args .tour .stand .at)) (c .before .before .before .before .before .before .before .before .before .before .before .before .before .before .before .before .args .desk .now) (c .before .before .before .before .before .before .before .before .before .before .before .before .before .before .before .before .args .tour .stand .mode) (c .before .before .before .before .before .before .before .before .before .before .before .before .before .before .before .before .args .tour .stand .level) (c .before .before .before .before .before .before .before .before .before .before .before .before .before .before .before .before .args .tour .stand .x) (c .before .before .before .before .before .before .before .before .before .before .before .before .before .before .before .before .args .tour .stand .place) (c .before .before .before .before .before .before .before .before .before .before .before .before .before .before .before .before .pre .3) (two-up (c .before .before .before .before .before .before .before .before .before .before .before .before .before .before .before .before .args .tour .stand .mode) (c .before .before .before .before .before .before .before .before .before .before .before .before .before .before .before .before .pre .2) (c .before .before .before .before .before .before .if1 .left)) (c .before .before .before .before .walk .result .x) (c .before .before .before .before .walk .result .place) (subst (λ (j : ℕ). Walked (c .before .before .before .before .before .before .before .before .before .before .before .before .before .before .before .before .args .t .now) (c .before .before .before .before .before .before .before .before .before .before .before .before .before .before .before .before .args .s .now) (c .before .before .before .before .before .before .before .before .before .before .before .before .before .before .before .before .args .cells .now) (c .before .before .before .before .before .before .before .before .before .before .before .before .before .before .before .before .args .tour .setting .n) (c .before .before .before .before .before .before .before .before .before .before .before .before .before .before .before .before .args .desk .now) (c .before .before .before .before .before .before .before .before .before .before .before .before .before .before .before .before .args .tour .stand .x) (c .before .before .before .before .before .before .before .before .before .before .before .before .before .before .before .before .args .tour .stand .place) j (c .before .before .before .before .walk .result .x) (c .before .before .before .before .walk .result .place)) (c .before .before .if3 .taken) (c .before .before .before .before .walk .ensures)) in (c .before .before .before .before .before .before .before .before .before .before .before .before .before .before .before .before .pre .0, c .before .before .before .before .before .before .before .before .before .before .before .before .before .before .before .before .pre .3 .desk, c .before .before .before .before .before .before .before .before .before .before .before .before .before .before .before .before .pre .1, c .before .before .before .before .before .before .before .before .before .before .before .before .before .before .before .before .pre .3 .level, c .before .before .before .before .before .before .before .before .before .before .before .before .before .before .before .before .pre .3 .small, c .before .before .before .before .before .before .before .before .before .before .before .before .before .before .before .before .pre .3 .place, a .0, a .1)
-
-same-length-3 : tie.Need-same-length-3
-same-length-3 c = search needs
-
-same-length-4 : tie.Need-same-length-4
-same-length-4 c = search needs
-
-returns-3 : tie.Need-returns-3
-returns-3 c = turned-enter (c .before .before .before .before .before .before .before .before .before .before .before .before .before .before .before .before .before .before .before .before .before .args .t .now) (c .before .before .before .before .before .before .before .before .before .before .before .before .before .before .before .before .before .before .before .before .before .args .s .now) (c .before .before .before .before .before .before .before .before .before .before .before .before .before .before .before .before .before .before .before .before .before .args .cells .now) (c .before .before .before .before .before .before .before .before .before .before .before .before .before .before .before .before .before .before .before .before .before .args .tour .setting .n) (c .before .before .before .before .before .before .before .before .before .before .before .before .before .before .before .before .before .before .before .before .before .args .tour .setting .room) (c .before .before .before .before .before .before .before .before .before .before .before .before .before .before .before .before .before .before .before .before .before .args .tour .setting .write) (out (c .before .before .before .before .before .before .before .before .before .before .before .before .before .before .before .before .before .before .before .before .before .args .nodes .now) (c .before .before .before .before .before .before .before .before .before .before .before .before .before .before .before .before .before .before .before .before .before .args .tour .stand .at)) (c .before .before .before .before .before .before .before .before .before .before .before .before .before .before .before .before .before .before .before .before .before .args .desk .now) (c .before .before .before .before .before .before .before .before .before .before .before .before .before .before .before .before .before .before .before .before .before .args .tour .stand .mode) (c .before .before .before .before .before .before .before .before .before .before .before .before .before .before .before .before .before .before .before .before .before .args .tour .stand .level) (c .before .before .before .before .before .before .before .before .before .before .before .before .before .before .before .before .before .before .before .before .before .args .tour .stand .x) (c .before .before .before .before .before .before .before .before .before .before .before .before .before .before .before .before .before .before .before .before .before .args .tour .stand .place) (c .before .before .before .before .before .before .before .before .before .before .before .before .before .before .before .before .before .before .before .before .before .pre .3) (two-up (c .before .before .before .before .before .before .before .before .before .before .before .before .before .before .before .before .before .before .before .before .before .args .tour .stand .mode) (c .before .before .before .before .before .before .before .before .before .before .before .before .before .before .before .before .before .before .before .before .before .pre .2) (c .before .before .before .before .before .before .before .before .before .before .before .if1 .left)) _ (c .before .before .before .before .before .before .before .before .before .walk .result .x) (c .before .before .before .before .before .before .before .before .before .walk .result .place) _ (c .before .before .before .before .enter .result .mode) (c .before .before .before .before .enter .result .level) (c .before .before .before .before .enter .result .x) (c .before .before .before .before .enter .result .place) (subst (λ (j : ℕ). Walked (c .before .before .before .before .before .before .before .before .before .before .before .before .before .before .before .before .before .before .before .before .before .args .t .now) (c .before .before .before .before .before .before .before .before .before .before .before .before .before .before .before .before .before .before .before .before .before .args .s .now) (c .before .before .before .before .before .before .before .before .before .before .before .before .before .before .before .before .before .before .before .before .before .args .cells .now) (c .before .before .before .before .before .before .before .before .before .before .before .before .before .before .before .before .before .before .before .before .before .args .tour .setting .n) (c .before .before .before .before .before .before .before .before .before .before .before .before .before .before .before .before .before .before .before .before .before .args .desk .now) (c .before .before .before .before .before .before .before .before .before .before .before .before .before .before .before .before .before .before .before .before .before .args .tour .stand .x) (c .before .before .before .before .before .before .before .before .before .before .before .before .before .before .before .before .before .before .before .before .before .args .tour .stand .place) j (c .before .before .before .before .before .before .before .before .before .walk .result .x) (c .before .before .before .before .before .before .before .before .before .walk .result .place)) (c .before .before .before .before .before .before .before .if3 .taken) (c .before .before .before .before .before .before .before .before .before .walk .ensures)) (c .before .before .before .before .enter .ensures)
-
-same-length-5 : tie.Need-same-length-5
-same-length-5 c = search needs
-
-returns-4 : tie.Need-returns-4
-returns-4 c = turned-walk (c .before .before .before .before .before .before .before .before .before .before .before .before .before .before .args .t .now)
+returns c = turned-left (c .before .before .before .before .before .before .before .before .before .before .before .before .before .before .args .t .now)
     (c .before .before .before .before .before .before .before .before .before .before .before .before .before .before .args .s .now)
     (c .before .before .before .before .before .before .before .before .before .before .before .before .before .before .args .cells .now)
     (c .before .before .before .before .before .before .before .before .before .before .before .before .before .before .args .tour .setting .n)
@@ -131,8 +45,94 @@ returns-4 c = turned-walk (c .before .before .before .before .before .before .be
     (c .before .before .before .before .before .before .before .before .before .before .before .before .before .before .args .tour .stand .x)
     (c .before .before .before .before .before .before .before .before .before .before .before .before .before .before .args .tour .stand .place)
     (c .before .before .before .before .before .before .before .before .before .before .before .before .before .before .pre .3)
-    (two-up (c .before .before .before .before .before .before .before .before .before .before .before .before .before .before .args .tour .stand .mode)
-    (c .before .before .before .before .before .before .before .before .before .before .before .before .before .before .pre .2) (c .before .before .before .before .if1 .left))
+    (c .before .before .before .before .before .before .if1 .taken) (c .before .before .before .before .rise .result .x)
+    (subst (λ (j : ℕ). Risen (c .before .before .before .before .before .before .before .before .before .before .before .before .before .before .args .t .now)
+    (c .before .before .before .before .before .before .before .before .before .before .before .before .before .before .args .s .now)
+    (c .before .before .before .before .before .before .before .before .before .before .before .before .before .before .args .cells .now)
+    (c .before .before .before .before .before .before .before .before .before .before .before .before .before .before .args .tour .setting .n)
+    (c .before .before .before .before .before .before .before .before .before .before .before .before .before .before .args .desk .now)
+    (c .before .before .before .before .before .before .before .before .before .before .before .before .before .before .args .tour .stand .x)
+    (c .before .before .before .before .before .before .before .before .before .before .before .before .before .before .args .tour .stand .place) j
+    (c .before .before .before .before .rise .result .x)) (c .before .before .if2 .taken) (c .before .before .before .before .rise .ensures .0))
+    (c .before .before .before .before .before .before .before .before .before .before .before .before .before .before .args .nodes .now)
+    (c .before .before .before .before .before .before .before .before .before .before .before .before .before .before .args .tour .stand .at) refl
+    (c .leave .result .mode) (c .leave .result .level) (c .leave .result .x) (c .leave .result .place) (c .leave .result .at) (c .leave .ensures)
+
+same-length-2 : tie.Need-same-length-2
+same-length-2 c = search needs
+
+returns-2 : tie.Need-returns-2
+returns-2 c = rw (c .before .before .rise .ensures .2) (turned-up
+    (c .before .before .before .before .before .before .before .before .before .before .before .before .args .t .now)
+    (c .before .before .before .before .before .before .before .before .before .before .before .before .args .s .now)
+    (c .before .before .before .before .before .before .before .before .before .before .before .before .args .cells .now)
+    (c .before .before .before .before .before .before .before .before .before .before .before .before .args .tour .setting .n)
+    (c .before .before .before .before .before .before .before .before .before .before .before .before .args .tour .setting .room)
+    (c .before .before .before .before .before .before .before .before .before .before .before .before .args .tour .setting .write)
+    (out (c .before .before .before .before .before .before .before .before .before .before .before .before .args .nodes .now)
+    (c .before .before .before .before .before .before .before .before .before .before .before .before .args .tour .stand .at))
+    (c .before .before .before .before .before .before .before .before .before .before .before .before .args .desk .now)
+    (c .before .before .before .before .before .before .before .before .before .before .before .before .args .tour .stand .mode)
+    (c .before .before .before .before .before .before .before .before .before .before .before .before .args .tour .stand .level)
+    (c .before .before .before .before .before .before .before .before .before .before .before .before .args .tour .stand .x)
+    (c .before .before .before .before .before .before .before .before .before .before .before .before .args .tour .stand .place)
+    (c .before .before .before .before .before .before .before .before .before .before .before .before .pre .3) (c .before .before .before .before .if1 .taken)
+    (c .before .before .rise .result .kind) (c .before .before .rise .result .x) (c .before .before .rise .ensures .0) (c .if2 .left) (c .before .before .rise .ensures .1))
+
+walk-requires : tie.Need-walk-requires
+walk-requires c κs = (
+  walkable (c .before .before .before .before .before .before .before .before .before .args .t .now)
+      (c .before .before .before .before .before .before .before .before .before .args .s .now)
+      (c .before .before .before .before .before .before .before .before .before .args .cells .now)
+      (c .before .before .before .before .before .before .before .before .before .args .tour .setting .n)
+      (c .before .before .before .before .before .before .before .before .before .args .tour .setting .room)
+      (c .before .before .before .before .before .before .before .before .before .args .tour .setting .write)
+      (out (c .before .before .before .before .before .before .before .before .before .args .nodes .now)
+      (c .before .before .before .before .before .before .before .before .before .args .tour .stand .at))
+      (c .before .before .before .before .before .before .before .before .before .args .desk .now)
+      (c .before .before .before .before .before .before .before .before .before .args .tour .stand .mode)
+      (c .before .before .before .before .before .before .before .before .before .args .tour .stand .level)
+      (c .before .before .before .before .before .before .before .before .before .args .tour .stand .x)
+      (c .before .before .before .before .before .before .before .before .before .args .tour .stand .place)
+      (c .before .before .before .before .before .before .before .before .before .pre .3)
+      (two-up (c .before .before .before .before .before .before .before .before .before .args .tour .stand .mode)
+      (c .before .before .before .before .before .before .before .before .before .pre .2) (c .before .if1 .left))
+      (c .before .before .before .before .before .before .before .before .before .pre .0),
+  c .before .before .before .before .before .before .before .before .before .pre .4,
+)
+
+enter-requires : tie.Need-enter-requires
+enter-requires c κs = let a = rest-able (c .before .before .before .before .before .before .before .before .before .before .before .before .before .before .before .args .t .now) (c .before .before .before .before .before .before .before .before .before .before .before .before .before .before .before .args .s .now) (c .before .before .before .before .before .before .before .before .before .before .before .before .before .before .before .args .cells .now) (c .before .before .before .before .before .before .before .before .before .before .before .before .before .before .before .args .tour .setting .n) (c .before .before .before .before .before .before .before .before .before .before .before .before .before .before .before .args .tour .setting .room) (c .before .before .before .before .before .before .before .before .before .before .before .before .before .before .before .args .tour .setting .write) (out (c .before .before .before .before .before .before .before .before .before .before .before .before .before .before .before .args .nodes .now) (c .before .before .before .before .before .before .before .before .before .before .before .before .before .before .before .args .tour .stand .at)) (c .before .before .before .before .before .before .before .before .before .before .before .before .before .before .before .args .desk .now) (c .before .before .before .before .before .before .before .before .before .before .before .before .before .before .before .args .tour .stand .mode) (c .before .before .before .before .before .before .before .before .before .before .before .before .before .before .before .args .tour .stand .level) (c .before .before .before .before .before .before .before .before .before .before .before .before .before .before .before .args .tour .stand .x) (c .before .before .before .before .before .before .before .before .before .before .before .before .before .before .before .args .tour .stand .place) (c .before .before .before .before .before .before .before .before .before .before .before .before .before .before .before .pre .3) (two-up (c .before .before .before .before .before .before .before .before .before .before .before .before .before .before .before .args .tour .stand .mode) (c .before .before .before .before .before .before .before .before .before .before .before .before .before .before .before .pre .2) (c .before .before .before .before .before .before .before .if1 .left)) (c .before .before .before .before .before .walk .result .x) (c .before .before .before .before .before .walk .result .place) (subst (λ (j : ℕ). Walked (c .before .before .before .before .before .before .before .before .before .before .before .before .before .before .before .args .t .now) (c .before .before .before .before .before .before .before .before .before .before .before .before .before .before .before .args .s .now) (c .before .before .before .before .before .before .before .before .before .before .before .before .before .before .before .args .cells .now) (c .before .before .before .before .before .before .before .before .before .before .before .before .before .before .before .args .tour .setting .n) (c .before .before .before .before .before .before .before .before .before .before .before .before .before .before .before .args .desk .now) (c .before .before .before .before .before .before .before .before .before .before .before .before .before .before .before .args .tour .stand .x) (c .before .before .before .before .before .before .before .before .before .before .before .before .before .before .before .args .tour .stand .place) j (c .before .before .before .before .before .walk .result .x) (c .before .before .before .before .before .walk .result .place)) (c .before .before .before .if3 .taken) (c .before .before .before .before .before .walk .ensures)) in (c .before .before .before .before .before .before .before .before .before .before .before .before .before .before .before .pre .0, c .before .before .before .before .before .before .before .before .before .before .before .before .before .before .before .pre .3 .desk, c .before .before .before .before .before .before .before .before .before .before .before .before .before .before .before .pre .1, c .before .before .before .before .before .before .before .before .before .before .before .before .before .before .before .pre .3 .level, c .before .before .before .before .before .before .before .before .before .before .before .before .before .before .before .pre .3 .small, c .before .before .before .before .before .before .before .before .before .before .before .before .before .before .before .pre .3 .place, a .0, a .1)
+
+same-length-3 : tie.Need-same-length-3
+same-length-3 c = search needs
+
+same-length-4 : tie.Need-same-length-4
+same-length-4 c = search needs
+
+returns-3 : tie.Need-returns-3
+returns-3 c = turned-enter (c .before .before .before .before .before .before .before .before .before .before .before .before .before .before .before .before .before .before .before .before .args .t .now) (c .before .before .before .before .before .before .before .before .before .before .before .before .before .before .before .before .before .before .before .before .args .s .now) (c .before .before .before .before .before .before .before .before .before .before .before .before .before .before .before .before .before .before .before .before .args .cells .now) (c .before .before .before .before .before .before .before .before .before .before .before .before .before .before .before .before .before .before .before .before .args .tour .setting .n) (c .before .before .before .before .before .before .before .before .before .before .before .before .before .before .before .before .before .before .before .before .args .tour .setting .room) (c .before .before .before .before .before .before .before .before .before .before .before .before .before .before .before .before .before .before .before .before .args .tour .setting .write) (out (c .before .before .before .before .before .before .before .before .before .before .before .before .before .before .before .before .before .before .before .before .args .nodes .now) (c .before .before .before .before .before .before .before .before .before .before .before .before .before .before .before .before .before .before .before .before .args .tour .stand .at)) (c .before .before .before .before .before .before .before .before .before .before .before .before .before .before .before .before .before .before .before .before .args .desk .now) (c .before .before .before .before .before .before .before .before .before .before .before .before .before .before .before .before .before .before .before .before .args .tour .stand .mode) (c .before .before .before .before .before .before .before .before .before .before .before .before .before .before .before .before .before .before .before .before .args .tour .stand .level) (c .before .before .before .before .before .before .before .before .before .before .before .before .before .before .before .before .before .before .before .before .args .tour .stand .x) (c .before .before .before .before .before .before .before .before .before .before .before .before .before .before .before .before .before .before .before .before .args .tour .stand .place) (c .before .before .before .before .before .before .before .before .before .before .before .before .before .before .before .before .before .before .before .before .pre .3) (two-up (c .before .before .before .before .before .before .before .before .before .before .before .before .before .before .before .before .before .before .before .before .args .tour .stand .mode) (c .before .before .before .before .before .before .before .before .before .before .before .before .before .before .before .before .before .before .before .before .pre .2) (c .before .before .before .before .before .before .before .before .before .before .before .before .if1 .left)) _ (c .before .before .before .before .before .before .before .before .before .before .walk .result .x) (c .before .before .before .before .before .before .before .before .before .before .walk .result .place) _ (c .before .before .before .before .enter .result .mode) (c .before .before .before .before .enter .result .level) (c .before .before .before .before .enter .result .x) (c .before .before .before .before .enter .result .place) (subst (λ (j : ℕ). Walked (c .before .before .before .before .before .before .before .before .before .before .before .before .before .before .before .before .before .before .before .before .args .t .now) (c .before .before .before .before .before .before .before .before .before .before .before .before .before .before .before .before .before .before .before .before .args .s .now) (c .before .before .before .before .before .before .before .before .before .before .before .before .before .before .before .before .before .before .before .before .args .cells .now) (c .before .before .before .before .before .before .before .before .before .before .before .before .before .before .before .before .before .before .before .before .args .tour .setting .n) (c .before .before .before .before .before .before .before .before .before .before .before .before .before .before .before .before .before .before .before .before .args .desk .now) (c .before .before .before .before .before .before .before .before .before .before .before .before .before .before .before .before .before .before .before .before .args .tour .stand .x) (c .before .before .before .before .before .before .before .before .before .before .before .before .before .before .before .before .before .before .before .before .args .tour .stand .place) j (c .before .before .before .before .before .before .before .before .before .before .walk .result .x) (c .before .before .before .before .before .before .before .before .before .before .walk .result .place)) (c .before .before .before .before .before .before .before .before .if3 .taken) (c .before .before .before .before .before .before .before .before .before .before .walk .ensures)) (c .before .before .before .before .enter .ensures)
+
+same-length-5 : tie.Need-same-length-5
+same-length-5 c = search needs
+
+returns-4 : tie.Need-returns-4
+returns-4 c = turned-walk (c .before .before .before .before .before .before .before .before .before .before .before .before .args .t .now)
+    (c .before .before .before .before .before .before .before .before .before .before .before .before .args .s .now)
+    (c .before .before .before .before .before .before .before .before .before .before .before .before .args .cells .now)
+    (c .before .before .before .before .before .before .before .before .before .before .before .before .args .tour .setting .n)
+    (c .before .before .before .before .before .before .before .before .before .before .before .before .args .tour .setting .room)
+    (c .before .before .before .before .before .before .before .before .before .before .before .before .args .tour .setting .write)
+    (out (c .before .before .before .before .before .before .before .before .before .before .before .before .args .nodes .now)
+    (c .before .before .before .before .before .before .before .before .before .before .before .before .args .tour .stand .at))
+    (c .before .before .before .before .before .before .before .before .before .before .before .before .args .desk .now)
+    (c .before .before .before .before .before .before .before .before .before .before .before .before .args .tour .stand .mode)
+    (c .before .before .before .before .before .before .before .before .before .before .before .before .args .tour .stand .level)
+    (c .before .before .before .before .before .before .before .before .before .before .before .before .args .tour .stand .x)
+    (c .before .before .before .before .before .before .before .before .before .before .before .before .args .tour .stand .place)
+    (c .before .before .before .before .before .before .before .before .before .before .before .before .pre .3)
+    (two-up (c .before .before .before .before .before .before .before .before .before .before .before .before .args .tour .stand .mode)
+    (c .before .before .before .before .before .before .before .before .before .before .before .before .pre .2) (c .before .before .before .before .if1 .left))
     (c .before .before .walk .result .kind) (c .before .before .walk .result .x) (c .before .before .walk .result .place) (c .before .before .walk .ensures) (c .if3 .left)
 
 pub turn-spec : {M : Type 1} → statement M

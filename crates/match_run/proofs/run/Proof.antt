@@ -47,17 +47,14 @@ returns-2 c = ran-few (c .before .before .before .before .before .before .before
     (c .before .before .before .before .before .before .before .args .cells .now) (c .before .before .before .before .before .before .before .args .nodes .now)
     (c .before .before .symbols .result) _ (c .before .before .symbols .ensures) (omega (arith, c .before .before .before .if1 .left)) refl (c .not-matched2 .ensures) (c .before .if2 .taken)
 
-slice-aggregate-fill : tie.Need-slice-aggregate-fill
-slice-aggregate-fill c = search needs
-
 fill-requires : tie.Need-fill-requires
 fill-requires c κs = (
   (
-    c .before .before .before .before .before .before .before .before .before .pre .plain .holds .few-symbols,
+    c .before .before .before .before .before .before .before .before .pre .plain .holds .few-symbols,
     omega
-        (arith, c .before .before .before .before .before .if1 .left),
+        (arith, c .before .before .before .before .if1 .left),
   ),
-  fresh-none (c .before .before .before .before .before .before .before .before .before .args .t .now) 26901 (omega arith),
+  fresh-none (c .before .before .before .before .before .before .before .before .args .t .now) 27931 (omega arith),
 )
 
 word-requires : tie.Need-word-requires
@@ -67,21 +64,18 @@ same-length : tie.Need-same-length
 same-length c = search needs
 
 returns-3 : tie.Need-returns-3
-returns-3 c = ran-none (c .before .before .before .before .before .before .before .before .before .before .before .before .before .before .before .before .args .t .now)
-    (c .before .before .before .before .before .before .before .before .before .before .before .before .before .before .before .before .args .input .now)
-    (c .before .before .before .before .before .before .before .before .before .before .before .before .before .before .before .before .args .cells .now)
-    (c .before .before .before .before .before .before .before .before .before .before .before .before .before .before .before .before .args .nodes .now)
-    (c .before .before .before .before .before .before .before .before .before .before .before .symbols .result) _
-    (c .before .before .before .before .before .before .before .before .before .before .before .symbols .ensures)
-    (omega (arith, c .before .before .before .before .before .before .before .before .before .before .before .before .if1 .left)) refl
-    (omega (arith, c .before .before .before .before .before .before .before .before .before .before .if2 .left)) _
-    (c .before .before .before .before .before .before .fill .ensures .0) (c .before .word .result) (c .before .word .ensures .0) (c .if3 .taken)
-
-slice-aggregate-list : tie.Need-slice-aggregate-list
-slice-aggregate-list c = search needs
+returns-3 c = ran-none (c .before .before .before .before .before .before .before .before .before .before .before .before .before .before .args .t .now)
+    (c .before .before .before .before .before .before .before .before .before .before .before .before .before .before .args .input .now)
+    (c .before .before .before .before .before .before .before .before .before .before .before .before .before .before .args .cells .now)
+    (c .before .before .before .before .before .before .before .before .before .before .before .before .before .before .args .nodes .now)
+    (c .before .before .before .before .before .before .before .before .before .symbols .result) _
+    (c .before .before .before .before .before .before .before .before .before .symbols .ensures)
+    (omega (arith, c .before .before .before .before .before .before .before .before .before .before .if1 .left)) refl
+    (omega (arith, c .before .before .before .before .before .before .before .before .if2 .left)) _
+    (c .before .before .before .before .before .fill .ensures .0) (c .before .word .result) (c .before .word .ensures .0) (c .if3 .taken)
 
 list-requires : tie.Need-list-requires
-list-requires c κs = (ready (c .before .before .before .before .before .before .before .before .before .before .before .before .before .before .before .before .before .before .before .before .args .t .now) (c .before .before .before .before .before .before .before .before .before .before .before .before .before .before .before .before .before .before .before .before .args .input .now) (c .before .before .before .before .before .before .before .before .before .before .before .before .before .before .before .before .before .before .before .before .args .cells .now) (c .before .before .before .before .before .before .before .before .before .before .before .before .before .before .before .before .before .before .before .before .args .nodes .now) (c .before .before .before .before .before .before .before .before .before .before .before .before .before .before .before .symbols .result) _ (c .before .before .before .before .before .before .before .before .before .before .before .before .before .before .before .symbols .ensures) (omega (arith, c .before .before .before .before .before .before .before .before .before .before .before .before .before .before .before .before .if1 .left)) refl (omega (arith, c .before .before .before .before .before .before .before .before .before .before .before .before .before .before .if2 .left)) _ (c .before .before .before .before .before .before .before .before .before .before .fill .ensures .0) (c .before .before .before .before .before .before .before .before .before .before .before .before .before .before .before .before .before .before .before .before .pre), knows-count (c .before .before .before .before .before .before .before .before .before .before .before .before .before .before .before .before .before .before .before .before .args .t .now) (c .before .before .before .before .before .before .before .before .before .before .before .before .before .before .before .before .before .before .before .before .args .input .now) _ _ _ _ (sym (c .before .before .before .before .before .before .before .before .before .before .before .before .before .before .before .symbols .ensures)) (c .before .before .before .before .before .before .before .before .before .before .fill .ensures .1))
+list-requires c κs = (ready (c .before .before .before .before .before .before .before .before .before .before .before .before .before .before .before .before .before .args .t .now) (c .before .before .before .before .before .before .before .before .before .before .before .before .before .before .before .before .before .args .input .now) (c .before .before .before .before .before .before .before .before .before .before .before .before .before .before .before .before .before .args .cells .now) (c .before .before .before .before .before .before .before .before .before .before .before .before .before .before .before .before .before .args .nodes .now) (c .before .before .before .before .before .before .before .before .before .before .before .before .symbols .result) _ (c .before .before .before .before .before .before .before .before .before .before .before .before .symbols .ensures) (omega (arith, c .before .before .before .before .before .before .before .before .before .before .before .before .before .if1 .left)) refl (omega (arith, c .before .before .before .before .before .before .before .before .before .before .before .if2 .left)) _ (c .before .before .before .before .before .before .before .before .fill .ensures .0) (c .before .before .before .before .before .before .before .before .before .before .before .before .before .before .before .before .before .pre), knows-count (c .before .before .before .before .before .before .before .before .before .before .before .before .before .before .before .before .before .args .t .now) (c .before .before .before .before .before .before .before .before .before .before .before .before .before .before .before .before .before .args .input .now) _ _ _ _ (sym (c .before .before .before .before .before .before .before .before .before .before .before .before .symbols .ensures)) (c .before .before .before .before .before .before .before .before .fill .ensures .1))
 
 sub-listed-match : tie.Need-sub-listed-match
 sub-listed-match c = search needs
@@ -96,7 +90,7 @@ same-length-3 : tie.Need-same-length-3
 same-length-3 c = search needs
 
 returns-4 : tie.Need-returns-4
-returns-4 c = ran-all (c .before .before .before .before .before .before .before .before .before .before .before .before .before .before .before .before .before .before .before .before .before .before .before .before .args .t .now) (c .before .before .before .before .before .before .before .before .before .before .before .before .before .before .before .before .before .before .before .before .before .before .before .before .args .input .now) (c .before .before .before .before .before .before .before .before .before .before .before .before .before .before .before .before .before .before .before .before .before .before .before .before .args .cells .now) (c .before .before .before .before .before .before .before .before .before .before .before .before .before .before .before .before .before .before .before .before .before .before .before .before .args .nodes .now) (c .before .before .before .before .before .before .before .before .before .before .before .before .before .before .before .before .before .before .before .symbols .result) _ (c .before .before .before .before .before .before .before .before .before .before .before .before .before .before .before .before .before .before .before .symbols .ensures) (omega (arith, c .before .before .before .before .before .before .before .before .before .before .before .before .before .before .before .before .before .before .before .before .if1 .left)) refl (omega (arith, c .before .before .before .before .before .before .before .before .before .before .before .before .before .before .before .before .before .before .if2 .left)) _ (c .before .before .before .before .before .before .before .before .before .before .before .before .before .before .fill .ensures .0) (c .before .before .before .before .before .before .before .before .before .word .result) (c .before .before .before .before .before .before .before .before .before .word .ensures .0) (c .before .before .before .before .before .before .before .before .if3 .left) (c .before .before .before .list .result) _ (c .listed-match .result) (c .before .before .before .list .ensures .0) (c .before .before .before .list .ensures .1) (c .listed-match .ensures)
+returns-4 c = ran-all (c .before .before .before .before .before .before .before .before .before .before .before .before .before .before .before .before .before .before .before .before .before .args .t .now) (c .before .before .before .before .before .before .before .before .before .before .before .before .before .before .before .before .before .before .before .before .before .args .input .now) (c .before .before .before .before .before .before .before .before .before .before .before .before .before .before .before .before .before .before .before .before .before .args .cells .now) (c .before .before .before .before .before .before .before .before .before .before .before .before .before .before .before .before .before .before .before .before .before .args .nodes .now) (c .before .before .before .before .before .before .before .before .before .before .before .before .before .before .before .before .symbols .result) _ (c .before .before .before .before .before .before .before .before .before .before .before .before .before .before .before .before .symbols .ensures) (omega (arith, c .before .before .before .before .before .before .before .before .before .before .before .before .before .before .before .before .before .if1 .left)) refl (omega (arith, c .before .before .before .before .before .before .before .before .before .before .before .before .before .before .before .if2 .left)) _ (c .before .before .before .before .before .before .before .before .before .before .before .before .fill .ensures .0) (c .before .before .before .before .before .before .before .before .word .result) (c .before .before .before .before .before .before .before .before .word .ensures .0) (c .before .before .before .before .before .before .before .if3 .left) (c .before .before .before .list .result) _ (c .listed-match .result) (c .before .before .before .list .ensures .0) (c .before .before .before .list .ensures .1) (c .listed-match .ensures)
 
 pub run-spec : {M : Type 1} → statement M
 run-spec =
@@ -109,12 +103,10 @@ run-spec =
     mul-need
     not-matched-requires-2
     returns-2
-    slice-aggregate-fill
     fill-requires
     word-requires
     same-length
     returns-3
-    slice-aggregate-list
     list-requires
     sub-listed-match
     listed-match-requires

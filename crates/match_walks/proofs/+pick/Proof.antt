@@ -33,21 +33,21 @@ pick-barred-requires : (t : ℕ) → pick-lts.Need-barred-requires (pick-claims 
 pick-barred-requires t c κs = search needs
 
 pick-returns : (t : ℕ) → pick-lts.Need-returns (pick-claims t) (pick-at t) pick.Post
-pick-returns t c = pick-fails (c .before .before .before .before .before .before .args .t .now) (c .before .before .before .before .before .before .args .s .now)
-    (c .before .before .before .before .before .before .args .cells .now) (c .before .before .before .before .before .before .args .n)
-    (c .before .before .before .before .before .before .args .x) (c .before .before .before .before .before .before .args .p) 0
-    (said-right (c .before .before .before .before .before .before .args .t .now) (c .before .before .before .before .before .before .args .s .now)
-    (c .before .before .before .before .before .before .args .cells .now) (c .before .before .before .before .before .before .args .mem .now)
-    (c .before .before .before .before .before .before .args .n) 0 (c .before .before .before .before .before .before .args .p)
-    (knows-from (c .before .before .before .before .before .before .args .t .now) (c .before .before .before .before .before .before .args .s .now)
-    (c .before .before .before .before .before .before .args .cells .now) (c .before .before .before .before .before .before .args .mem .now)
-    (c .before .before .before .before .before .before .args .n) 0 0 0 (c .before .before .before .before .before .before .args .p) (omega arith) (omega arith)
-    (c .before .before .before .before .before .before .pre .1 .1)) (c .before .before .before .before .before .before .args .x)
-    (byteAt (c .before .before .before .before .before .before .args .s .now) (c .before .before .before .before .before .before .args .p)) 1
-    (omega (arith, c .before .before .before .before .before .before .pre .1 .0)) refl (sym (c .before .barred .ensures (c .if1 .taken))) (λ z. omega (arith, z))) refl
+pick-returns t c = pick-fails (c .before .before .before .before .args .t .now) (c .before .before .before .before .args .s .now)
+    (c .before .before .before .before .args .cells .now) (c .before .before .before .before .args .n)
+    (c .before .before .before .before .args .x) (c .before .before .before .before .args .p) 0
+    (said-right (c .before .before .before .before .args .t .now) (c .before .before .before .before .args .s .now)
+    (c .before .before .before .before .args .cells .now) (c .before .before .before .before .args .mem .now)
+    (c .before .before .before .before .args .n) 0 (c .before .before .before .before .args .p)
+    (knows-from (c .before .before .before .before .args .t .now) (c .before .before .before .before .args .s .now)
+    (c .before .before .before .before .args .cells .now) (c .before .before .before .before .args .mem .now)
+    (c .before .before .before .before .args .n) 0 0 0 (c .before .before .before .before .args .p) (omega arith) (omega arith)
+    (c .before .before .before .before .pre .1 .1)) (c .before .before .before .before .args .x)
+    (byteAt (c .before .before .before .before .args .s .now) (c .before .before .before .before .args .p)) 1
+    (omega (arith, c .before .before .before .before .pre .1 .0)) refl (sym (c .before .barred .ensures (c .if1 .taken))) (λ z. omega (arith, z))) refl
 
 pick-whole-requires : (t : ℕ) → pick-lts.Need-whole-requires (pick-claims t) (pick-at t) pick.Post
-pick-whole-requires t c κs = c .before .before .before .before .before .before .before .pre .1
+pick-whole-requires t c κs = c .before .before .before .before .before .pre .1
 
 pick-returns-2 : (t : ℕ) → pick-lts.Need-returns-2 (pick-claims t) (pick-at t) pick.Post
 pick-returns-2 t c = c .whole .ensures
@@ -56,27 +56,27 @@ pick-look-requires : (t : ℕ) → pick-lts.Need-look-requires (pick-claims t) (
 pick-look-requires t c κs = search needs
 
 pick-whole-requires-2 : (t : ℕ) → pick-lts.Need-whole-requires-2 (pick-claims t) (pick-at t) pick.Post
-pick-whole-requires-2 t c κs = c .before .before .before .before .before .before .before .before .before .pre .1
+pick-whole-requires-2 t c κs = c .before .before .before .before .before .before .before .before .pre .1
 
 pick-returns-3 : (t : ℕ) → pick-lts.Need-returns-3 (pick-claims t) (pick-at t) pick.Post
 pick-returns-3 t c = c .whole2 .ensures
 
 pick-pick-requires : (t : ℕ) → pick-lts.Need-pick-requires (pick-claims t) (pick-at t) pick.Post
 pick-pick-requires t c κs = (
-  omega (arith, c .before .look .ensures .left, c .before .before .before .before .before .before .before .before .before .pre .0),
+  omega (arith, c .before .look .ensures .left, c .before .before .before .before .before .before .before .before .pre .0),
   (
-    omega (arith, c .before .look .ensures .left, c .before .before .before .before .before .before .before .before .before .pre .1 .0),
-    c .before .before .before .before .before .before .before .before .before .pre .1 .1,
+    omega (arith, c .before .look .ensures .left, c .before .before .before .before .before .before .before .before .pre .1 .0),
+    c .before .before .before .before .before .before .before .before .pre .1 .1,
   ),
 )
 
 pick-returns-4 : (t : ℕ) → pick-lts.Need-returns-4 (pick-claims t) (pick-at t) pick.Post
-pick-returns-4 t c = pick-first (c .before .before .before .before .before .before .before .before .before .before .before .args .t .now)
-    (c .before .before .before .before .before .before .before .before .before .before .before .args .s .now)
-    (c .before .before .before .before .before .before .before .before .before .before .before .args .cells .now)
-    (c .before .before .before .before .before .before .before .before .before .before .before .args .n)
-    (c .before .before .before .before .before .before .before .before .before .before .before .args .x)
-    (c .before .before .before .before .before .before .before .before .before .before .before .args .p) (c .before .before .before .look .result .op)
+pick-returns-4 t c = pick-first (c .before .before .before .before .before .before .before .before .before .before .args .t .now)
+    (c .before .before .before .before .before .before .before .before .before .before .args .s .now)
+    (c .before .before .before .before .before .before .before .before .before .before .args .cells .now)
+    (c .before .before .before .before .before .before .before .before .before .before .args .n)
+    (c .before .before .before .before .before .before .before .before .before .before .args .x)
+    (c .before .before .before .before .before .before .before .before .before .before .args .p) (c .before .before .before .look .result .op)
     (c .before .before .before .look .result .left) (c .before .before .before .look .result .y) (c .before .before .before .look .result .z)
     (c .before .before .before .look .ensures) (c .before .before .if3 .left) (c .before .pick .result) (c .before .pick .ensures) (c .if4 .taken)
 
@@ -85,21 +85,21 @@ pick-pick-requires-2 t c κs = (
   omega (
     arith,
     c .before .before .before .look .ensures .right,
-    c .before .before .before .before .before .before .before .before .before .before .before .pre .0,
+    c .before .before .before .before .before .before .before .before .before .before .pre .0,
   ),
   (
-    omega (arith, c .before .before .before .look .ensures .right, c .before .before .before .before .before .before .before .before .before .before .before .pre .1 .0),
-    c .before .before .before .before .before .before .before .before .before .before .before .pre .1 .1,
+    omega (arith, c .before .before .before .look .ensures .right, c .before .before .before .before .before .before .before .before .before .before .pre .1 .0),
+    c .before .before .before .before .before .before .before .before .before .before .pre .1 .1,
   ),
 )
 
 pick-returns-5 : (t : ℕ) → pick-lts.Need-returns-5 (pick-claims t) (pick-at t) pick.Post
-pick-returns-5 t c = pick-second (c .before .before .before .before .before .before .before .before .before .before .before .before .args .t .now)
-    (c .before .before .before .before .before .before .before .before .before .before .before .before .args .s .now)
-    (c .before .before .before .before .before .before .before .before .before .before .before .before .args .cells .now)
-    (c .before .before .before .before .before .before .before .before .before .before .before .before .args .n)
-    (c .before .before .before .before .before .before .before .before .before .before .before .before .args .x)
-    (c .before .before .before .before .before .before .before .before .before .before .before .before .args .p) (c .before .before .before .before .look .result .op)
+pick-returns-5 t c = pick-second (c .before .before .before .before .before .before .before .before .before .before .before .args .t .now)
+    (c .before .before .before .before .before .before .before .before .before .before .before .args .s .now)
+    (c .before .before .before .before .before .before .before .before .before .before .before .args .cells .now)
+    (c .before .before .before .before .before .before .before .before .before .before .before .args .n)
+    (c .before .before .before .before .before .before .before .before .before .before .before .args .x)
+    (c .before .before .before .before .before .before .before .before .before .before .before .args .p) (c .before .before .before .before .look .result .op)
     (c .before .before .before .before .look .result .left) (c .before .before .before .before .look .result .y) (c .before .before .before .before .look .result .z)
     (c .before .before .before .before .look .ensures) (c .before .before .before .if3 .left) (c .before .before .pick .result) (c .pick2 .result)
     (c .before .before .pick .ensures) (c .before .if4 .left) (c .pick2 .ensures)

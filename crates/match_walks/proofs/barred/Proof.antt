@@ -19,7 +19,7 @@ said-requires c κs = search needs
 
 returns : tie.Need-returns
 returns c = λ e. ap (λ (b : ℕ). saidOf (c .before .before .before .before .args .mem .now) b (c .before .before .before .before .args .x))
-    (sym (c .before .byte-at .ensures .0)) ∙ sym (c .said .ensures) ∙ eqb-true (c .said .result) 1 e
+    (sym (c .before .before .byte-at .ensures .0)) ∙ sym (c .said .ensures) ∙ eqb-true (c .said .result) 1 e
 
 pub barred-spec : {M : Type 1} → statement M
 barred-spec = tie.close (tie.spec byte-at-requires said-requires returns)

@@ -11,10 +11,10 @@ use Rattle.match_eval.proofs.round.Reads as round-reads
 
 round-requires : tie.Need-round-requires
 round-requires c κs = (
-  omega (arith, c .before .before .before .before .pre .0),
-  knows-from (c .before .before .before .before .args .t .now)
-      (c .before .before .before .before .args .s .now) (c .before .before .before .before .args .cells .now) (c .before .before .before .before .args .mem .now)
-      (c .before .before .before .before .args .n) 0 0 0 (c .before .before .before .before .args .st .place) (omega arith) (omega arith) (c .before .before .before .before .pre .1),
+  omega (arith, c .before .before .pre .0),
+  knows-from (c .before .before .args .t .now)
+      (c .before .before .args .s .now) (c .before .before .args .cells .now) (c .before .before .args .mem .now)
+      (c .before .before .args .n) 0 0 0 (c .before .before .args .st .place) (omega arith) (omega arith) (c .before .before .pre .1),
 )
 
 returns : tie.Need-returns

@@ -22,68 +22,95 @@ word-requires c κs = search needs
 
 returns : tie.Need-returns
 returns c = (
-  risen-top (c .before .before .before .before .before .before .before .args .t .now) (c .before .before .before .before .before .before .before .args .s .now)
-      (c .before .before .before .before .before .before .before .args .cells .now) (c .before .before .before .before .before .before .before .args .n)
-      (c .before .before .before .before .before .before .before .args .desk .now) (c .before .before .before .before .before .before .before .args .st .x)
-      (c .before .before .before .before .before .before .before .args .st .place) (c .before .before .before .before .before .before .before .pre .0)
-      (c .before .before .before .before .before .before .before .pre .1) (c .before .before .before .before .before .before .before .pre .5) (c .before .word .result)
+  risen-top (c .before .before .before .before .before .args .t .now) (c .before .before .before .before .before .args .s .now)
+      (c .before .before .before .before .before .args .cells .now) (c .before .before .before .before .before .args .n)
+      (c .before .before .before .before .before .args .desk .now) (c .before .before .before .before .before .args .st .x)
+      (c .before .before .before .before .before .args .st .place) (c .before .before .before .before .before .pre .0)
+      (c .before .before .before .before .before .pre .1) (c .before .before .before .before .before .pre .5) (c .before .word .result)
       (c .before .word .ensures .0) (c .if1 .taken),
   omega arith,
   refl,
 )
 
 look-requires : tie.Need-look-requires
-look-requires c κs = let a = nonzero (c .before .word .result) (c .if1 .left) in (
+look-requires c κs = let a = nonzero (c .before .before .word .result) (c .before .if1 .left) in (
   a,
   omega (
     arith,
-    parent-above (c .before .before .before .before .before .before .before .args .t .now)
-        (c .before .before .before .before .before .before .before .args .desk .now) (expressionCount (c .before .before .before .before .before .before .before .args .t .now))
-        (c .before .before .before .before .before .before .before .pre .0) (c .before .before .before .before .before .before .before .pre .1)
-        (c .before .before .before .before .before .before .before .args .st .x) (c .before .word .result)
-        (sym (c .before .word .ensures .0)) a .1,
-    c .before .before .before .before .before .before .before .pre .1,
+    parent-above (c .before .before .before .before .before .before .args .t .now)
+        (c .before .before .before .before .before .before .args .desk .now) (expressionCount (c .before .before .before .before .before .before .args .t .now))
+        (c .before .before .before .before .before .before .pre .0) (c .before .before .before .before .before .before .pre .1)
+        (c .before .before .before .before .before .before .args .st .x) (c .before .before .word .result)
+        (sym (c .before .before .word .ensures .0)) a .1,
+    c .before .before .before .before .before .before .pre .1,
   ),
 )
 
 returns-2 : tie.Need-returns-2
 returns-2 c = (
-  risen-left (c .before .before .before .before .before .before .before .before .before .before .args .t .now)
-      (c .before .before .before .before .before .before .before .before .before .before .args .s .now)
-      (c .before .before .before .before .before .before .before .before .before .before .args .cells .now)
-      (c .before .before .before .before .before .before .before .before .before .before .args .n)
-      (c .before .before .before .before .before .before .before .before .before .before .args .desk .now)
-      (c .before .before .before .before .before .before .before .before .before .before .args .st .x)
-      (c .before .before .before .before .before .before .before .before .before .before .args .st .place)
-      (c .before .before .before .before .before .before .before .before .before .before .pre .0)
-      (c .before .before .before .before .before .before .before .before .before .before .pre .1)
-      (c .before .before .before .before .before .before .before .before .before .before .pre .5) (c .before .before .before .before .word .result)
+  risen-left (c .before .before .before .before .before .before .before .before .before .args .t .now)
+      (c .before .before .before .before .before .before .before .before .before .args .s .now)
+      (c .before .before .before .before .before .before .before .before .before .args .cells .now)
+      (c .before .before .before .before .before .before .before .before .before .args .n)
+      (c .before .before .before .before .before .before .before .before .before .args .desk .now)
+      (c .before .before .before .before .before .before .before .before .before .args .st .x)
+      (c .before .before .before .before .before .before .before .before .before .args .st .place)
+      (c .before .before .before .before .before .before .before .before .before .pre .0)
+      (c .before .before .before .before .before .before .before .before .before .pre .1)
+      (c .before .before .before .before .before .before .before .before .before .pre .5) (c .before .before .before .before .before .word .result)
       (c .before .before .look .result .op) (c .before .before .look .result .left) (c .before .before .look .result .y) (c .before .before .look .result .z)
-      (c .before .before .before .before .word .ensures .0) (c .before .before .before .if1 .left) (c .before .before .look .ensures) (c .before .if2 .taken) (c .if3 .taken),
+      (c .before .before .before .before .before .word .ensures .0) (c .before .before .before .before .if1 .left) (c .before .before .look .ensures) (c .before .if2 .taken) (c .if3 .taken),
   omega arith,
   refl,
 )
 
 returns-3 : tie.Need-returns-3
 returns-3 c = (
-  risen-right (c .before .before .before .before .before .before .before .before .before .before .args .t .now)
-      (c .before .before .before .before .before .before .before .before .before .before .args .s .now)
-      (c .before .before .before .before .before .before .before .before .before .before .args .cells .now)
-      (c .before .before .before .before .before .before .before .before .before .before .args .n)
-      (c .before .before .before .before .before .before .before .before .before .before .args .desk .now)
-      (c .before .before .before .before .before .before .before .before .before .before .args .st .x)
-      (c .before .before .before .before .before .before .before .before .before .before .args .st .place)
-      (c .before .before .before .before .before .before .before .before .before .before .pre .0)
-      (c .before .before .before .before .before .before .before .before .before .before .pre .1)
-      (c .before .before .before .before .before .before .before .before .before .before .pre .5) (c .before .before .before .before .word .result)
+  risen-right (c .before .before .before .before .before .before .before .before .before .args .t .now)
+      (c .before .before .before .before .before .before .before .before .before .args .s .now)
+      (c .before .before .before .before .before .before .before .before .before .args .cells .now)
+      (c .before .before .before .before .before .before .before .before .before .args .n)
+      (c .before .before .before .before .before .before .before .before .before .args .desk .now)
+      (c .before .before .before .before .before .before .before .before .before .args .st .x)
+      (c .before .before .before .before .before .before .before .before .before .args .st .place)
+      (c .before .before .before .before .before .before .before .before .before .pre .0)
+      (c .before .before .before .before .before .before .before .before .before .pre .1)
+      (c .before .before .before .before .before .before .before .before .before .pre .5) (c .before .before .before .before .before .word .result)
       (c .before .before .look .result .op) (c .before .before .look .result .left) (c .before .before .look .result .y) (c .before .before .look .result .z)
-      (c .before .before .before .before .word .ensures .0) (c .before .before .before .if1 .left) (c .before .before .look .ensures) (c .before .if2 .taken) (c .if3 .left),
+      (c .before .before .before .before .before .word .ensures .0) (c .before .before .before .before .if1 .left) (c .before .before .look .ensures) (c .before .if2 .taken) (c .if3 .left),
   omega arith,
   refl,
 )
 
 further-requires : tie.Need-further-requires
 further-requires c κs = (
+  omega (
+    arith,
+    c .before .before .before .before .before .before .before .before .before .pre .2,
+    c .before .before .before .before .before .before .before .before .before .pre .3,
+    c .before .before .before .before .before .before .before .before .before .pre .4,
+    c .before .before .before .before .before .before .before .before .before .pre .5,
+  ),
+  c .before .before .before .before .before .before .before .before .before .pre .6,
+)
+
+returns-4 : tie.Need-returns-4
+returns-4 c = risen-rounds (c .before .before .before .before .before .before .before .before .before .before .args .t .now)
+    (c .before .before .before .before .before .before .before .before .before .before .args .s .now)
+    (c .before .before .before .before .before .before .before .before .before .before .args .cells .now)
+    (c .before .before .before .before .before .before .before .before .before .before .args .n)
+    (c .before .before .before .before .before .before .before .before .before .before .args .desk .now)
+    (c .before .before .before .before .before .before .before .before .before .before .args .st .x)
+    (c .before .before .before .before .before .before .before .before .before .before .args .st .place)
+    (c .before .before .before .before .before .before .before .before .before .before .pre .0)
+    (c .before .before .before .before .before .before .before .before .before .before .pre .1)
+    (c .before .before .before .before .before .before .before .before .before .before .pre .5) (c .before .before .before .before .before .before .word .result)
+    (c .before .before .before .look .result .op) (c .before .before .before .look .result .left) (c .before .before .before .look .result .y)
+    (c .before .before .before .look .result .z) (c .before .before .before .before .before .before .word .ensures .0) (c .before .before .before .before .before .if1 .left)
+    (c .before .before .before .look .ensures) (c .further .result .kind) (c .further .result .x) (c .further .result .place) (inl (c .before .if4 .taken)) (c .further .ensures)
+
+further-requires-2 : tie.Need-further-requires-2
+further-requires-2 c κs = (
   omega (
     arith,
     c .before .before .before .before .before .before .before .before .before .before .pre .2,
@@ -94,8 +121,8 @@ further-requires c κs = (
   c .before .before .before .before .before .before .before .before .before .before .pre .6,
 )
 
-returns-4 : tie.Need-returns-4
-returns-4 c = risen-rounds (c .before .before .before .before .before .before .before .before .before .before .before .args .t .now)
+returns-5 : tie.Need-returns-5
+returns-5 c = risen-rounds (c .before .before .before .before .before .before .before .before .before .before .before .args .t .now)
     (c .before .before .before .before .before .before .before .before .before .before .before .args .s .now)
     (c .before .before .before .before .before .before .before .before .before .before .before .args .cells .now)
     (c .before .before .before .before .before .before .before .before .before .before .before .args .n)
@@ -104,53 +131,26 @@ returns-4 c = risen-rounds (c .before .before .before .before .before .before .b
     (c .before .before .before .before .before .before .before .before .before .before .before .args .st .place)
     (c .before .before .before .before .before .before .before .before .before .before .before .pre .0)
     (c .before .before .before .before .before .before .before .before .before .before .before .pre .1)
-    (c .before .before .before .before .before .before .before .before .before .before .before .pre .5) (c .before .before .before .before .before .word .result)
-    (c .before .before .before .look .result .op) (c .before .before .before .look .result .left) (c .before .before .before .look .result .y)
-    (c .before .before .before .look .result .z) (c .before .before .before .before .before .word .ensures .0) (c .before .before .before .before .if1 .left)
-    (c .before .before .before .look .ensures) (c .further .result .kind) (c .further .result .x) (c .further .result .place) (inl (c .before .if4 .taken)) (c .further .ensures)
-
-further-requires-2 : tie.Need-further-requires-2
-further-requires-2 c κs = (
-  omega (
-    arith,
-    c .before .before .before .before .before .before .before .before .before .before .before .pre .2,
-    c .before .before .before .before .before .before .before .before .before .before .before .pre .3,
-    c .before .before .before .before .before .before .before .before .before .before .before .pre .4,
-    c .before .before .before .before .before .before .before .before .before .before .before .pre .5,
-  ),
-  c .before .before .before .before .before .before .before .before .before .before .before .pre .6,
-)
-
-returns-5 : tie.Need-returns-5
-returns-5 c = risen-rounds (c .before .before .before .before .before .before .before .before .before .before .before .before .args .t .now)
-    (c .before .before .before .before .before .before .before .before .before .before .before .before .args .s .now)
-    (c .before .before .before .before .before .before .before .before .before .before .before .before .args .cells .now)
-    (c .before .before .before .before .before .before .before .before .before .before .before .before .args .n)
-    (c .before .before .before .before .before .before .before .before .before .before .before .before .args .desk .now)
-    (c .before .before .before .before .before .before .before .before .before .before .before .before .args .st .x)
-    (c .before .before .before .before .before .before .before .before .before .before .before .before .args .st .place)
-    (c .before .before .before .before .before .before .before .before .before .before .before .before .pre .0)
-    (c .before .before .before .before .before .before .before .before .before .before .before .before .pre .1)
-    (c .before .before .before .before .before .before .before .before .before .before .before .before .pre .5) (c .before .before .before .before .before .before .word .result)
+    (c .before .before .before .before .before .before .before .before .before .before .before .pre .5) (c .before .before .before .before .before .before .before .word .result)
     (c .before .before .before .before .look .result .op) (c .before .before .before .before .look .result .left) (c .before .before .before .before .look .result .y)
-    (c .before .before .before .before .look .result .z) (c .before .before .before .before .before .before .word .ensures .0)
-    (c .before .before .before .before .before .if1 .left) (c .before .before .before .before .look .ensures) (c .further2 .result .kind) (c .further2 .result .x)
+    (c .before .before .before .before .look .result .z) (c .before .before .before .before .before .before .before .word .ensures .0)
+    (c .before .before .before .before .before .before .if1 .left) (c .before .before .before .before .look .ensures) (c .further2 .result .kind) (c .further2 .result .x)
     (c .further2 .result .place) (inr (c .before .if5 .taken)) (c .further2 .ensures)
 
 returns-6 : tie.Need-returns-6
 returns-6 c = (
-  risen-other (c .before .before .before .before .before .before .before .before .before .before .before .args .t .now)
-      (c .before .before .before .before .before .before .before .before .before .before .before .args .s .now)
-      (c .before .before .before .before .before .before .before .before .before .before .before .args .cells .now)
-      (c .before .before .before .before .before .before .before .before .before .before .before .args .n)
-      (c .before .before .before .before .before .before .before .before .before .before .before .args .desk .now)
-      (c .before .before .before .before .before .before .before .before .before .before .before .args .st .x)
-      (c .before .before .before .before .before .before .before .before .before .before .before .args .st .place)
-      (c .before .before .before .before .before .before .before .before .before .before .before .pre .0)
-      (c .before .before .before .before .before .before .before .before .before .before .before .pre .1)
-      (c .before .before .before .before .before .before .before .before .before .before .before .pre .5) (c .before .before .before .before .before .word .result)
+  risen-other (c .before .before .before .before .before .before .before .before .before .before .args .t .now)
+      (c .before .before .before .before .before .before .before .before .before .before .args .s .now)
+      (c .before .before .before .before .before .before .before .before .before .before .args .cells .now)
+      (c .before .before .before .before .before .before .before .before .before .before .args .n)
+      (c .before .before .before .before .before .before .before .before .before .before .args .desk .now)
+      (c .before .before .before .before .before .before .before .before .before .before .args .st .x)
+      (c .before .before .before .before .before .before .before .before .before .before .args .st .place)
+      (c .before .before .before .before .before .before .before .before .before .before .pre .0)
+      (c .before .before .before .before .before .before .before .before .before .before .pre .1)
+      (c .before .before .before .before .before .before .before .before .before .before .pre .5) (c .before .before .before .before .before .before .word .result)
       (c .before .before .before .look .result .op) (c .before .before .before .look .result .left) (c .before .before .before .look .result .y)
-      (c .before .before .before .look .result .z) (c .before .before .before .before .before .word .ensures .0) (c .before .before .before .before .if1 .left)
+      (c .before .before .before .look .result .z) (c .before .before .before .before .before .before .word .ensures .0) (c .before .before .before .before .before .if1 .left)
       (c .before .before .before .look .ensures) (c .before .before .if2 .left) (c .before .if4 .left) (c .if5 .left),
   omega arith,
   refl,

@@ -11,22 +11,22 @@ use Rattle.match_eval.proofs.round.Reads as round-reads
 
 round-requires : tie.Need-round-requires
 round-requires c κs = (
-  omega (arith, c .before .before .before .before .pre .0),
-  knows-from (c .before .before .before .before .args .t .now)
-      (c .before .before .before .before .args .s .now) (c .before .before .before .before .args .cells .now) (c .before .before .before .before .args .mem .now)
-      (c .before .before .before .before .args .n) 0 0 0 (c .before .before .before .before .args .p) (omega arith) (omega arith) (c .before .before .before .before .pre .1),
+  omega (arith, c .before .before .pre .0),
+  knows-from (c .before .before .args .t .now)
+      (c .before .before .args .s .now) (c .before .before .args .cells .now) (c .before .before .args .mem .now)
+      (c .before .before .args .n) 0 0 0 (c .before .before .args .p) (omega arith) (omega arith) (c .before .before .pre .1),
 )
 
 returns : tie.Need-returns
-returns c = pick-fails (c .before .before .before .before .before .before .args .t .now) (c .before .before .before .before .before .before .args .s .now)
-    (c .before .before .before .before .before .before .args .cells .now) (c .before .before .before .before .before .before .args .n)
-    (c .before .before .before .before .before .before .args .x) (c .before .before .before .before .before .before .args .p) (c .before .round .result) (c .before .round .ensures) (c .if1 .taken)
+returns c = pick-fails (c .before .before .before .before .args .t .now) (c .before .before .before .before .args .s .now)
+    (c .before .before .before .before .args .cells .now) (c .before .before .before .before .args .n)
+    (c .before .before .before .before .args .x) (c .before .before .before .before .args .p) (c .before .round .result) (c .before .round .ensures) (c .if1 .taken)
 
 returns-2 : tie.Need-returns-2
-returns-2 c = pick-whole (c .before .before .before .before .before .before .args .t .now) (c .before .before .before .before .before .before .args .s .now)
-    (c .before .before .before .before .before .before .args .cells .now) (c .before .before .before .before .before .before .args .n)
-    (c .before .before .before .before .before .before .args .x) (c .before .before .before .before .before .before .args .p) (c .before .round .result) (c .before .round .ensures)
-    (c .if1 .left) (omega (arith, c .before .before .before .before .before .before .pre .0))
+returns-2 c = pick-whole (c .before .before .before .before .args .t .now) (c .before .before .before .before .args .s .now)
+    (c .before .before .before .before .args .cells .now) (c .before .before .before .before .args .n)
+    (c .before .before .before .before .args .x) (c .before .before .before .before .args .p) (c .before .round .result) (c .before .round .ensures)
+    (c .if1 .left) (omega (arith, c .before .before .before .before .pre .0))
 
 pub whole-spec : {M : Type 1} → statement M
 whole-spec = tie.close (tie.spec round-requires returns returns-2)

@@ -39,10 +39,10 @@ slice-aggregate-rows-in c = search needs
 rows-in-requires : tie.Need-rows-in-requires
 rows-in-requires c κs = (
   (
-    c .before .before .before .before .before .before .before .before .before .before .before .before .before .before .symbols .ensures .0,
+    c .before .before .before .before .before .before .before .before .before .before .before .before .before .before .before .symbols .ensures .0,
     omega (
       arith,
-      c .before .before .before .before .before .before .before .before .before .before .before .before .before .before .symbols .ensures .0,
+      c .before .before .before .before .before .before .before .before .before .before .before .before .before .before .before .symbols .ensures .0,
       c .before .before .before .before .before .before .before .before .before .before .before .before .before .before .before .before .before .before .before .pre .0 .0,
     ),
     c .before .before .before .before .before .before .before .before .order-front .ensures .entries
@@ -55,11 +55,8 @@ rows-in-requires c κs = (
 same-length : tie.Need-same-length
 same-length c = search needs
 
-same-length-2 : tie.Need-same-length-2
-same-length-2 c = search needs
-
 returns : tie.Need-returns
-returns c = (fills (c .before .before .before .before .before .before .before .before .before .before .before .before .before .before .before .before .before .before .before .before .before .before .before .before .args .t .now) (c .before .before .before .before .before .before .before .before .before .before .before .before .before .before .before .before .before .before .before .before .before .before .before .before .args .s .now) (c .before .before .before .before .before .before .before .before .before .before .before .before .before .before .before .before .before .before .before .before .before .before .before .before .args .cells .now) _ _ _ (c .before .before .before .before .before .before .before .before .before .before .before .before .before .before .before .before .before .before .before .symbols .result) (c .before .before .before .before .before .before .before .before .before .before .before .before .before .before .before .before .before .before .before .symbols .ensures .0) (c .before .before .before .before .before .before .before .before .before .before .before .before .before .order-front .ensures) (c .before .before .before .before .rows-in .ensures .0), knows-count (c .before .before .before .before .before .before .before .before .before .before .before .before .before .before .before .before .before .before .before .before .before .before .before .before .args .t .now) (c .before .before .before .before .before .before .before .before .before .before .before .before .before .before .before .before .before .before .before .before .before .before .before .before .args .s .now) _ _ _ _ (c .before .before .before .before .before .before .before .before .before .before .before .before .before .before .before .before .before .before .before .symbols .ensures .0) (c .before .before .before .before .rows-in .ensures .1))
+returns c = (fills (c .before .before .before .before .before .before .before .before .before .before .before .before .before .before .before .before .before .before .before .before .before .before .args .t .now) (c .before .before .before .before .before .before .before .before .before .before .before .before .before .before .before .before .before .before .before .before .before .before .args .s .now) (c .before .before .before .before .before .before .before .before .before .before .before .before .before .before .before .before .before .before .before .before .before .before .args .cells .now) _ _ _ (c .before .before .before .before .before .before .before .before .before .before .before .before .before .before .before .before .before .before .symbols .result) (c .before .before .before .before .before .before .before .before .before .before .before .before .before .before .before .before .before .before .symbols .ensures .0) (c .before .before .before .before .before .before .before .before .before .before .before .order-front .ensures) (c .before .before .rows-in .ensures .0), knows-count (c .before .before .before .before .before .before .before .before .before .before .before .before .before .before .before .before .before .before .before .before .before .before .args .t .now) (c .before .before .before .before .before .before .before .before .before .before .before .before .before .before .before .before .before .before .before .before .before .before .args .s .now) _ _ _ _ (c .before .before .before .before .before .before .before .before .before .before .before .before .before .before .before .before .before .before .symbols .ensures .0) (c .before .before .rows-in .ensures .1))
 
 pub fill-spec : {M : Type 1} → statement M
 fill-spec =
@@ -75,5 +72,4 @@ fill-spec =
     slice-aggregate-rows-in
     rows-in-requires
     same-length
-    same-length-2
     returns)

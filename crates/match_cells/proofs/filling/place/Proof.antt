@@ -38,46 +38,46 @@ byte-at-requires : tie.Need-byte-at-requires Inv-loop μ-loop
 byte-at-requires c κs = search needs
 
 mul-preset : tie.Need-mul-preset Inv-loop μ-loop
-mul-preset c = let h : (c .before .before .before .before .before .before .before .args .p) * c .before .before .before .before .before .before .before .args .n ≤ 65535 * 64 =
+mul-preset c = let h : (c .before .before .before .before .before .args .p) * c .before .before .before .before .before .args .n ≤ 65535 * 64 =
     mul-le-mul {n₂ = 65535} {m₂ = 64} (omega (
       arith,
-      c .before .before .before .before .before .before .before .pre .0 .3,
-      c .before .before .before .before .before .before .before .pre .0 .4,
-    )) (omega (arith, c .before .before .before .before .before .before .before .pre .0 .1)) in omega (arith, h)
+      c .before .before .before .before .before .pre .0 .3,
+      c .before .before .before .before .before .pre .0 .4,
+    )) (omega (arith, c .before .before .before .before .before .pre .0 .1)) in omega (arith, h)
 
 preset-requires : tie.Need-preset-requires Inv-loop μ-loop
-preset-requires c κs = let h : (c .before .before .before .before .before .before .before .args .p) * c .before .before .before .before .before .before .before .args .n ≤ 65535 *
+preset-requires c κs = let h : (c .before .before .before .before .before .args .p) * c .before .before .before .before .before .args .n ≤ 65535 *
     64 = mul-le-mul {n₂ = 65535} {m₂ = 64} (omega (
       arith,
-      c .before .before .before .before .before .before .before .pre .0 .3,
-      c .before .before .before .before .before .before .before .pre .0 .4,
-    )) (omega (arith, c .before .before .before .before .before .before .before .pre .0 .1)) in
-    (c .before .before .before .before .before .before .before .pre .0 .1, omega (arith, h))
+      c .before .before .before .before .before .pre .0 .3,
+      c .before .before .before .before .before .pre .0 .4,
+    )) (omega (arith, c .before .before .before .before .before .pre .0 .1)) in
+    (c .before .before .before .before .before .pre .0 .1, omega (arith, h))
 
 loop-holds : tie.Need-loop-holds Inv-loop μ-loop
 loop-holds c = (
   omega arith,
   refl,
-  row-start (c .before .before .before .before .before .before .before .before .before .before .args .t .now)
-      (c .before .before .before .before .before .before .before .before .before .before .args .s .now)
-      (c .before .before .before .before .before .before .before .before .before .before .args .p)
-      (c .before .before .before .before .before .before .before .before .before .before .args .order .now)
-      (c .before .before .before .before .before .before .before .before .before .before .args .n) _,
+  row-start (c .before .before .before .before .before .before .before .before .args .t .now)
+      (c .before .before .before .before .before .before .before .before .args .s .now)
+      (c .before .before .before .before .before .before .before .before .args .p)
+      (c .before .before .before .before .before .before .before .before .args .order .now)
+      (c .before .before .before .before .before .before .before .before .args .n) _,
   subst
-      (λ (v : List ℕ). Knows (c .before .before .before .before .before .before .before .before .before .before .args .t .now)
-      (c .before .before .before .before .before .before .before .before .before .before .args .s .now) v
-      (c .before .before .before .before .before .before .before .before .before .before .args .n)
-      (c .before .before .before .before .before .before .before .before .before .before .args .mem .now)
-      (c .before .before .before .before .before .before .before .before .before .before .args .p + 1)
-      (c .before .before .before .before .before .before .before .before .before .before .args .p)) (sym (c .before .before .preset .ensures .0))
-      (knows-preset (c .before .before .before .before .before .before .before .before .before .before .args .t .now)
-      (c .before .before .before .before .before .before .before .before .before .before .args .s .now)
-      (c .before .before .before .before .before .before .before .before .before .before .args .cells .now)
-      (c .before .before .before .before .before .before .before .before .before .before .args .mem .now)
-      (c .before .before .before .before .before .before .before .before .before .before .args .n)
-      (c .before .before .before .before .before .before .before .before .before .before .args .p) (c .before .before .before .before .byte-at .result)
-      (c .before .before .before .before .byte-at .ensures .0) (c .before .before .before .before .before .before .before .before .before .before .pre .0 .4)
-      (c .before .before .before .before .before .before .before .before .before .before .pre .2) (c .before .before .before .before .before .before .before .before .before .before .pre .1)),
+      (λ (v : List ℕ). Knows (c .before .before .before .before .before .before .before .before .args .t .now)
+      (c .before .before .before .before .before .before .before .before .args .s .now) v
+      (c .before .before .before .before .before .before .before .before .args .n)
+      (c .before .before .before .before .before .before .before .before .args .mem .now)
+      (c .before .before .before .before .before .before .before .before .args .p + 1)
+      (c .before .before .before .before .before .before .before .before .args .p)) (sym (c .before .before .preset .ensures .0))
+      (knows-preset (c .before .before .before .before .before .before .before .before .args .t .now)
+      (c .before .before .before .before .before .before .before .before .args .s .now)
+      (c .before .before .before .before .before .before .before .before .args .cells .now)
+      (c .before .before .before .before .before .before .before .before .args .mem .now)
+      (c .before .before .before .before .before .before .before .before .args .n)
+      (c .before .before .before .before .before .before .before .before .args .p) (c .before .before .before .before .byte-at .result)
+      (c .before .before .before .before .byte-at .ensures .0) (c .before .before .before .before .before .before .before .before .pre .0 .4)
+      (c .before .before .before .before .before .before .before .before .pre .2) (c .before .before .before .before .before .before .before .before .pre .1)),
 )
 
 word-requires : tie.Need-word-requires Inv-loop μ-loop
@@ -87,21 +87,21 @@ has-requires : tie.Need-has-requires Inv-loop μ-loop
 has-requires c κs = omega (
   arith,
   c .word .ensures .0,
-  c .before .before .before .before .before .before .before .before .before .before .before .before .before .pre .0 .2
+  c .before .before .before .before .before .before .before .before .before .before .before .pre .0 .2
       (c .before .before .loop .j) (c .before .loop-test .taken),
-  c .before .before .before .before .before .before .before .before .before .before .before .before .before .pre .0 .1,
+  c .before .before .before .before .before .before .before .before .before .before .before .pre .0 .1,
 )
 
 store-requires : tie.Need-store-requires Inv-loop μ-loop
 store-requires c κs = (
   (
-    c .before .before .before .before .before .before .before .before .before .before .before .before .before .before .before .before .pre .0 .0,
-    c .before .before .before .before .before .before .before .before .before .before .before .before .before .before .before .before .pre .0 .1,
+    c .before .before .before .before .before .before .before .before .before .before .before .before .before .before .pre .0 .0,
+    c .before .before .before .before .before .before .before .before .before .before .before .before .before .before .pre .0 .1,
     subst
-        (λ (x : ℕ). x < c .before .before .before .before .before .before .before .before .before .before .before .before .before .before .before .before .args .n)
-        (sym (c .before .before .before .word .ensures .0)) (c .before .before .before .before .before .before .before .before .before .before .before .before .before .before .before .before .pre .0 .2 (c .before .before .before .before .before .loop .j) (c .before .before .before .before .loop-test .taken)),
-    c .before .before .before .before .before .before .before .before .before .before .before .before .before .before .before .before .pre .0 .3,
-    c .before .before .before .before .before .before .before .before .before .before .before .before .before .before .before .before .pre .0 .4,
+        (λ (x : ℕ). x < c .before .before .before .before .before .before .before .before .before .before .before .before .before .before .args .n)
+        (sym (c .before .before .before .word .ensures .0)) (c .before .before .before .before .before .before .before .before .before .before .before .before .before .before .pre .0 .2 (c .before .before .before .before .before .loop .j) (c .before .before .before .before .loop-test .taken)),
+    c .before .before .before .before .before .before .before .before .before .before .before .before .before .before .pre .0 .3,
+    c .before .before .before .before .before .before .before .before .before .before .before .before .before .before .pre .0 .4,
   ),
   c .before .before .before .before .before .loop .inv .3,
 )
@@ -110,7 +110,7 @@ add-j : tie.Need-add-j Inv-loop μ-loop
 add-j c = omega (
   arith,
   c .before .before .before .loop-test .taken,
-  c .before .before .before .before .before .before .before .before .before .before .before .before .before .before .before .pre .0 .1,
+  c .before .before .before .before .before .before .before .before .before .before .before .before .before .pre .0 .1,
 )
 
 loop-less : tie.Need-loop-less Inv-loop μ-loop
@@ -122,66 +122,66 @@ loop-again c =
     (λ w. (
       omega (arith, c .before .before .before .loop-test .taken),
       ap length (w .5) ∙ w .2 .kept .1 .1 .0 ∙ c .before .before .before .before .loop .inv .1,
-      row-more (c .before .before .before .before .before .before .before .before .before .before .before .before .before .before .before .args .t .now)
-          (c .before .before .before .before .before .before .before .before .before .before .before .before .before .before .before .args .s .now)
-          (c .before .before .before .before .before .before .before .before .before .before .before .before .before .before .before .args .p)
-          (c .before .before .before .before .before .before .before .before .before .before .before .before .before .before .before .args .order .now)
-          (c .before .before .before .before .loop .j) (c .before .before .before .before .before .before .before .before .before .before .before .before .before .before .before .args .n) (c .before .before .before .before .loop .cells) _ (c .before .before .before .loop-test .taken)
+      row-more (c .before .before .before .before .before .before .before .before .before .before .before .before .before .args .t .now)
+          (c .before .before .before .before .before .before .before .before .before .before .before .before .before .args .s .now)
+          (c .before .before .before .before .before .before .before .before .before .before .before .before .before .args .p)
+          (c .before .before .before .before .before .before .before .before .before .before .before .before .before .args .order .now)
+          (c .before .before .before .before .loop .j) (c .before .before .before .before .before .before .before .before .before .before .before .before .before .args .n) (c .before .before .before .before .loop .cells) _ (c .before .before .before .loop-test .taken)
           (w .5 ∙ w .2 .ensures .0 ∙ ap (λ (x : ℕ). set (c .before .before .before .before .loop .cells)
-          (c .before .before .before .before .before .before .before .before .before .before .before .before .before .before .before .args .p * length
-          (bodiesOf (c .before .before .before .before .before .before .before .before .before .before .before .before .before .before .before .args .t .now)) + x)
-          (bodyTakes (bodiesOf (c .before .before .before .before .before .before .before .before .before .before .before .before .before .before .before .args .t .now))
-          (c .before .before .before .before .before .before .before .before .before .before .before .before .before .before .before .args .s .now)
+          (c .before .before .before .before .before .before .before .before .before .before .before .before .before .args .p * length
+          (bodiesOf (c .before .before .before .before .before .before .before .before .before .before .before .before .before .args .t .now)) + x)
+          (bodyTakes (bodiesOf (c .before .before .before .before .before .before .before .before .before .before .before .before .before .args .t .now))
+          (c .before .before .before .before .before .before .before .before .before .before .before .before .before .args .s .now)
           (c .before .before .before .before .loop .cells) x
-          (c .before .before .before .before .before .before .before .before .before .before .before .before .before .before .before .args .p))) (c .before .before .word .ensures .0))
+          (c .before .before .before .before .before .before .before .before .before .before .before .before .before .args .p))) (c .before .before .word .ensures .0))
           ∙ c .before .before .before .before .loop .inv .2,
-      subst (λ (v : List ℕ). Knows (c .before .before .before .before .before .before .before .before .before .before .before .before .before .before .before .args .t .now)
-          (c .before .before .before .before .before .before .before .before .before .before .before .before .before .before .before .args .s .now) v
-          (c .before .before .before .before .before .before .before .before .before .before .before .before .before .before .before .args .n)
-          (c .before .before .before .before .before .before .before .before .before .before .before .before .before .before .before .args .mem .now)
-          (c .before .before .before .before .before .before .before .before .before .before .before .before .before .before .before .args .p + 1)
-          (c .before .before .before .before .before .before .before .before .before .before .before .before .before .before .before .args .p)) (sym (w .5)) (w .2 .ensures .1),
+      subst (λ (v : List ℕ). Knows (c .before .before .before .before .before .before .before .before .before .before .before .before .before .args .t .now)
+          (c .before .before .before .before .before .before .before .before .before .before .before .before .before .args .s .now) v
+          (c .before .before .before .before .before .before .before .before .before .before .before .before .before .args .n)
+          (c .before .before .before .before .before .before .before .before .before .before .before .before .before .args .mem .now)
+          (c .before .before .before .before .before .before .before .before .before .before .before .before .before .args .p + 1)
+          (c .before .before .before .before .before .before .before .before .before .before .before .before .before .args .p)) (sym (w .5)) (w .2 .ensures .1),
     ))
     (λ w. (
       omega (arith, c .before .before .before .loop-test .taken),
       ap length (w .1) ∙ c .before .before .before .before .loop .inv .1,
-      row-more (c .before .before .before .before .before .before .before .before .before .before .before .before .before .before .before .args .t .now)
-          (c .before .before .before .before .before .before .before .before .before .before .before .before .before .before .before .args .s .now)
-          (c .before .before .before .before .before .before .before .before .before .before .before .before .before .before .before .args .p)
-          (c .before .before .before .before .before .before .before .before .before .before .before .before .before .before .before .args .order .now)
-          (c .before .before .before .before .loop .j) (c .before .before .before .before .before .before .before .before .before .before .before .before .before .before .before .args .n) (c .before .before .before .before .loop .cells) _ (c .before .before .before .loop-test .taken)
-          (w .1 ∙ said-stays (c .before .before .before .before .before .before .before .before .before .before .before .before .before .before .before .args .t .now)
-          (c .before .before .before .before .before .before .before .before .before .before .before .before .before .before .before .args .s .now)
+      row-more (c .before .before .before .before .before .before .before .before .before .before .before .before .before .args .t .now)
+          (c .before .before .before .before .before .before .before .before .before .before .before .before .before .args .s .now)
+          (c .before .before .before .before .before .before .before .before .before .before .before .before .before .args .p)
+          (c .before .before .before .before .before .before .before .before .before .before .before .before .before .args .order .now)
+          (c .before .before .before .before .loop .j) (c .before .before .before .before .before .before .before .before .before .before .before .before .before .args .n) (c .before .before .before .before .loop .cells) _ (c .before .before .before .loop-test .taken)
+          (w .1 ∙ said-stays (c .before .before .before .before .before .before .before .before .before .before .before .before .before .args .t .now)
+          (c .before .before .before .before .before .before .before .before .before .before .before .before .before .args .s .now)
           (c .before .before .before .before .loop .cells)
-          (c .before .before .before .before .before .before .before .before .before .before .before .before .before .before .before .args .mem .now)
-          (c .before .before .before .before .before .before .before .before .before .before .before .before .before .before .before .args .n)
-          (getD (c .before .before .before .before .before .before .before .before .before .before .before .before .before .before .before .args .order .now)
+          (c .before .before .before .before .before .before .before .before .before .before .before .before .before .args .mem .now)
+          (c .before .before .before .before .before .before .before .before .before .before .before .before .before .args .n)
+          (getD (c .before .before .before .before .before .before .before .before .before .before .before .before .before .args .order .now)
           (c .before .before .before .before .loop .j) 0)
-          (c .before .before .before .before .before .before .before .before .before .before .before .before .before .before .before .args .p)
-          (c .before .before .before .before .before .before .before .before .before .before .before .before .before .before .before .args .p + 1)
-          (c .before .before .before .before .before .before .before .before .before .before .before .before .before .before .before .pre .0 .0)
-          (c .before .before .before .before .before .before .before .before .before .before .before .before .before .before .before .pre .0 .2
+          (c .before .before .before .before .before .before .before .before .before .before .before .before .before .args .p)
+          (c .before .before .before .before .before .before .before .before .before .before .before .before .before .args .p + 1)
+          (c .before .before .before .before .before .before .before .before .before .before .before .before .before .pre .0 .0)
+          (c .before .before .before .before .before .before .before .before .before .before .before .before .before .pre .0 .2
           (c .before .before .before .before .loop .j) (c .before .before .before .loop-test .taken))
-          (c .before .before .before .before .before .before .before .before .before .before .before .before .before .before .before .pre .0 .4)
+          (c .before .before .before .before .before .before .before .before .before .before .before .before .before .pre .0 .4)
           (λ q. c .before .before .before .before .before .before .before .preset .ensures .1
-          (getD (c .before .before .before .before .before .before .before .before .before .before .before .before .before .before .before .args .order .now)
+          (getD (c .before .before .before .before .before .before .before .before .before .before .before .before .before .args .order .now)
           (c .before .before .before .before .loop .j) 0) (omega arith)
-          (c .before .before .before .before .before .before .before .before .before .before .before .before .before .before .before .pre .0 .2
+          (c .before .before .before .before .before .before .before .before .before .before .before .before .before .pre .0 .2
           (c .before .before .before .before .loop .j) (c .before .before .before .loop-test .taken))
           (ap (holds (c .before .before .before .before .before .before .before .preset .result)) (sym (c .before .before .word .ensures .0)) ∙ sym
           (c .before .has .ensures) ∙ w .0 .left) (ap (λ (b : ℕ). wordOf
-          (c .before .before .before .before .before .before .before .before .before .before .before .before .before .before .before .args .t .now)
-          (c .before .before .before .before .before .before .before .before .before .before .before .before .before .before .before .args .mem .now) b
-          (getD (c .before .before .before .before .before .before .before .before .before .before .before .before .before .before .before .args .order .now)
+          (c .before .before .before .before .before .before .before .before .before .before .before .before .before .args .t .now)
+          (c .before .before .before .before .before .before .before .before .before .before .before .before .before .args .mem .now) b
+          (getD (c .before .before .before .before .before .before .before .before .before .before .before .before .before .args .order .now)
           (c .before .before .before .before .loop .j) 0)) (c .before .before .before .before .before .before .before .before .before .byte-at .ensures .0) ∙ q))
           (c .before .before .before .before .loop .inv .3))
           ∙ c .before .before .before .before .loop .inv .2,
-      subst (λ (v : List ℕ). Knows (c .before .before .before .before .before .before .before .before .before .before .before .before .before .before .before .args .t .now)
-          (c .before .before .before .before .before .before .before .before .before .before .before .before .before .before .before .args .s .now) v
-          (c .before .before .before .before .before .before .before .before .before .before .before .before .before .before .before .args .n)
-          (c .before .before .before .before .before .before .before .before .before .before .before .before .before .before .before .args .mem .now)
-          (c .before .before .before .before .before .before .before .before .before .before .before .before .before .before .before .args .p + 1)
-          (c .before .before .before .before .before .before .before .before .before .before .before .before .before .before .before .args .p)) (sym (w .1))
+      subst (λ (v : List ℕ). Knows (c .before .before .before .before .before .before .before .before .before .before .before .before .before .args .t .now)
+          (c .before .before .before .before .before .before .before .before .before .before .before .before .before .args .s .now) v
+          (c .before .before .before .before .before .before .before .before .before .before .before .before .before .args .n)
+          (c .before .before .before .before .before .before .before .before .before .before .before .before .before .args .mem .now)
+          (c .before .before .before .before .before .before .before .before .before .before .before .before .before .args .p + 1)
+          (c .before .before .before .before .before .before .before .before .before .before .before .before .before .args .p)) (sym (w .1))
           (c .before .before .before .before .loop .inv .3),
     ))
     (c .if1 .came)
@@ -191,24 +191,24 @@ same-length c = c .before .loop .inv .1 ∙ c .before .before .before .before .p
 
 returns : tie.Need-returns Inv-loop μ-loop
 returns c = (
-  row-end (c .before .before .before .before .before .before .before .before .before .before .before .before .args .t .now)
-      (c .before .before .before .before .before .before .before .before .before .before .before .before .args .s .now)
-      (c .before .before .before .before .before .before .before .before .before .before .before .before .args .p)
-      (c .before .before .before .before .before .before .before .before .before .before .before .before .args .order .now) (c .before .loop .j)
-      (c .before .before .before .before .before .before .before .before .before .before .before .before .args .n) (c .before .loop .cells)
+  row-end (c .before .before .before .before .before .before .before .before .before .before .args .t .now)
+      (c .before .before .before .before .before .before .before .before .before .before .args .s .now)
+      (c .before .before .before .before .before .before .before .before .before .before .args .p)
+      (c .before .before .before .before .before .before .before .before .before .before .args .order .now) (c .before .loop .j)
+      (c .before .before .before .before .before .before .before .before .before .before .args .n) (c .before .loop .cells)
       (omega (arith, c .loop-test .left)) ∙ c .before .loop .inv .2 ∙ ap
-      (rowOf (bodiesOf (c .before .before .before .before .before .before .before .before .before .before .before .before .args .t .now))
-      (c .before .before .before .before .before .before .before .before .before .before .before .before .args .s .now)
-      (c .before .before .before .before .before .before .before .before .before .before .before .before .args .p)
-      (wordsFrom (c .before .before .before .before .before .before .before .before .before .before .before .before .args .order .now) 0
-      (c .before .before .before .before .before .before .before .before .before .before .before .before .args .n)))
+      (rowOf (bodiesOf (c .before .before .before .before .before .before .before .before .before .before .args .t .now))
+      (c .before .before .before .before .before .before .before .before .before .before .args .s .now)
+      (c .before .before .before .before .before .before .before .before .before .before .args .p)
+      (wordsFrom (c .before .before .before .before .before .before .before .before .before .before .args .order .now) 0
+      (c .before .before .before .before .before .before .before .before .before .before .args .n)))
       (c .before .before .before .before .preset .ensures .0 ∙ ap
-      (λ (b : ℕ). presetOf (c .before .before .before .before .before .before .before .before .before .before .before .before .args .t .now)
-      (c .before .before .before .before .before .before .before .before .before .before .before .before .args .mem .now) b
-      (c .before .before .before .before .before .before .before .before .before .before .before .before .args .p *
-      c .before .before .before .before .before .before .before .before .before .before .before .before .args .n)
-      (c .before .before .before .before .before .before .before .before .before .before .before .before .args .n)
-      (c .before .before .before .before .before .before .before .before .before .before .before .before .args .cells .now))
+      (λ (b : ℕ). presetOf (c .before .before .before .before .before .before .before .before .before .before .args .t .now)
+      (c .before .before .before .before .before .before .before .before .before .before .args .mem .now) b
+      (c .before .before .before .before .before .before .before .before .before .before .args .p *
+      c .before .before .before .before .before .before .before .before .before .before .args .n)
+      (c .before .before .before .before .before .before .before .before .before .before .args .n)
+      (c .before .before .before .before .before .before .before .before .before .before .args .cells .now))
       (c .before .before .before .before .before .before .byte-at .ensures .0)),
   c .before .loop .inv .3,
 )

@@ -18,17 +18,17 @@ use Rattle.match_cells.proofs.filling.rows.Tie as tie
 use Rattle.match_cells.proofs.filling.rows.Reads as reads
 use Rattle.match_cells.proofs.filling.rows.Lts as lts
 use Rattle.match_cells.proofs.filling.place.Reads as place-reads
-use Rattle.match_cells.proofs.memory.learn_all.Reads as learn-all-reads
+use Rattle.match_rounds.proofs.learn_all.Reads as learn-all-reads
 
 abbrev Inv-loop : tie.InvT-loop
-Inv-loop t s cells₀ mem₀ order n k i₀ cells mem i = (i ≤ k) × (length cells ≡ length cells₀) × (length mem ≡ length mem₀) ×
+Inv-loop t s cells₀ mem₀ order n k i₀ cells mem i = (i ≤ k) × (length cells ≡ length cells₀) ×
     (fillBy t mem₀ (bodiesOf t) s n i (wordsFrom order 0 n) cells ≡ fillBy t mem₀ (bodiesOf t) s n k (wordsFrom order 0 n) cells₀) × Knows t s cells n mem i i × Front mem₀ mem
 
 abbrev μ-loop : tie.MeasureT-loop
 μ-loop t s cells₀ mem₀ order n k i₀ cells mem i = i
 
 loop-holds : tie.Need-loop-holds Inv-loop μ-loop
-loop-holds c = (omega arith, refl, refl, refl, c .before .before .before .before .before .pre .1, λ j l. refl)
+loop-holds c = (omega arith, refl, refl, c .before .before .before .pre .1, λ j l. refl)
 
 sub-i : tie.Need-sub-i Inv-loop μ-loop
 sub-i c = omega (arith, c .loop-test .taken)
@@ -36,105 +36,100 @@ sub-i c = omega (arith, c .loop-test .taken)
 place-requires : tie.Need-place-requires Inv-loop μ-loop
 place-requires c κs = (
   (
-    c .before .before .before .before .before .before .before .before .before .pre .0 .0,
-    c .before .before .before .before .before .before .before .before .before .pre .0 .1,
-    c .before .before .before .before .before .before .before .before .before .pre .0 .2,
-    c .before .before .before .before .before .before .before .before .before .pre .0 .3,
+    c .before .before .before .before .before .before .before .pre .0 .0,
+    c .before .before .before .before .before .before .before .pre .0 .1,
+    c .before .before .before .before .before .before .before .pre .0 .2,
+    c .before .before .before .before .before .before .before .pre .0 .3,
     omega
-        (arith, c .before .before .before .loop .inv .0, c .before .before .loop-test .taken, c .before .before .before .before .before .before .before .before .before .pre .0 .4),
+        (arith, c .before .before .before .loop .inv .0, c .before .before .loop-test .taken, c .before .before .before .before .before .before .before .pre .0 .4),
   ),
-  knows-from (c .before .before .before .before .before .before .before .before .before .args .t .now)
-      (c .before .before .before .before .before .before .before .before .before .args .s .now) (c .before .before .before .loop .cells) (c .before .before .before .loop .mem)
-      (c .before .before .before .before .before .before .before .before .before .args .n) (c .before .before .before .loop .i) (c .before .before .before .loop .i - 1 + 1)
+  knows-from (c .before .before .before .before .before .before .before .args .t .now)
+      (c .before .before .before .before .before .before .before .args .s .now) (c .before .before .before .loop .cells) (c .before .before .before .loop .mem)
+      (c .before .before .before .before .before .before .before .args .n) (c .before .before .before .loop .i) (c .before .before .before .loop .i - 1 + 1)
       (c .before .before .before .loop .i) (c .before .before .before .loop .i - 1 + 1) (omega (arith, c .before .before .loop-test .taken))
-      (omega (arith, c .before .before .loop-test .taken)) (c .before .before .before .loop .inv .4),
+      (omega (arith, c .before .before .loop-test .taken)) (c .before .before .before .loop .inv .3),
   roomy-front
-      (c .before .before .before .before .before .before .before .before .before .args .mem .now) (c .before .before .before .loop .mem)
-      (c .before .before .before .before .before .before .before .before .before .args .s .now) (c .before .before .before .before .before .before .before .before .before .args .n)
-      (length (c .before .before .before .before .before .before .before .before .before .args .cells .now)) (length (c .before .before .before .loop .cells))
-      (c .before .before .before .loop .inv .5) (c .before .before .before .loop .inv .1) (c .before .before .before .before .before .before .before .before .before .pre .2),
+      (c .before .before .before .before .before .before .before .args .mem .now) (c .before .before .before .loop .mem)
+      (c .before .before .before .before .before .before .before .args .s .now) (c .before .before .before .before .before .before .before .args .n)
+      (length (c .before .before .before .before .before .before .before .args .cells .now)) (length (c .before .before .before .loop .cells))
+      (c .before .before .before .loop .inv .4) (c .before .before .before .loop .inv .1) (c .before .before .before .before .before .before .before .pre .2),
 )
 
 learn-all-requires : tie.Need-learn-all-requires Inv-loop μ-loop
 learn-all-requires c κs = (
   omega (
     arith,
-    c .before .before .before .before .before .before .before .before .before .before .before .before .before .before .pre .0 .1,
-    c .before .before .before .before .before .before .before .before .before .before .before .before .before .before .pre .0 .3,
-    c .before .before .before .before .before .before .before .before .before .before .before .before .before .before .pre .0 .4,
+    c .before .before .before .before .before .before .before .before .before .before .before .before .pre .0 .1,
+    c .before .before .before .before .before .before .before .before .before .before .before .before .pre .0 .3,
+    c .before .before .before .before .before .before .before .before .before .before .before .before .pre .0 .4,
     c .before .before .before .before .before .before .before .before .loop .inv .0,
     c .before .before .before .before .before .before .before .loop-test .taken,
   ),
   knows-from
-      (c .before .before .before .before .before .before .before .before .before .before .before .before .before .before .args .t .now)
-      (c .before .before .before .before .before .before .before .before .before .before .before .before .before .before .args .s .now) _
+      (c .before .before .before .before .before .before .before .before .before .before .before .before .args .t .now)
+      (c .before .before .before .before .before .before .before .before .before .before .before .before .args .s .now) _
       (c .before .before .before .before .before .before .before .before .loop .mem)
-      (c .before .before .before .before .before .before .before .before .before .before .before .before .before .before .args .n)
+      (c .before .before .before .before .before .before .before .before .before .before .before .before .args .n)
       (c .before .before .before .before .before .before .before .before .loop .i - 1 + 1) (c .before .before .before .before .before .before .before .before .loop .i - 1)
       (c .before .before .before .before .before .before .before .before .loop .i - 1) (c .before .before .before .before .before .before .before .before .loop .i - 1) (omega arith)
       (omega arith) (c .before .before .before .before .place .ensures .1),
 )
 
 loop-less : tie.Need-loop-less Inv-loop μ-loop
-loop-less c = omega (arith, c .before .before .before .before .before .before .before .before .before .before .loop-test .taken)
+loop-less c = omega (arith, c .before .before .before .before .before .before .before .before .loop-test .taken)
 
 loop-again : tie.Need-loop-again Inv-loop μ-loop
 loop-again c = (
-  omega (arith, c .before .before .before .before .before .before .before .before .before .before .before .loop .inv .0),
-  c .before .before .before .before .before .before .before .place .kept .1 .1 .0 ∙
-      c .before .before .before .before .before .before .before .before .before .before .before .loop .inv .1,
-  c .before .before .learn-all .kept .1 .1 .1 .0 ∙
-      c .before .before .before .before .before .before .before .before .before .before .before .loop .inv .2,
+  omega (arith, c .before .before .before .before .before .before .before .before .before .loop .inv .0),
+  c .before .before .before .before .before .place .kept .1 .1 .0 ∙
+      c .before .before .before .before .before .before .before .before .before .loop .inv .1,
   by-more
-      (c .before .before .before .before .before .before .before .before .before .before .before .before .before .before .before .before .before .args .t .now)
-      (c .before .before .before .before .before .before .before .before .before .before .before .before .before .before .before .before .before .args .mem .now)
-      (bodiesOf (c .before .before .before .before .before .before .before .before .before .before .before .before .before .before .before .before .before .args .t .now))
-      (c .before .before .before .before .before .before .before .before .before .before .before .before .before .before .before .before .before .args .s .now)
-      (c .before .before .before .before .before .before .before .before .before .before .before .before .before .before .before .before .before .args .n)
-      (wordsFrom (c .before .before .before .before .before .before .before .before .before .before .before .before .before .before .before .before .before .args .order .now) 0
-      (c .before .before .before .before .before .before .before .before .before .before .before .before .before .before .before .before .before .args .n))
-      (c .before .before .before .before .before .before .before .before .before .before .before .loop .cells) _
-      (c .before .before .before .before .before .before .before .before .before .before .before .loop .i)
-      (c .before .before .before .before .before .before .before .before .before .before .loop-test .taken)
-      (c .before .before .before .before .before .before .before .place .ensures .0 ∙ ap
-      (rowOf (bodiesOf (c .before .before .before .before .before .before .before .before .before .before .before .before .before .before .before .before .before .args .t .now))
-      (c .before .before .before .before .before .before .before .before .before .before .before .before .before .before .before .before .before .args .s .now)
-      (c .before .before .before .before .before .before .before .before .before .before .before .loop .i - 1)
-      (wordsFrom (c .before .before .before .before .before .before .before .before .before .before .before .before .before .before .before .before .before .args .order .now) 0
-      (c .before .before .before .before .before .before .before .before .before .before .before .before .before .before .before .before .before .args .n)))
-      (preset-same (c .before .before .before .before .before .before .before .before .before .before .before .before .before .before .before .before .before .args .t .now)
-      (c .before .before .before .before .before .before .before .before .before .before .before .before .before .before .before .before .before .args .mem .now)
-      (c .before .before .before .before .before .before .before .before .before .before .before .loop .mem)
-      (byteAt (c .before .before .before .before .before .before .before .before .before .before .before .before .before .before .before .before .before .args .s .now)
-      (c .before .before .before .before .before .before .before .before .before .before .before .loop .i - 1))
-      ((c .before .before .before .before .before .before .before .before .before .before .before .loop .i - 1) *
-      c .before .before .before .before .before .before .before .before .before .before .before .before .before .before .before .before .before .args .n)
-      (c .before .before .before .before .before .before .before .before .before .before .before .before .before .before .before .before .before .args .n)
-      (c .before .before .before .before .before .before .before .before .before .before .before .loop .cells)
-      (c .before .before .before .before .before .before .before .before .before .before .before .loop .inv .5))) ∙
-      c .before .before .before .before .before .before .before .before .before .before .before .loop .inv .3,
-  c .before .before .learn-all .ensures .0,
+      (c .before .before .before .before .before .before .before .before .before .before .before .before .before .args .t .now)
+      (c .before .before .before .before .before .before .before .before .before .before .before .before .before .args .mem .now)
+      (bodiesOf (c .before .before .before .before .before .before .before .before .before .before .before .before .before .args .t .now))
+      (c .before .before .before .before .before .before .before .before .before .before .before .before .before .args .s .now)
+      (c .before .before .before .before .before .before .before .before .before .before .before .before .before .args .n)
+      (wordsFrom (c .before .before .before .before .before .before .before .before .before .before .before .before .before .args .order .now) 0
+      (c .before .before .before .before .before .before .before .before .before .before .before .before .before .args .n))
+      (c .before .before .before .before .before .before .before .before .before .loop .cells) _
+      (c .before .before .before .before .before .before .before .before .before .loop .i)
+      (c .before .before .before .before .before .before .before .before .loop-test .taken)
+      (c .before .before .before .before .before .place .ensures .0 ∙ ap
+      (rowOf (bodiesOf (c .before .before .before .before .before .before .before .before .before .before .before .before .before .args .t .now))
+      (c .before .before .before .before .before .before .before .before .before .before .before .before .before .args .s .now)
+      (c .before .before .before .before .before .before .before .before .before .loop .i - 1)
+      (wordsFrom (c .before .before .before .before .before .before .before .before .before .before .before .before .before .args .order .now) 0
+      (c .before .before .before .before .before .before .before .before .before .before .before .before .before .args .n)))
+      (preset-same (c .before .before .before .before .before .before .before .before .before .before .before .before .before .args .t .now)
+      (c .before .before .before .before .before .before .before .before .before .before .before .before .before .args .mem .now)
+      (c .before .before .before .before .before .before .before .before .before .loop .mem)
+      (byteAt (c .before .before .before .before .before .before .before .before .before .before .before .before .before .args .s .now)
+      (c .before .before .before .before .before .before .before .before .before .loop .i - 1))
+      ((c .before .before .before .before .before .before .before .before .before .loop .i - 1) *
+      c .before .before .before .before .before .before .before .before .before .before .before .before .before .args .n)
+      (c .before .before .before .before .before .before .before .before .before .before .before .before .before .args .n)
+      (c .before .before .before .before .before .before .before .before .before .loop .cells)
+      (c .before .before .before .before .before .before .before .before .before .loop .inv .4))) ∙
+      c .before .before .before .before .before .before .before .before .before .loop .inv .2,
+  c .learn-all .ensures .0,
   λ j l.
-      c .before .before .learn-all .ensures .1 j l ∙ c .before .before .before .before .before .before .before .before .before .before .before .loop .inv .5 j l,
+      c .learn-all .ensures .1 j l ∙ c .before .before .before .before .before .before .before .before .before .loop .inv .4 j l,
 )
 
 same-length : tie.Need-same-length Inv-loop μ-loop
 same-length c = c .before .loop .inv .1
 
-same-length-2 : tie.Need-same-length-2 Inv-loop μ-loop
-same-length-2 c = c .before .loop .inv .2
-
 returns : tie.Need-returns Inv-loop μ-loop
 returns c = (
-  by-end (c .before .before .before .before .before .before .before .args .t .now) (c .before .before .before .before .before .before .before .args .mem .now)
-      (bodiesOf (c .before .before .before .before .before .before .before .args .t .now)) (c .before .before .before .before .before .before .before .args .s .now)
-      (c .before .before .before .before .before .before .before .args .n)
-      (wordsFrom (c .before .before .before .before .before .before .before .args .order .now) 0 (c .before .before .before .before .before .before .before .args .n))
-      (c .before .loop .cells) (c .before .loop .i) (omega (arith, c .loop-test .left)) ∙ c .before .loop .inv .3,
+  by-end (c .before .before .before .before .before .args .t .now) (c .before .before .before .before .before .args .mem .now)
+      (bodiesOf (c .before .before .before .before .before .args .t .now)) (c .before .before .before .before .before .args .s .now)
+      (c .before .before .before .before .before .args .n)
+      (wordsFrom (c .before .before .before .before .before .args .order .now) 0 (c .before .before .before .before .before .args .n))
+      (c .before .loop .cells) (c .before .loop .i) (omega (arith, c .loop-test .left)) ∙ c .before .loop .inv .2,
   knows-from
-      (c .before .before .before .before .before .before .before .args .t .now) (c .before .before .before .before .before .before .before .args .s .now) (c .before .loop .cells)
-      (c .before .loop .mem) (c .before .before .before .before .before .before .before .args .n) (c .before .loop .i) 0 (c .before .loop .i) 0 (omega arith)
-      (omega (arith, c .loop-test .left)) (c .before .loop .inv .4),
+      (c .before .before .before .before .before .args .t .now) (c .before .before .before .before .before .args .s .now) (c .before .loop .cells)
+      (c .before .loop .mem) (c .before .before .before .before .before .args .n) (c .before .loop .i) 0 (c .before .loop .i) 0 (omega arith)
+      (omega (arith, c .loop-test .left)) (c .before .loop .inv .3),
 )
 
 pub rows-spec : {M : Type 1} → statement M
@@ -150,5 +145,4 @@ rows-spec =
     loop-less
     loop-again
     same-length
-    same-length-2
     returns)

@@ -11,16 +11,16 @@ use Rattle.match_firsts.proofs.decide_all.Reads as decide-all-reads
 use Rattle.match_keys.proofs.enter_all.Reads as enter-all-reads
 
 enter-all-requires : tie.Need-enter-all-requires
-enter-all-requires c κs = c .before .before .before .before .before .before .pre .1
+enter-all-requires c κs = c .before .before .before .before .before .pre .1
 
 decide-all-requires : tie.Need-decide-all-requires
 decide-all-requires c κs = (
   (
-    c .before .before .before .before .before .before .before .before .before .before .pre .0 .1,
-    c .before .before .before .before .before .before .before .before .before .before .pre .0 .3,
-    c .before .before .before .before .before .before .before .before .before .before .pre .0 .2,
+    c .before .before .before .before .before .before .before .before .pre .0 .1,
+    c .before .before .before .before .before .before .before .before .pre .0 .3,
+    c .before .before .before .before .before .before .before .before .pre .0 .2,
   ),
-  c .before .before .before .enter-all .ensures,
+  c .before .before .enter-all .ensures,
 )
 
 add-rows : tie.Need-add-rows
@@ -29,35 +29,32 @@ add-rows c = search needs
 rows-requires : tie.Need-rows-requires
 rows-requires c κs = (
   (
-    c .before .before .before .before .before .before .before .before .before .before .before .before .before .before .before .pre .0 .0,
-    c .before .before .before .before .before .before .before .before .before .before .before .before .before .before .before .pre .0 .1,
-    c .before .before .before .before .before .before .before .before .before .before .before .before .before .before .before .pre .0 .2,
-    c .before .before .before .before .before .before .before .before .before .before .before .before .before .before .before .pre .0 .3,
+    c .before .before .before .before .before .before .before .before .before .before .before .pre .0 .0,
+    c .before .before .before .before .before .before .before .before .before .before .before .pre .0 .1,
+    c .before .before .before .before .before .before .before .before .before .before .before .pre .0 .2,
+    c .before .before .before .before .before .before .before .before .before .before .before .pre .0 .3,
     omega arith,
   ),
   knows-first
-      (c .before .before .before .before .before .before .before .before .before .before .before .before .before .before .before .args .t .now)
-      (c .before .before .before .before .before .before .before .before .before .before .before .before .before .before .before .args .s .now)
-      (c .before .before .before .before .before .before .before .before .before .before .before .before .before .before .before .args .cells .now)
-      (c .before .before .before .before .before .before .before .before .before .before .before .before .before .before .before .args .n)
-      (c .before .before .before .before .decide-all .ensures) .0,
+      (c .before .before .before .before .before .before .before .before .before .before .before .args .t .now)
+      (c .before .before .before .before .before .before .before .before .before .before .before .args .s .now)
+      (c .before .before .before .before .before .before .before .before .before .before .before .args .cells .now)
+      (c .before .before .before .before .before .before .before .before .before .before .before .args .n)
+      (c .before .before .decide-all .ensures) .0,
   knows-first
-      (c .before .before .before .before .before .before .before .before .before .before .before .before .before .before .before .args .t .now)
-      (c .before .before .before .before .before .before .before .before .before .before .before .before .before .before .before .args .s .now)
-      (c .before .before .before .before .before .before .before .before .before .before .before .before .before .before .before .args .cells .now)
-      (c .before .before .before .before .before .before .before .before .before .before .before .before .before .before .before .args .n) (c .before .before .before .before .decide-all .ensures) .1,
+      (c .before .before .before .before .before .before .before .before .before .before .before .args .t .now)
+      (c .before .before .before .before .before .before .before .before .before .before .before .args .s .now)
+      (c .before .before .before .before .before .before .before .before .before .before .before .args .cells .now)
+      (c .before .before .before .before .before .before .before .before .before .before .before .args .n) (c .before .before .decide-all .ensures) .1,
 )
 
 same-length : tie.Need-same-length
 same-length c = search needs
 
-same-length-2 : tie.Need-same-length-2
-same-length-2 c = search needs
-
 returns : tie.Need-returns
 returns c = (
-  (_, c .before .before .before .before .before .before .before .before .before .decide-all .ensures .1, c .before .before .before .before .rows .ensures .0),
-  c .before .before .before .before .rows .ensures .1,
+  (_, c .before .before .before .before .before .decide-all .ensures .1, c .before .before .rows .ensures .0),
+  c .before .before .rows .ensures .1,
 )
 
 pub rows-in-spec : {M : Type 1} → statement M
@@ -69,5 +66,4 @@ rows-in-spec =
     add-rows
     rows-requires
     same-length
-    same-length-2
     returns)

@@ -1,0 +1,138 @@
+// Rounds that are remembered: at each place that is done, entries for each key (01, Meaning of a match). What the words of the memory are: match_eval.
+ghost use Prim.Native.Nat.{ℕ, _+_, _<_, _≤_};
+ghost use mathlib.Core.Path.{_≡_};
+ghost use lib.ListN.{length};
+ghost use Rattle.grammar_table.specs.Trees.{treeOf};
+ghost use Rattle.match_eval.specs.Eval.{ev};
+ghost use Rattle.match_eval.specs.steps.Memory.{Knows, Front, About, endOf};
+ghost use Rattle.match_rounds.specs.steps.Noted.{Noted};
+use base_words::put;
+use base_words::word;
+use grammar_table::Table;
+use match_eval::memory::COUNT;
+use match_eval::memory::ENDS;
+use match_eval::memory::ENTRIES;
+use match_eval::memory::ENTRIES_AT;
+use match_eval::memory::ENTRY_WORDS;
+use match_eval::memory::Memory;
+use match_eval::memory::PARTS_AT;
+use match_eval::memory::PAST;
+use match_eval::memory::TEXT;
+use match_eval::memory::begins;
+use match_eval::memory::key;
+use match_eval::memory::said;
+use match_eval::memory::says;
+use match_eval::memory::slot;
+
+// What is said of a part that takes just the byte at a place.
+const TAKES: usize = 3;
+
+// Entry i says from now on that rounds of key k take c bytes from p on.
+fn note(mem: &mut Memory, i: usize, k: usize, p: usize, c: usize)
+    requires { ⌜ (i < 4294967296) × (k ≤ 1025) × (p ≤ 65535) × (c ≤ 65535) ⌝ }
+    ensures { λ _. ⌜ Noted k p c (now (mem .entry)) (now (mem .exit)) ⌝ }
+{
+    let j = ENTRIES_AT + ENTRY_WORDS * i;
+    if j + ENDS < mem.len() {
+        put(mem, j, k * TEXT + p);
+        put(mem, j + PAST, p + 1);
+        put(mem, j + ENDS, p + c);
+    }
+}
+
+// The run of entry i, which is about the place behind p, begins at p.
+fn lengthen(mem: &mut Memory, i: usize, k: usize, p: usize)
+    requires { ⌜ ((i < 4294967296) × (k ≤ 1025) × (p < 65535)) × About (now mem) i k (p + 1) ⌝ }
+    ensures { λ _. ⌜ ((c : ℕ) → endOf (now (mem .entry)) i ≡ p + c → Noted k p c (now (mem .entry)) (now (mem .exit))) ⌝ }
+{
+    put(mem, ENTRIES_AT + ENTRY_WORDS * i, k * TEXT + p);
+}
+
+// The newest run of key k goes on to p, from where rounds take c bytes, or a new one begins there.
+fn run_on(mem: &mut Memory, k: usize, p: usize, c: usize)
+    requires { ⌜ (k ≤ 1025) × (p < 65535) × (0 < c) × (c ≤ 65535) ⌝ }
+    ensures { λ _. ⌜ Noted k p c (now (mem .entry)) (now (mem .exit)) ⌝ }
+{
+    let i = ENTRIES + k;
+    let d = says(mem, i, k, p + 1);
+    if d == c - 1 {
+        lengthen(mem, i, k, p);
+    } else {
+        note(mem, i, k, p, c);
+    }
+}
+
+// Rounds of key k take c bytes from p on, the first of them perhaps more than one: that is kept for p itself too.
+fn remember(mem: &mut Memory, k: usize, p: usize, c: usize)
+    requires { ⌜ (0 < k) × (k ≤ 1025) × (p < 65535) × (0 < c) × (c ≤ 65535) ⌝ }
+    ensures { λ _. ⌜ Noted k p c (now (mem .entry)) (now (mem .exit)) ⌝ }
+{
+    let i = slot(mem, k, p);
+    note(mem, i, k, p, c);
+    run_on(mem, k, p, c);
+}
+
+// The rounds of part y from p on, where the byte decides nothing. Where there is none, nothing need be remembered.
+fn learn_rounds(t: &Table, s: &[u8], cells: &[u32], mem: &mut Memory, n: usize, y: usize, p: usize)
+    requires { ⌜ ((n ≤ 64) × (y < 4294967296) × (length (now s) ≤ 65535) × (p ≤ length (now s))) × Knows (now t) (now s) (now cells) n (now mem) p p ⌝ }
+    ensures { λ _. ⌜ Knows (now (t .entry)) (now (s .entry)) (now (cells .entry)) n (now (mem .exit)) p p × Front (now (mem .entry)) (now (mem .exit)) ⌝ }
+{
+    let k = key(mem, y);
+    if k != 0 {
+        let a = match_eval::eval_with(t, s, cells, mem, n, y, p);
+        if 1 < a {
+            let c = match_eval::many(t, s, cells, mem, n, y, p + (a - 1));
+            remember(mem, k, p, a - 1 + c);
+        }
+    }
+}
+
+// The same where the byte decides that the first round is just this byte: most often the newest run goes on.
+fn learn_byte(t: &Table, s: &[u8], cells: &[u32], mem: &mut Memory, n: usize, y: usize, p: usize)
+    requires { ⌜ ((n ≤ 64) × (y < 4294967296) × (length (now s) ≤ 65535) × (p < length (now s)) × (ev (now s) (now cells) n (treeOf (now t) y) p ≡ 2))
+        × Knows (now t) (now s) (now cells) n (now mem) p p ⌝ }
+    ensures { λ _. ⌜ Knows (now (t .entry)) (now (s .entry)) (now (cells .entry)) n (now (mem .exit)) p p × Front (now (mem .entry)) (now (mem .exit)) ⌝ }
+{
+    let k = key(mem, y);
+    if k != 0 {
+        let i = ENTRIES + k;
+        if begins(mem, i, k, p + 1) {
+            lengthen(mem, i, k, p);
+        } else {
+            let c = match_eval::many(t, s, cells, mem, n, y, p + 1);
+            note(mem, i, k, p, c + 1);
+        }
+    }
+}
+
+// The rounds of part y from p on, if it has a key; where the byte decides that there is none, nothing need be remembered.
+fn learn(t: &Table, s: &[u8], cells: &[u32], mem: &mut Memory, n: usize, y: usize, p: usize)
+    requires { ⌜ ((n ≤ 64) × (y < 4294967296) × (length (now s) ≤ 65535) × (p ≤ length (now s))) × Knows (now t) (now s) (now cells) n (now mem) p p ⌝ }
+    ensures { λ _. ⌜ Knows (now (t .entry)) (now (s .entry)) (now (cells .entry)) n (now (mem .exit)) p p × Front (now (mem .entry)) (now (mem .exit)) ⌝ }
+{
+    let b = match_eval::byte_at(s, p);
+    let w = said(mem, y, b);
+    if w == 0 {
+        learn_rounds(t, s, cells, mem, n, y, p);
+        return;
+    }
+    if w == TAKES {
+        if p < s.len() {
+            learn_byte(t, s, cells, mem, n, y, p);
+        }
+    }
+}
+
+// The rounds of a part of each key.
+pub fn learn_all(t: &Table, s: &[u8], cells: &[u32], mem: &mut Memory, n: usize, p: usize)
+    requires { ⌜ ((n ≤ 64) × (length (now s) ≤ 65535) × (p ≤ length (now s))) × Knows (now t) (now s) (now cells) n (now mem) p p ⌝ }
+    ensures { λ _. ⌜ Knows (now (t .entry)) (now (s .entry)) (now (cells .entry)) n (now (mem .exit)) p p × Front (now (mem .entry)) (now (mem .exit)) ⌝ }
+{
+    let d = word(mem, COUNT);
+    let mut k: usize = 0;
+    while k < d {
+        let y = word(mem, PARTS_AT + k);
+        learn(t, s, cells, mem, n, y, p);
+        k += 1;
+    }
+}
