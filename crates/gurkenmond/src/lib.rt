@@ -9,7 +9,6 @@ ghost use Rattle.match_list.specs.Nodes.{soundAt, Handed};
 use grammar_table::Table;
 pub use lake_sets::Sets;
 pub use match_ask::LakeWay;
-use match_ask::Question;
 pub use match_ask::Way;
 pub use match_run::Match;
 pub use match_run::Outcome;
@@ -238,20 +237,11 @@ pub fn lake_at(
     ensures { λ r. ⌜ SaysWay r (now (cells .exit)) (lakeOf mode (now (text .entry)) (now (input .entry)) (now (cells .entry)) lake place) ⌝ }
 {
     let mut t: Table = [0; grammar_table::WORDS];
-    let mut mid: Table = [0; grammar_table::WORDS];
     let mut plain: Table = [0; grammar_table::WORDS];
-    let mut alts: [[u64; 2]; 1024] = [[0, 0]; 1024];
-    let r = prepare::load(mode, text, &mut t);
-    let made = prepare::alternatives(&t, &mut mid, &mut alts);
-    let p = prepare::finish(r, made, &mid, &alts, &mut plain);
-    let c = p.counted;
-    let v = c.verdict;
+    let l = match_ask::look(mode, text, lake, &mut t, &mut plain);
+    let v = l.verdict;
     if prepare::is_refused(v) {
         return match_ask::not_asked(v);
     }
-    let q = Question {
-        lake: lake,
-        place: place,
-    };
-    match_ask::ask(&t, &mid, &alts, &plain, input, cells, q)
+    match_ask::ask(&t, &plain, l, input, cells, place)
 }

@@ -1,9 +1,13 @@
 // The lake question on the tables of a grammar: refusals 9, 10 and 14, the cells, then how the lake matches (01, "Other calls").
 ghost use mathlib.Core.Path.{_≡_};
-ghost use Rattle.match_ask.specs.steps.Asks.{notAsked, wayOf, Standing, Asked};
+ghost use Prim.Native.Nat.{_≤_};
+ghost use lib.ListN.{length};
+ghost use Rattle.grammar_table.specs.Table.{tableWords};
+ghost use Rattle.match_ask.specs.steps.Asks.{notAsked, wayOf, noLake, LakeIn, Looked, Standing, Asked};
 use grammar_table::Table;
 use match_eval::memory::Memory;
 use prepare::Verdict;
+use read_tokens::Mode;
 
 // How a lake matches at a position.
 pub enum Way {
@@ -39,29 +43,78 @@ fn way_of(k: usize) -> Way
     }
 }
 
-// The lake and the position of a lake question.
-pub struct Question {
-    pub lake: usize,
-    pub place: usize,
+// What is asked of a grammar's symbol beside the tables: whether it is a lake, then its ALT; or the grammar's refusal.
+pub struct LakeAlt {
+    pub symbol: usize,
+    pub there: bool,
+    pub alt: [u64; 2],
+    pub verdict: Verdict,
+}
+
+fn no_lake(symbol: usize, v: Verdict) -> LakeAlt
+    ensures { λ r. ⌜ r ≡ noLake symbol v ⌝ }
+{
+    LakeAlt {
+        symbol: symbol,
+        there: false,
+        alt: [0, 0],
+        verdict: v,
+    }
+}
+
+// A symbol of an intermediate grammar of n symbols.
+fn lake_in(mid: &Table, alts: &[[u64; 2]; 1024], n: usize, symbol: usize) -> LakeAlt
+    requires { ⌜ n ≤ 64 ⌝ }
+    ensures { λ r. ⌜ LakeIn (now (mid .entry)) (now (alts .entry)) n symbol r ⌝ }
+{
+    if n <= symbol {
+        return no_lake(symbol, Verdict::Accepted);
+    }
+    if !lake_analysis::is_lake(mid, symbol) {
+        return no_lake(symbol, Verdict::Accepted);
+    }
+    let a = lake_analysis::alt_of(mid, alts, symbol);
+    LakeAlt {
+        symbol: symbol,
+        there: true,
+        alt: a,
+        verdict: Verdict::Accepted,
+    }
+}
+
+// The grammar of a text, its plain form, and what is asked of a symbol. The intermediate table and all ALT are needed no longer: their room is free for the
+// match's memory.
+pub fn look(mode: Mode, text: &[u8], symbol: usize, t: &mut Table, plain: &mut Table) -> LakeAlt
+    requires { ⌜ length (now t) ≡ tableWords ⌝ }
+    ensures { λ r. ⌜ Looked mode (now (text .entry)) (now (t .exit)) (now (plain .exit)) symbol r ⌝ }
+{
+    let mut mid: Table = [0; grammar_table::WORDS];
+    let mut alts: [[u64; 2]; 1024] = [[0, 0]; 1024];
+    let r = prepare::load(mode, text, t);
+    let made = prepare::alternatives(t, &mut mid, &mut alts);
+    let p = prepare::finish(r, made, &mid, &alts, plain);
+    let c = p.counted;
+    let v = c.verdict;
+    if prepare::is_refused(v) {
+        return no_lake(symbol, v);
+    }
+    let n = prepare::symbols(plain);
+    lake_in(&mid, &alts, n, symbol)
 }
 
 // The lake question on the tables of a grammar: 9, 10, then 14; then the cells are filled.
 pub fn ask(
     t: &Table,
-    mid: &Table,
-    alts: &[[u64; 2]; 1024],
     plain: &Table,
+    l: LakeAlt,
     input: &[u8],
     cells: &mut [u32],
-    q: Question,
+    place: usize,
 ) -> LakeWay
-    requires { ⌜ Standing (now t) (now mid) (now alts) (now plain) ⌝ }
+    requires { ⌜ Standing (now t) (now plain) l ⌝ }
     ensures { λ r.
-        ⌜ Asked (now (t .entry)) (now (mid .entry)) (now (alts .entry)) (now (plain .entry)) (now (input .entry)) (now (cells .entry))
-        (q .lake) (q .place) (now (cells .exit)) r ⌝ }
+        ⌜ Asked (now (t .entry)) (now (plain .entry)) l (now (input .entry)) (now (cells .entry)) place (now (cells .exit)) r ⌝ }
 {
-    let lake = q.lake;
-    let place = q.place;
     if 65535 < input.len() {
         return not_asked(Verdict::Refused {
             number: 9,
@@ -76,13 +129,7 @@ pub fn ask(
             place: need,
         });
     }
-    if n <= lake {
-        return not_asked(Verdict::Refused {
-            number: 14,
-            place: 0,
-        });
-    }
-    if !lake_analysis::is_lake(mid, lake) {
+    if !l.there {
         return not_asked(Verdict::Refused {
             number: 14,
             place: 0,
@@ -96,8 +143,8 @@ pub fn ask(
     }
     let mut mem: Memory = [0; match_eval::memory::WORDS];
     match_cells::filling::fill(plain, input, cells, &mut mem);
-    let a = lake_analysis::alt_of(mid, alts, lake);
-    let w = match_lake::way(t, input, cells, n, a, lake, place);
+    let a = l.alt;
+    let w = match_lake::way(t, input, cells, n, a, l.symbol, place);
     let how = way_of(w);
     LakeWay {
         way: how,

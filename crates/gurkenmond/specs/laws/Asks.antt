@@ -9,13 +9,12 @@ use lib.Dec.{leb}
 use Rattle.read_tokens.specs.declared.Mode.{Mode}
 use Rattle.grammar.specs.Refusal.{Refusal, refuseIf, _▸_}
 use Rattle.lake_rules.specs.Analysis.{bodyAlt}
+use Rattle.match_ask.specs.declared.LakeAlt.{LakeAlt}
 use Rattle.match_ask.specs.declared.LakeWay.{LakeWay}
-use Rattle.match_ask.specs.steps.Asks.{notAsked, Lent, lent, askedAfter, Asked}
-use Rattle.prepare.specs.declared.Counted.{Counted}
+use Rattle.match_ask.specs.steps.Asks.{notAsked, Lent, lent, askedAfter, askedOf, Stood, Asked}
 use Rattle.prepare.specs.declared.Verdict.{Verdict}
 use Rattle.prepare.specs.Prepare.{Prepared, prepared}
 use Rattle.prepare.specs.Reads.{verdictOf, isRefused, readOf}
-use Rattle.prepare.specs.steps.Loads.{Stands}
 use Rattle.gurkenmond.specs.Answers.{verdictSays, waySays}
 use Rattle.gurkenmond.specs.Calls.{LakeAnswer, lakeAnswer, SaysWay, refusesInput, filled, isLakeAt, lakeAfter, lakeOf}
 use Rattle.gurkenmond.specs.laws.Answers.{way-said}
@@ -45,16 +44,16 @@ module _ (m : Mode) (s i cs : List ℕ) (l q : ℕ) where
   abbrev by-checks : Option Refusal → LakeAnswer
   by-checks o = lakeAfter (o ▸ checks) (prepared m s) i cs l q
 
-  pub lake-refused : (c : Counted) → c ≡ readOf m s → isRefused (c .verdict) ≡ true → SaysWay (notAsked (c .verdict)) cs (lakeOf m s i cs l q)
+  pub lake-refused : (v : Verdict) → v ≡ readOf m s .verdict → isRefused v ≡ true → SaysWay (notAsked v) cs (lakeOf m s i cs l q)
   unfolding lakeOf verdictOf
-  lake-refused c e h =
-      let w = handed m s c e h in
-      says-by (notAsked (c .verdict)) cs (lakeOf m s i cs l q)
-      (ap (λ (v : Verdict). told (lent (notAsked v) cs)) (w .2) ∙ sym (ap by-checks (w .1)))
+  lake-refused v e h =
+      let w = handed m s (readOf m s) refl (ap isRefused (sym e) ∙ h) in
+      says-by (notAsked v) cs (lakeOf m s i cs l q)
+      (ap (λ (v : Verdict). told (lent (notAsked v) cs)) (e ∙ w .2) ∙ sym (ap by-checks (w .1)))
 
-  pub lake-asked : (t mid : List ℕ) (ms : List Bool) (sets : List (List ℕ)) (eps : List Bool) (succ alts : List (List ℕ)) (out : List ℕ) (rounds : ℕ)
-      → Stands m s t mid ms sets eps succ alts out rounds → (new : List ℕ) (r : LakeWay) → Asked t mid alts out i cs l q new r → SaysWay r new (lakeOf m s i cs l q)
+  pub lake-asked : (t out : List ℕ) (a : LakeAlt) → Stood m s t out a → a .symbol ≡ l → (new : List ℕ) (r : LakeWay) → Asked t out a i cs q new r
+      → SaysWay r new (lakeOf m s i cs l q)
   unfolding lakeOf
-  lake-asked t mid ms sets eps succ alts out rounds st new r a =
+  lake-asked t out a st e new r w =
       says-by r new (lakeOf m s i cs l q)
-      (ap told (a .are m s ms sets eps succ rounds st) ∙ asked-says checks (prepared m s) i cs l q ∙ sym (ap by-checks (st .clear)))
+      (ap told (w .are m s st ∙ ap (λ (k : ℕ). askedOf (prepared m s) i cs k q) e) ∙ asked-says checks (prepared m s) i cs l q ∙ sym (ap by-checks (st .clear)))

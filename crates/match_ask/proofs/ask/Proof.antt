@@ -1,31 +1,29 @@
 -- `match_ask::ask` meets its contract. Assumes nothing.
-use Prim.Native.Nat.{_+_, _*_}
-use mathlib.Core.Path.{_≡_, refl, sym, _∙_}
+use mathlib.Core.Path.{refl, _∙_}
 use native.Mathlib.Omega.{arith}
 use lib.ListN.{length}
 use Rattle.base_facts.specs.laws.Bools.{not-false, not-true}
 use Rattle.match_run.specs.laws.Runs.{need-small}
-use Rattle.match_ask.specs.laws.Asks.{standing-same, standing-few, standing-terminals, asked-long, asked-few, asked-past, asked-other, asked-behind, asked-all}
+use Rattle.match_ask.specs.laws.Asks.{standing-same, standing-few, standing-terminals, standing-within}
+use Rattle.match_ask.specs.laws.Asks.{asked-long, asked-few, asked-other, asked-behind, asked-all}
 use Rattle.match_keys.specs.laws.Keys.{fresh-none}
 use borrow.Author.Needs.{needs}
 use Rattle.match_ask.proofs.ask.Statement.{statement}
 use Rattle.match_ask.proofs.ask.Tie as tie
 use Rattle.match_ask.proofs.ask.Reads as reads
 use Rattle.match_ask.proofs.ask.Lts as lts
-use Rattle.lake_analysis.proofs.alt_of.Reads as alt-of-reads
-use Rattle.lake_analysis.proofs.is_lake.Reads as is-lake-reads
-use Rattle.match_lake.proofs.way.Reads as way-reads
 use Rattle.match_ask.proofs.not_asked.Reads as not-asked-reads
 use Rattle.match_ask.proofs.way_of.Reads as way-of-reads
-use Rattle.prepare.proofs.symbols.Reads as symbols-reads
 use Rattle.match_cells.proofs.filling.fill.Reads as fill-reads
+use Rattle.match_lake.proofs.way.Reads as way-reads
+use Rattle.prepare.proofs.symbols.Reads as symbols-reads
 
 not-asked-requires : tie.Need-not-asked-requires
 not-asked-requires c κs = search needs
 
 returns : tie.Need-returns
-returns c = asked-long (c .before .before .before .before .args .input .now) (c .before .before .before .before .args .cells .now) (c .before .before .before .before .args .q .lake)
-    (c .before .before .before .before .args .q .place) (c .not-asked .ensures) (c .before .if1 .taken)
+returns c = asked-long (c .before .before .before .before .args .input .now) (c .before .before .before .before .args .cells .now) (c .before .before .before .before .args .place)
+    (c .not-asked .ensures) (c .before .if1 .taken)
 
 symbols-requires : tie.Need-symbols-requires
 symbols-requires c κs = search needs
@@ -36,12 +34,8 @@ add-need c = search needs
 mul-need : tie.Need-mul-need
 mul-need c = omega (
   arith,
-  need-small (c .symbols .result) (length (c .before .before .before .before .args .input .now)) (omega (
-    arith,
-    c .symbols .ensures,
-    standing-few
-        (c .before .before .before .before .pre),
-  )) (omega (arith, c .before .if1 .left)),
+  need-small (c .symbols .result) (length (c .before .before .before .before .args .input .now))
+      (omega (arith, c .symbols .ensures, standing-few (c .before .before .before .before .pre))) (omega (arith, c .before .if1 .left)),
 )
 
 not-asked-requires-2 : tie.Need-not-asked-requires-2
@@ -49,79 +43,60 @@ not-asked-requires-2 c κs = search needs
 
 returns-2 : tie.Need-returns-2
 returns-2 c = asked-few (c .before .before .before .before .before .before .args .input .now) (c .before .before .before .before .before .before .args .cells .now)
-    (c .before .before .before .before .before .before .args .q .lake) (c .before .before .before .before .before .before .args .q .place) (c .before .before .symbols .result) _
-    (c .before .before .symbols .ensures) (omega (arith, c .before .before .before .if1 .left)) refl (c .not-asked2 .ensures) (c .before .if2 .taken)
+    (c .before .before .before .before .before .before .args .place) (c .before .before .symbols .result) _
+    (c .before .before .symbols .ensures) (omega (arith, c .before .before .before .if1 .left)) refl
+    (c .not-asked2 .ensures) (c .before .if2 .taken)
 
 not-asked-requires-3 : tie.Need-not-asked-requires-3
 not-asked-requires-3 c κs = search needs
 
 returns-3 : tie.Need-returns-3
-returns-3 c = asked-past (c .before .before .before .before .before .before .before .args .input .now) (c .before .before .before .before .before .before .before .args .cells .now)
-    (c .before .before .before .before .before .before .before .args .q .lake) (c .before .before .before .before .before .before .before .args .q .place)
-    (c .before .before .before .symbols .result) _ (c .before .before .before .symbols .ensures) (omega (arith, c .before .before .before .before .if1 .left)) refl (omega
-    (arith, c .before .before .if2 .left)) (c .not-asked3 .ensures) (c .before .if3 .taken)
-
-is-lake-requires : tie.Need-is-lake-requires
-is-lake-requires c κs = search needs
+returns-3 c = asked-other (c .before .before .before .before .before .before .before .before .args .input .now)
+    (c .before .before .before .before .before .before .before .before .args .cells .now) (c .before .before .before .before .before .before .before .before .args .place)
+    (c .before .before .before .before .symbols .result) _
+    (c .before .before .before .before .symbols .ensures) (omega (arith, c .before .before .before .before .before .if1 .left)) refl
+    (omega (arith, c .before .before .before .if2 .left)) (c .not-asked3 .ensures) (not-true (c .before .before .before .before .before .before .before .before .args .l .there)
+    (c .before .if3 .taken))
 
 not-asked-requires-4 : tie.Need-not-asked-requires-4
 not-asked-requires-4 c κs = search needs
 
 returns-4 : tie.Need-returns-4
-returns-4 c = asked-other (c .before .before .before .before .before .before .before .before .before .args .input .now)
-    (c .before .before .before .before .before .before .before .before .before .args .cells .now) (c .before .before .before .before .before .before .before .before .before .args .q .lake)
-    (c .before .before .before .before .before .before .before .before .before .args .q .place) (c .before .before .before .before .before .symbols .result) _
-    (c .before .before .before .before .before .symbols .ensures) (omega (arith, c .before .before .before .before .before .before .if1 .left)) refl (omega
-    (arith, c .before .before .before .before .if2 .left)) (omega (arith, c .before .before .before .if3 .left)) (c .not-asked4 .ensures) (sym (c .before .before .is-lake .ensures) ∙ not-true
-    (c .before .before .is-lake .result) (c .before .if4 .taken))
-
-not-asked-requires-5 : tie.Need-not-asked-requires-5
-not-asked-requires-5 c κs = search needs
-
-returns-5 : tie.Need-returns-5
-returns-5 c = asked-behind (c .before .before .before .before .before .before .before .before .before .before .args .input .now)
-    (c .before .before .before .before .before .before .before .before .before .before .args .cells .now)
-    (c .before .before .before .before .before .before .before .before .before .before .args .q .lake)
-    (c .before .before .before .before .before .before .before .before .before .before .args .q .place) (c .before .before .before .before .before .before .symbols .result) _
-    (c .before .before .before .before .before .before .symbols .ensures) (omega (arith, c .before .before .before .before .before .before .before .if1 .left)) refl (omega
-    (arith, c .before .before .before .before .before .if2 .left)) (omega (arith, c .before .before .before .before .if3 .left)) (c .not-asked5 .ensures) (sym
-    (c .before .before .before .is-lake .ensures) ∙ not-false (c .before .before .before .is-lake .result) (c .before .before .if4 .left)) (c .before .if5 .taken)
+returns-4 c = asked-behind (c .before .before .before .before .before .before .before .before .before .args .input .now)
+    (c .before .before .before .before .before .before .before .before .before .args .cells .now)
+    (c .before .before .before .before .before .before .before .before .before .args .place) (c .before .before .before .before .before .symbols .result) _
+    (c .before .before .before .before .before .symbols .ensures) (omega (arith, c .before .before .before .before .before .before .if1 .left)) refl
+    (omega (arith, c .before .before .before .before .if2 .left)) (not-false (c .before .before .before .before .before .before .before .before .before .args .l .there)
+    (c .before .before .if3 .left))
+    (c .not-asked4 .ensures) (c .before .if4 .taken)
 
 slice-aggregate-fill : tie.Need-slice-aggregate-fill
 slice-aggregate-fill c = search needs
 
 fill-requires : tie.Need-fill-requires
 fill-requires c κs = (
-  (
-    standing-few (c .before .before .before .before .before .before .before .before .before .before .before .before .pre),
-    omega
-        (arith, c .before .before .before .before .before .before .before .before .before .if1 .left),
-  ),
-  fresh-none
-      (c .before .before .before .before .before .before .before .before .before .before .before .before .args .plain .now) 26901 (omega arith),
+  (standing-few (c .before .before .before .before .before .before .before .before .before .before .before .pre), omega
+  (arith, c .before .before .before .before .before .before .before .before .if1 .left)),
+  fresh-none (c .before .before .before .before .before .before .before .before .before .before .before .args .plain .now) 26901 (omega arith),
 )
-
-alt-of-requires : tie.Need-alt-of-requires
-alt-of-requires c κs = search needs
 
 way-requires : tie.Need-way-requires
 way-requires c κs = (
-  c .before .before .before .before .before .before .before .before .before .before .before .before .before .before .before .symbols .ensures ∙ standing-same
-      (c .before .before .before .before .before .before .before .before .before .before .before .before .before .before .before .before .before .before .before .pre),
+  c .before .before .before .before .before .before .before .before .before .before .before .before .before .before .symbols .ensures ∙ standing-same
+  (c .before .before .before .before .before .before .before .before .before .before .before .before .before .before .before .before .before .before .pre),
+  omega (arith, c .before .before .before .before .before .before .before .before .before .before .before .before .before .before .symbols .ensures, standing-few
+  (c .before .before .before .before .before .before .before .before .before .before .before .before .before .before .before .before .before .before .pre)),
+  standing-terminals (c .before .before .before .before .before .before .before .before .before .before .before .before .before .before .before .before .before .before .pre),
   omega (
     arith,
-    c .before .before .before .before .before .before .before .before .before .before .before .before .before .before .before .symbols .ensures,
-    standing-few
-        (c .before .before .before .before .before .before .before .before .before .before .before .before .before .before .before .before .before .before .before .pre),
+    c .before .before .before .before .before .before .before .before .before .before .before .before .before .before .symbols .ensures,
+    standing-same (c .before .before .before .before .before .before .before .before .before .before .before .before .before .before .before .before .before .before .pre),
+    standing-within (c .before .before .before .before .before .before .before .before .before .before .before .before .before .before .before .before .before .before .pre)
+    (not-false (c .before .before .before .before .before .before .before .before .before .before .before .before .before .before .before .before .before .before .args .l .there)
+    (c .before .before .before .before .before .before .before .before .before .before .before .if3 .left)),
   ),
-  standing-terminals
-      (c .before .before .before .before .before .before .before .before .before .before .before .before .before .before .before .before .before .before .before .pre),
-  omega
-      (arith, c .before .before .before .before .before .before .before .before .before .before .before .before .before .if3 .left),
-  omega
-      (arith, c .before .before .before .before .before .before .before .before .before .before .before .before .before .before .before .before .if1 .left),
-  omega
-      (arith, c .before .before .before .before .before .before .before .before .before .before .if5 .left),
+  omega (arith, c .before .before .before .before .before .before .before .before .before .before .before .before .before .before .before .if1 .left),
+  omega (arith, c .before .before .before .before .before .before .before .before .before .before .if4 .left),
 )
 
 way-of-requires : tie.Need-way-of-requires
@@ -130,24 +105,20 @@ way-of-requires c κs = search needs
 same-length : tie.Need-same-length
 same-length c = search needs
 
-returns-6 : tie.Need-returns-6
-returns-6 c = asked-all
-    (c .before .before .before .before .before .before .before .before .before .before .before .before .before .before .before .before .before .before .before .before .before .args .input .now)
-    (c .before .before .before .before .before .before .before .before .before .before .before .before .before .before .before .before .before .before .before .before .before .args .cells .now)
-    (c .before .before .before .before .before .before .before .before .before .before .before .before .before .before .before .before .before .before .before .before .before .args .q .lake)
-    (c .before .before .before .before .before .before .before .before .before .before .before .before .before .before .before .before .before .before .before .before .before .args .q .place)
-    (c .before .before .before .before .before .before .before .before .before .before .before .before .before .before .before .before .before .symbols .result) _
-    (c .before .before .before .before .before .before .before .before .before .before .before .before .before .before .before .before .before .symbols .ensures) (omega
-    (arith, c .before .before .before .before .before .before .before .before .before .before .before .before .before .before .before .before .before .before .if1 .left)) refl (omega
-    (arith, c .before .before .before .before .before .before .before .before .before .before .before .before .before .before .before .before .if2 .left)) (omega
-    (arith, c .before .before .before .before .before .before .before .before .before .before .before .before .before .before .before .if3 .left)) (sym
-    (c .before .before .before .before .before .before .before .before .before .before .before .before .before .before .is-lake .ensures) ∙ not-false
-    (c .before .before .before .before .before .before .before .before .before .before .before .before .before .before .is-lake .result)
-    (c .before .before .before .before .before .before .before .before .before .before .before .before .before .if4 .left)) (omega
-    (arith, c .before .before .before .before .before .before .before .before .before .before .before .before .if5 .left)) _
+returns-5 : tie.Need-returns-5
+returns-5 c = asked-all
+    (c .before .before .before .before .before .before .before .before .before .before .before .before .before .before .before .before .before .before .before .before .args .input .now)
+    (c .before .before .before .before .before .before .before .before .before .before .before .before .before .before .before .before .before .before .before .before .args .cells .now)
+    (c .before .before .before .before .before .before .before .before .before .before .before .before .before .before .before .before .before .before .before .before .args .place)
+    (c .before .before .before .before .before .before .before .before .before .before .before .before .before .before .before .before .symbols .result) _
+    (c .before .before .before .before .before .before .before .before .before .before .before .before .before .before .before .before .symbols .ensures) (omega
+    (arith, c .before .before .before .before .before .before .before .before .before .before .before .before .before .before .before .before .before .if1 .left)) refl
+    (omega (arith, c .before .before .before .before .before .before .before .before .before .before .before .before .before .before .before .if2 .left)) (not-false
+    (c .before .before .before .before .before .before .before .before .before .before .before .before .before .before .before .before .before .before .before .before .args .l .there)
+    (c .before .before .before .before .before .before .before .before .before .before .before .before .before .if3 .left))
+    (omega (arith, c .before .before .before .before .before .before .before .before .before .before .before .before .if4 .left)) _
     (c .before .before .before .before .before .before .before .before .fill .ensures .0)
-    (c .before .before .before .before .alt-of .result) (c .before .way .result) (c .way-of .result) (c .before .before .before .before .alt-of .ensures) (c .before .way .ensures)
-    (c .way-of .ensures)
+    (c .before .way .result) (c .way-of .result) (c .before .way .ensures) (c .way-of .ensures)
 
 pub ask-spec : {M : Type 1} → statement M
 ask-spec =
@@ -162,15 +133,11 @@ ask-spec =
     returns-2
     not-asked-requires-3
     returns-3
-    is-lake-requires
     not-asked-requires-4
     returns-4
-    not-asked-requires-5
-    returns-5
     slice-aggregate-fill
     fill-requires
-    alt-of-requires
     way-requires
     way-of-requires
     same-length
-    returns-6)
+    returns-5)

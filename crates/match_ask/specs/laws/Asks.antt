@@ -1,13 +1,16 @@
 -- The lake question, from what its parts answer. Assumes nothing.
 use Prim.Native.Nat.{ℕ, zero, suc, _+_, _*_, _≤_, _<_}
 use mathlib.Core.Path.{_≡_, refl, sym, ap, ap₂, _∙_}
-use mathlib.Core.Bool.{Bool, true, false, not, _&&_}
+use mathlib.Core.Bool.{Bool, true, false, true≢false, not, _&&_}
 use mathlib.Core.List.{List, []}
+use mathlib.Core.Logic.{_⊎_, inl, inr}
 use mathlib.Core.Option.{Option, none, some}
 use native.Mathlib.Omega.{arith}
 use lib.ListN.{length, getD}
-use lib.Dec.{leb}
-use borrow.Author.Tests.{lt-ltb, le-ltb, lt-leb, le-leb}
+use lib.Dec.{leb, ltb}
+use borrow.Author.Tests.{lt-ltb, le-ltb, ltb-true, lt-leb, le-leb}
+use Rattle.base_facts.specs.laws.Bools.{and-left}
+use Rattle.base_facts.specs.laws.Numbers.{lt-or-ge}
 use Rattle.read_tokens.specs.Token.{name}
 use Rattle.read_tokens.specs.declared.Mode.{Mode}
 use Rattle.grammar.specs.Numbers.{Grammar, numbered, isLake}
@@ -28,14 +31,18 @@ use Rattle.match_lake.specs.Asking.{wayIn}
 use Rattle.match_lake.specs.laws.Tables.{way-is}
 use Rattle.match_run.specs.steps.Runs.{refusesRoom, filledBy}
 use Rattle.match_run.specs.laws.Runs.{input-long, input-few, enough}
+use Rattle.prepare.specs.declared.Counted.{Counted}
+use Rattle.prepare.specs.declared.Verdict.{Verdict}
 use Rattle.prepare.specs.declared.Verdict.the-variants.{Accepted, Refused as VerdictRefused}
 use Rattle.prepare.specs.Prepare.{Prepared, prepared, preparedBy}
-use Rattle.prepare.specs.steps.Loads.{Stands}
+use Rattle.prepare.specs.steps.Loads.{Stands, Ready}
+use Rattle.prepare.specs.Reads.{isRefused, readOf}
 use Rattle.prepare.specs.laws.Reads.{clear-good, clear-loop, clear-sound}
 use Rattle.match_ask.specs.declared.Way.{Way}
 use Rattle.match_ask.specs.declared.Way.the-variants.{BySkip}
+use Rattle.match_ask.specs.declared.LakeAlt.{LakeAlt}
 use Rattle.match_ask.specs.declared.LakeWay.{LakeWay}
-use Rattle.match_ask.specs.steps.Asks.{notAsked, wayOf, Lent, lent, isThere, askedAfter, askedOf, Standing, Asked}
+use Rattle.match_ask.specs.steps.Asks.{notAsked, wayOf, Lent, lent, isLakeOf, isThere, askedAfter, askedOf, noLake, LakeIn, Stood, Looked, Standing, Asked}
 
 -- no smaller number is left
 pub by-skip : (k : ℕ) → (k ≡ 0 → ⊥) → (k ≡ 1 → ⊥) → (k ≡ 2 → ⊥) → BySkip ≡ wayOf k
@@ -49,134 +56,192 @@ by-skip (suc (suc (suc k))) a b c = refl
 pub symbols-of : (t : List ℕ) (g : Grammar) → Holds t g → symbolCount t ≡ length (g .names)
 symbols-of t g h = sym (up-length (nameIn t) (symbolCount t)) ∙ ap length (h .names)
 
+-- ── what is asked of a symbol ──
+module _ (mid : List ℕ) (alts : List (List ℕ)) (n l : ℕ) where
+  none-in : {r : LakeAlt} → r ≡ noLake l Accepted → (ltb l n && lakeIn mid l) ≡ false → LakeIn mid alts n l r
+  none-in e h = record {
+    symbol = ap (λ (r : LakeAlt). r .symbol) e;
+    there = ap (λ (r : LakeAlt). r .there) e ∙ sym h;
+    alt = λ y. absurd (true≢false (sym y ∙ ap (λ (r : LakeAlt). r .there) e));
+    verdict = ap (λ (r : LakeAlt). r .verdict) e;
+  }
+
+  pub lake-past : {r : LakeAlt} → r ≡ noLake l Accepted → n ≤ l → LakeIn mid alts n l r
+  lake-past e h = none-in e (ap (λ (b : Bool). b && lakeIn mid l) (le-ltb l n h))
+
+  module _ (there : l < n) where
+    by-kind : {b : Bool} → lakeIn mid l ≡ b → (ltb l n && lakeIn mid l) ≡ b
+    by-kind h = ap (λ (b : Bool). b && lakeIn mid l) (lt-ltb l n there) ∙ h
+
+    pub lake-other : {r : LakeAlt} → r ≡ noLake l Accepted → lakeIn mid l ≡ false → LakeIn mid alts n l r
+    lake-other e h = none-in e (by-kind h)
+
+    pub lake-there : {a : List ℕ} → lakeIn mid l ≡ true → a ≡ getD alts (rootIn mid l) empty → LakeIn mid alts n l (record { symbol = l; there = true; alt = a; verdict = Accepted })
+    lake-there h e = record { symbol = refl; there = sym (by-kind h); alt = λ y. e; verdict = refl }
+
 -- ── of a text that is accepted ──
-module _ (m : Mode) (s t mid : List ℕ) (ms : List Bool) (sets : List (List ℕ)) (eps : List Bool) (succ alts : List (List ℕ)) (out : List ℕ) (rounds : ℕ) (st : Stands m s t mid ms sets eps succ alts out rounds) where
+module _ (m : Mode) (s : List ℕ) where
   abbrev g : Grammar
   g = numbered (rulesOf m s)
 
   abbrev p : Prepared
   p = prepared m s
 
-  pl : Plain out g (plainOf g)
-  pl = record { holds = st .worked .plain; sound = clear-sound m s (st .clear) }
-
-  pub same-symbols : symbolCount out ≡ symbolCount t
-  same-symbols = symbols-of out _ (st .worked .plain) ∙ sym (symbols-of t g (st .table))
-
-  pub few-terminals : terminalCount t ≤ 64
-  few-terminals = st .table .few-terminals
-
-  module _ (i cs : List ℕ) (l q : ℕ) where
-    by-checks : (a b : Option Refusal) → refusesRoom (p .bodies) i cs ≡ a → refuseIf (not (isThere p i l q)) 14 0 ≡ b → askedAfter (a ▸ b) p i cs l q ≡ askedOf p i cs l q
-    by-checks a b x y = sym (ap₂ (λ (o r : Option Refusal). askedAfter (o ▸ r) p i cs l q) x y)
-
-    pub lake-long : 65535 < length i → lent (notAsked (VerdictRefused 9 65535)) cs ≡ askedOf p i cs l q
+  module _ (t mid : List ℕ) (ms : List Bool) (sets : List (List ℕ)) (eps : List Bool) (succ alts : List (List ℕ)) (out : List ℕ) (rounds : ℕ) (st : Stands m s t mid ms sets eps succ alts out rounds)
+      (n l : ℕ) (e : n ≡ symbolCount out) where
+    names-long : n ≡ length (p .grammar .names)
     unfolding prepared preparedBy
-    lake-long h = by-checks (some (refusal 9 65535)) _ (input-long out i cs (symbolCount out) refl g (plainOf g) pl h) refl
+    names-long = e ∙ symbols-of out _ (st .worked .plain)
 
-    module _ (n need : ℕ) (e : n ≡ symbolCount out) (short : length i ≤ 65535) (f : need ≡ n * (length i + 1)) where
-      pub lake-few : length cs < need → lent (notAsked (VerdictRefused 10 need)) cs ≡ askedOf p i cs l q
+    kind-is : l < n → lakeIn mid l ≡ isLake (getD (p .grammar .names) l (name []))
+    unfolding prepared preparedBy
+    kind-is h = lake-is mid g (st .worked .between) (clear-good m s (st .clear) .proper) ms _ _ _ alts rounds (st .worked .analysed) l (omega (arith, h, names-long))
+
+    there-is : (ltb l n && lakeIn mid l) ≡ isLakeOf p l
+    there-is = go (lt-or-ge l n)
+      where
+        go : (l < n) ⊎ (n ≤ l) → (ltb l n && lakeIn mid l) ≡ isLakeOf p l
+        go (inl h) = ap₂ (λ (k : ℕ) (b : Bool). ltb l k && b) names-long (kind-is h)
+        go (inr h) =
+            ap (λ (b : Bool). b && lakeIn mid l) (le-ltb l n h)
+            ∙ sym (ap (λ (b : Bool). b && isLake (getD (p .grammar .names) l (name []))) (le-ltb l (length (p .grammar .names)) (omega (arith, h, names-long))))
+
+    set-is : (a : List ℕ) → l < n → a ≡ getD alts (rootIn mid l) empty → a ≡ bodyAlt (p .analysis) l
+    unfolding prepared preparedBy
+    set-is a h x = x ∙ alt-is mid g (st .worked .between) (clear-good m s (st .clear) .proper) ms _ _ _ alts rounds (st .worked .analysed) l (omega (arith, h, names-long))
+
+    inside : (b : Bool) → (ltb l n && b) ≡ true → l < n
+    inside b h = ltb-true l n (and-left (ltb l n) b h)
+
+    pub stood : (r : LakeAlt) → LakeIn mid alts n l r → Stood m s t out r
+    stood r w = record {
+      clear = st .clear;
+      table = st .table;
+      plain = record { holds = st .worked .plain; sound = clear-sound m s (st .clear) };
+      there = w .there ∙ there-is ∙ ap (isLakeOf p) (sym (w .symbol));
+      alt = λ y. set-is (r .alt) (inside (lakeIn mid l) (sym (w .there) ∙ y)) (w .alt y) ∙ ap (bodyAlt (p .analysis)) (sym (w .symbol));
+    }
+
+  module _ (t out : List ℕ) (a : LakeAlt) (st : Stood m s t out a) where
+    pub same-symbols : symbolCount out ≡ symbolCount t
+    same-symbols = symbols-of out _ (st .plain .holds) ∙ sym (symbols-of t g (st .table))
+
+    pub within : a .there ≡ true → a .symbol < symbolCount t
+    unfolding prepared preparedBy
+    within h =
+        omega (arith, symbols-of t g (st .table), ltb-true (a .symbol) (length (p .grammar .names)) (and-left (ltb (a .symbol) (length (p .grammar .names))) _ (sym (st .there) ∙ h)))
+
+    module _ (i cs : List ℕ) (q : ℕ) where
+      abbrev l : ℕ
+      l = a .symbol
+
+      by-checks : (x y : Option Refusal) → refusesRoom (p .bodies) i cs ≡ x → refuseIf (not (isThere p i l q)) 14 0 ≡ y → askedAfter (x ▸ y) p i cs l q ≡ askedOf p i cs l q
+      by-checks x y e f = sym (ap₂ (λ (o r : Option Refusal). askedAfter (o ▸ r) p i cs l q) e f)
+
+      pub long : 65535 < length i → lent (notAsked (VerdictRefused 9 65535)) cs ≡ askedOf p i cs l q
       unfolding prepared preparedBy
-      lake-few h = by-checks (some (refusal 10 need)) _ (input-few out i cs n e g (plainOf g) pl short need f h) refl
+      long h = by-checks (some (refusal 9 65535)) _ (input-long out i cs (symbolCount out) refl g (plainOf g) (st .plain) h) refl
 
-      module _ (room : need ≤ length cs) where
-        input-none : refusesRoom (p .bodies) i cs ≡ none
+      module _ (n need : ℕ) (e : n ≡ symbolCount out) (short : length i ≤ 65535) (f : need ≡ n * (length i + 1)) where
+        pub few : length cs < need → lent (notAsked (VerdictRefused 10 need)) cs ≡ askedOf p i cs l q
         unfolding prepared preparedBy
-        input-none = enough out i cs n e g (plainOf g) pl short (omega (arith, room, f))
+        few h = by-checks (some (refusal 10 need)) _ (input-few out i cs n e g (plainOf g) (st .plain) short need f h) refl
 
-        no-lake : (isThere p i l q) ≡ false → lent (notAsked (VerdictRefused 14 0)) cs ≡ askedOf p i cs l q
-        no-lake h = by-checks none (some (refusal 14 0)) input-none (ap (λ (b : Bool). refuseIf (not b) 14 0) h)
-
-        names-long : n ≡ length (p .grammar .names)
-        unfolding prepared preparedBy
-        names-long = e ∙ symbols-of out _ (st .worked .plain)
-
-        abbrev lakeful : Bool
-        lakeful = isLake (getD (p .grammar .names) l (name []))
-
-        pub lake-past : n ≤ l → lent (notAsked (VerdictRefused 14 0)) cs ≡ askedOf p i cs l q
-        lake-past h = no-lake (ap (λ (b : Bool). (b && lakeful) && leb q (length i)) (le-ltb l (length (p .grammar .names)) (omega (arith, h, names-long))))
-
-        module _ (there : l < n) where
-          kind-is : lakeIn mid l ≡ lakeful
+        module _ (room : need ≤ length cs) where
+          input-none : refusesRoom (p .bodies) i cs ≡ none
           unfolding prepared preparedBy
-          kind-is = lake-is mid g (st .worked .between) (clear-good m s (st .clear) .proper) ms _ _ _ alts rounds (st .worked .analysed) l (omega (arith, there, names-long))
+          input-none = enough out i cs n e g (plainOf g) (st .plain) short (omega (arith, room, f))
 
-          by-kind : (b c : Bool) → lakeful ≡ b → leb q (length i) ≡ c → (isThere p i l q) ≡ (b && c)
-          by-kind b c x y =
-              ap (λ (a : Bool). (a && lakeful) && leb q (length i)) (lt-ltb l (length (p .grammar .names)) (omega (arith, there, names-long)))
-              ∙ ap₂ _&&_ x y
+          not-there : isThere p i l q ≡ false → lent (notAsked (VerdictRefused 14 0)) cs ≡ askedOf p i cs l q
+          not-there h = by-checks none (some (refusal 14 0)) input-none (ap (λ (b : Bool). refuseIf (not b) 14 0) h)
 
-          pub lake-other : lakeIn mid l ≡ false → lent (notAsked (VerdictRefused 14 0)) cs ≡ askedOf p i cs l q
-          lake-other h = no-lake (by-kind false (leb q (length i)) (sym kind-is ∙ h) refl)
+          by-parts : (b c : Bool) → a .there ≡ b → leb q (length i) ≡ c → isThere p i l q ≡ (b && c)
+          by-parts b c x y = ap₂ _&&_ (sym (st .there) ∙ x) y
 
-          pub lake-behind : lakeIn mid l ≡ true → length i < q → lent (notAsked (VerdictRefused 14 0)) cs ≡ askedOf p i cs l q
-          lake-behind h k = no-lake (by-kind true false (sym kind-is ∙ h) (lt-leb q (length i) k))
+          pub other : a .there ≡ false → lent (notAsked (VerdictRefused 14 0)) cs ≡ askedOf p i cs l q
+          other h = not-there (by-parts false (leb q (length i)) h refl)
 
-          module _ (is : lakeIn mid l ≡ true) (in-text : q ≤ length i) (new : List ℕ) (fills : Fills out i cs new) where
-            checks : refuseIf (not (isThere p i l q)) 14 0 ≡ none
-            checks = ap (λ (b : Bool). refuseIf (not b) 14 0) (by-kind true true (sym kind-is ∙ is) (le-leb q (length i) in-text))
+          module _ (there : a .there ≡ true) where
+            pub behind : length i < q → lent (notAsked (VerdictRefused 14 0)) cs ≡ askedOf p i cs l q
+            behind k = not-there (by-parts true false there (lt-leb q (length i) k))
 
-            cells-are : new ≡ filledBy (p .bodies) i cs
-            unfolding prepared preparedBy
-            cells-are = fills .are g (plainOf g) pl (clear-loop m s (st .clear))
+            module _ (in-text : q ≤ length i) (new : List ℕ) (fills : Fills out i cs new) where
+              checks : refuseIf (not (isThere p i l q)) 14 0 ≡ none
+              checks = ap (λ (b : Bool). refuseIf (not b) 14 0) (by-parts true true there (le-leb q (length i) in-text))
 
-            set-is : (a : List ℕ) → a ≡ getD alts (rootIn mid l) empty → a ≡ bodyAlt (p .analysis) l
-            unfolding prepared preparedBy
-            set-is a x = x ∙ alt-is mid g (st .worked .between) (clear-good m s (st .clear) .proper) ms _ _ _ alts rounds (st .worked .analysed) l (omega (arith, there, names-long))
+              cells-are : new ≡ filledBy (p .bodies) i cs
+              unfolding prepared preparedBy
+              cells-are = fills .are g (plainOf g) (st .plain) (clear-loop m s (st .clear))
 
-            count-is : n ≡ length (p .bodies)
-            unfolding prepared preparedBy
-            count-is = e ∙ bodies-are out g (plainOf g) (pl .holds)
+              count-is : n ≡ length (p .bodies)
+              unfolding prepared preparedBy
+              count-is = e ∙ bodies-are out g (plainOf g) (st .plain .holds)
 
-            way-all : (a : List ℕ) (w : ℕ) → a ≡ getD alts (rootIn mid l) empty → w ≡ wayIn (grammarIn t) i new n a l q → w ≡ wayIn (p .grammar) i (filledBy (p .bodies) i cs) (length (p .bodies)) (bodyAlt (p .analysis) l) l q
-            unfolding prepared preparedBy
-            way-all a w x y =
-                way-is t g (st .table) (clear-good m s (st .clear) .proper) i new n a l q w y
-                ∙ ap (λ (z : List ℕ). wayIn g i new n z l q) (set-is a x)
-                ∙ ap₂ (λ (cs : List ℕ) (k : ℕ). wayIn g i cs k (bodyAlt (analysis g) l) l q) cells-are count-is
+              way-all : (w : ℕ) → w ≡ wayIn (grammarIn t) i new n (a .alt) l q → w ≡ wayIn (p .grammar) i (filledBy (p .bodies) i cs) (length (p .bodies)) (bodyAlt (p .analysis) l) l q
+              unfolding prepared preparedBy
+              way-all w y =
+                  way-is t g (st .table) (clear-good m s (st .clear) .proper) i new n (a .alt) l q w y
+                  ∙ ap (λ (z : List ℕ). wayIn g i new n z l q) (st .alt there)
+                  ∙ ap₂ (λ (cs : List ℕ) (k : ℕ). wayIn g i cs k (bodyAlt (analysis g) l) l q) cells-are count-is
 
-            pub lake-answered : (a : List ℕ) (w : ℕ) (r : Way) → a ≡ getD alts (rootIn mid l) empty → w ≡ wayIn (grammarIn t) i new n a l q → r ≡ wayOf w
-                → lent (record { way = r; verdict = Accepted }) new ≡ askedOf p i cs l q
-            lake-answered a w r x y z =
-                ap₂ (λ (v : Way) (c : List ℕ). lent (record { way = v; verdict = Accepted }) c) (z ∙ ap wayOf (way-all a w x y)) cells-are ∙ by-checks none none input-none checks
+              pub answered : (w : ℕ) (r : Way) → w ≡ wayIn (grammarIn t) i new n (a .alt) l q → r ≡ wayOf w → lent (record { way = r; verdict = Accepted }) new ≡ askedOf p i cs l q
+              answered w r y z =
+                  ap₂ (λ (v : Way) (c : List ℕ). lent (record { way = v; verdict = Accepted }) c) (z ∙ ap wayOf (way-all w y)) cells-are ∙ by-checks none none input-none checks
 
 -- ── as the code has it ──
-module _ {t mid : List ℕ} {alts : List (List ℕ)} {out : List ℕ} (w : Standing t mid alts out) where
+-- the verdict of a text that is refused, handed on
+pub looked-refused : {m : Mode} {s t out : List ℕ} {l : ℕ} {c : Counted} {r : LakeAlt} → r ≡ noLake l (c .verdict) → c ≡ readOf m s → isRefused (c .verdict) ≡ true → Looked m s t out l r
+looked-refused e f h = record {
+  answer = ap (λ (r : LakeAlt). r .verdict) e ∙ ap (λ (c : Counted). c .verdict) f;
+  symbol = ap (λ (r : LakeAlt). r .symbol) e;
+  stood = λ z. absurd (true≢false (sym h ∙ sym (ap (λ (r : LakeAlt). isRefused (r .verdict)) e) ∙ z));
+}
+
+pub looked-accepted : {m : Mode} {s t mid : List ℕ} {ms : List Bool} {sets : List (List ℕ)} {eps : List Bool} {succ alts : List (List ℕ)} {out : List ℕ} {rounds : ℕ} {c : Counted}
+    → Ready m s t mid ms sets eps succ alts out c rounds → isRefused (c .verdict) ≡ false → (n l : ℕ) → n ≡ symbolCount out → (r : LakeAlt) → LakeIn mid alts n l r → Looked m s t out l r
+looked-accepted {m} {s} {t} {mid} {ms} {sets} {eps} {succ} {alts} {out} {rounds} {c} w h n l e r i = record {
+  answer = i .verdict ∙ sym (accepted (c .verdict) h) ∙ ap (λ (c : Counted). c .verdict) (w .answer);
+  symbol = i .symbol;
+  stood = λ z. stood m s t mid ms sets eps succ alts out rounds (w .stands h) n l e r i;
+}
+  where
+    accepted : (v : Verdict) → isRefused v ≡ false → v ≡ Accepted
+    accepted Accepted z = refl
+    accepted (VerdictRefused k q) z = absurd (true≢false z)
+
+module _ {t out : List ℕ} {a : LakeAlt} (w : Standing t out a) where
   pub standing-same : symbolCount out ≡ symbolCount t
-  standing-same = same-symbols (w .mode) (w .text) t mid (w .marks) (w .sets) (w .eps) (w .succ) alts out (w .rounds) (w .stands)
+  standing-same = same-symbols (w .mode) (w .text) t out a (w .stood)
 
   pub standing-few : symbolCount out ≤ 64
-  standing-few = w .stands .worked .plain .few-symbols
+  standing-few = w .stood .plain .holds .few-symbols
 
   pub standing-terminals : terminalCount t ≤ 64
-  standing-terminals = w .stands .table .few-terminals
+  standing-terminals = w .stood .table .few-terminals
+
+  pub standing-within : a .there ≡ true → a .symbol < symbolCount t
+  standing-within = within (w .mode) (w .text) t out a (w .stood)
 
 -- the same answer beside the same cells
 same : {r r′ : LakeWay} {cs : List ℕ} {x : Lent} → r ≡ r′ → lent r′ cs ≡ x → lent r cs ≡ x
 same {cs = cs} e h = ap (λ (r : LakeWay). lent r cs) e ∙ h
 
-module _ {t mid : List ℕ} {alts : List (List ℕ)} {out : List ℕ} (i cs : List ℕ) (l q : ℕ) where
-  pub asked-long : {r : LakeWay} → r ≡ notAsked (VerdictRefused 9 65535) → 65535 < length i → Asked t mid alts out i cs l q cs r
-  asked-long e h = record { are = λ m s ms sets eps succ rounds st. same e (lake-long m s t mid ms sets eps succ alts out rounds st i cs l q h) }
+module _ {t out : List ℕ} {a : LakeAlt} (i cs : List ℕ) (q : ℕ) where
+  pub asked-long : {r : LakeWay} → r ≡ notAsked (VerdictRefused 9 65535) → 65535 < length i → Asked t out a i cs q cs r
+  asked-long e h = record { are = λ m s st. same e (long m s t out a st i cs q h) }
 
   module _ (n need : ℕ) (e : n ≡ symbolCount out) (short : length i ≤ 65535) (f : need ≡ n * (length i + 1)) where
-    pub asked-few : {r : LakeWay} → r ≡ notAsked (VerdictRefused 10 need) → length cs < need → Asked t mid alts out i cs l q cs r
-    asked-few z h = record { are = λ m s ms sets eps succ rounds st. same z (lake-few m s t mid ms sets eps succ alts out rounds st i cs l q n need e short f h) }
+    pub asked-few : {r : LakeWay} → r ≡ notAsked (VerdictRefused 10 need) → length cs < need → Asked t out a i cs q cs r
+    asked-few z h = record { are = λ m s st. same z (few m s t out a st i cs q n need e short f h) }
 
     module _ (room : need ≤ length cs) where
-      pub asked-past : {r : LakeWay} → r ≡ notAsked (VerdictRefused 14 0) → n ≤ l → Asked t mid alts out i cs l q cs r
-      asked-past z h = record { are = λ m s ms sets eps succ rounds st. same z (lake-past m s t mid ms sets eps succ alts out rounds st i cs l q n need e short f room h) }
+      pub asked-other : {r : LakeWay} → r ≡ notAsked (VerdictRefused 14 0) → a .there ≡ false → Asked t out a i cs q cs r
+      asked-other z h = record { are = λ m s st. same z (other m s t out a st i cs q n need e short f room h) }
 
-      module _ (there : l < n) where
-        pub asked-other : {r : LakeWay} → r ≡ notAsked (VerdictRefused 14 0) → lakeIn mid l ≡ false → Asked t mid alts out i cs l q cs r
-        asked-other z h = record { are = λ m s ms sets eps succ rounds st. same z (lake-other m s t mid ms sets eps succ alts out rounds st i cs l q n need e short f room there h) }
+      module _ (there : a .there ≡ true) where
+        pub asked-behind : {r : LakeWay} → r ≡ notAsked (VerdictRefused 14 0) → length i < q → Asked t out a i cs q cs r
+        asked-behind z k = record { are = λ m s st. same z (behind m s t out a st i cs q n need e short f room there k) }
 
-        pub asked-behind : {r : LakeWay} → r ≡ notAsked (VerdictRefused 14 0) → lakeIn mid l ≡ true → length i < q → Asked t mid alts out i cs l q cs r
-        asked-behind z h k = record { are = λ m s ms sets eps succ rounds st. same z (lake-behind m s t mid ms sets eps succ alts out rounds st i cs l q n need e short f room there h k) }
-
-        pub asked-all : lakeIn mid l ≡ true → q ≤ length i → (new : List ℕ) → Fills out i cs new → (a : List ℕ) (w : ℕ) (r : Way) → a ≡ getD alts (rootIn mid l) empty → w ≡ wayIn (grammarIn t) i new n a l q → r ≡ wayOf w
-            → Asked t mid alts out i cs l q new (record { way = r; verdict = Accepted })
-        asked-all is k new fills a w r x y z = record {
-          are = λ m s ms sets eps succ rounds st. lake-answered m s t mid ms sets eps succ alts out rounds st i cs l q n need e short f room there is k new fills a w r x y z;
-        }
+        pub asked-all : q ≤ length i → (new : List ℕ) → Fills out i cs new → (w : ℕ) (r : Way) → w ≡ wayIn (grammarIn t) i new n (a .alt) (a .symbol) q → r ≡ wayOf w
+            → Asked t out a i cs q new (record { way = r; verdict = Accepted })
+        asked-all k new fills w r y z = record { are = λ m s st. answered m s t out a st i cs q n need e short f room there k new fills w r y z }

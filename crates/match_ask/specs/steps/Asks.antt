@@ -1,24 +1,32 @@
 -- The lake question on the tables of a grammar, as code says it (01, Meaning of a match, "Other calls"). Assumes nothing: these are definitions.
 use Prim.Native.Nat.{ℕ, zero, suc}
 use mathlib.Core.Path.{_≡_}
-use mathlib.Core.Bool.{Bool, not, _&&_}
+use mathlib.Core.Bool.{Bool, true, false, not, _&&_}
 use mathlib.Core.List.{List, []}
 use mathlib.Core.Option.{Option, none, some}
 use lib.ListN.{length, getD}
 use lib.Dec.{leb, ltb}
 use Rattle.read_tokens.specs.declared.Mode.{Mode}
 use Rattle.read_tokens.specs.Token.{name}
-use Rattle.grammar.specs.Numbers.{isLake}
+use Rattle.grammar.specs.Numbers.{numbered, isLake}
 use Rattle.grammar.specs.Refusal.{Refusal, refuseIf, _▸_}
+use Rattle.grammar_table.specs.Holds.{Holds}
+use Rattle.read_syntax.specs.Reading.{rulesOf}
+use Rattle.base_words.specs.Set.{empty}
 use Rattle.lake_rules.specs.Analysis.{bodyAlt}
+use Rattle.lake_sets.specs.steps.Steps.{rootIn}
+use Rattle.lake_analysis.specs.steps.Lent.{lakeIn}
+use Rattle.lake_step_two.specs.steps.Stepped.{plainOf}
+use Rattle.match_cells.specs.steps.Runs.{Plain}
 use Rattle.match_lake.specs.Asking.{wayIn}
 use Rattle.match_run.specs.steps.Runs.{refusesRoom, filledBy}
 use Rattle.prepare.specs.declared.Verdict.{Verdict}
 use Rattle.prepare.specs.declared.Verdict.the-variants.{Accepted, Refused as VerdictRefused}
-use Rattle.prepare.specs.Prepare.{Prepared, prepared}
-use Rattle.prepare.specs.steps.Loads.{Stands}
+use Rattle.prepare.specs.Prepare.{Prepared, prepared, refuses}
+use Rattle.prepare.specs.Reads.{readOf, isRefused}
 use Rattle.match_ask.specs.declared.Way.{Way}
 use Rattle.match_ask.specs.declared.Way.the-variants.{Not, ByRule, ByWater, BySkip}
+use Rattle.match_ask.specs.declared.LakeAlt.{LakeAlt}
 use Rattle.match_ask.specs.declared.LakeWay.{LakeWay}
 
 -- a refusal, handed on
@@ -40,9 +48,13 @@ pub record Lent : Type 0 where
 abbrev pub lent : LakeWay → List ℕ → Lent
 lent r cs = record { answer = r; cells = cs }
 
+-- "a lake, by its symbol number"
+abbrev pub isLakeOf : Prepared → ℕ → Bool
+isLakeOf p l = ltb l (length (p .grammar .names)) && isLake (getD (p .grammar .names) l (name []))
+
 -- 14: no such lake or position
 abbrev pub isThere : Prepared → List ℕ → ℕ → ℕ → Bool
-isThere p s l q = (ltb l (length (p .grammar .names)) && isLake (getD (p .grammar .names) l (name []))) && leb q (length s)
+isThere p s l q = isLakeOf p l && leb q (length s)
 
 abbrev pub askedAfter : Option Refusal → Prepared → List ℕ → List ℕ → ℕ → ℕ → Lent
 askedAfter (some r) p s cs l q = lent (notAsked (VerdictRefused (r .number) (r .place))) cs
@@ -55,18 +67,37 @@ askedAfter none p s cs l q =
 abbrev pub askedOf : Prepared → List ℕ → List ℕ → ℕ → ℕ → Lent
 askedOf p s cs l q = askedAfter (refusesRoom (p .bodies) s cs ▸ refuseIf (not (isThere p s l q)) 14 0) p s cs l q
 
--- the tables are those of some text that is accepted
-pub record Standing (t mid : List ℕ) (alts : List (List ℕ)) (out : List ℕ) : Type 0 where
+-- ── what is asked of a symbol ──
+abbrev pub noLake : ℕ → Verdict → LakeAlt
+noLake l v = record { symbol = l; there = false; alt = empty; verdict = v }
+
+-- of symbol l of an intermediate grammar of n symbols
+pub record LakeIn (mid : List ℕ) (alts : List (List ℕ)) (n l : ℕ) (r : LakeAlt) : Type 0 where
+  pub symbol : r .symbol ≡ l
+  pub there : r .there ≡ (ltb l n && lakeIn mid l)
+  pub alt : r .there ≡ true → r .alt ≡ getD alts (rootIn mid l) empty
+  pub verdict : r .verdict ≡ Accepted
+
+-- of a text that is accepted: the tables of its grammar and of its plain form, and all that is asked of a symbol
+pub record Stood (m : Mode) (s t out : List ℕ) (r : LakeAlt) : Type 0 where
+  pub clear : refuses m s ≡ none
+  pub table : Holds t (numbered (rulesOf m s))
+  pub plain : Plain out (numbered (rulesOf m s)) (plainOf (numbered (rulesOf m s)))
+  pub there : r .there ≡ isLakeOf (prepared m s) (r .symbol)
+  pub alt : r .there ≡ true → r .alt ≡ bodyAlt (prepared m s .analysis) (r .symbol)
+
+-- the verdict on a text, and that where it is no refusal
+pub record Looked (m : Mode) (s t out : List ℕ) (l : ℕ) (r : LakeAlt) : Type 0 where
+  pub answer : r .verdict ≡ readOf m s .verdict
+  pub symbol : r .symbol ≡ l
+  pub stood : isRefused (r .verdict) ≡ false → Stood m s t out r
+
+-- it is so of some text that is accepted
+pub record Standing (t out : List ℕ) (r : LakeAlt) : Type 0 where
   pub mode : Mode
   pub text : List ℕ
-  pub marks : List Bool
-  pub sets : List (List ℕ)
-  pub eps : List Bool
-  pub succ : List (List ℕ)
-  pub rounds : ℕ
-  pub stands : Stands mode text t mid marks sets eps succ alts out rounds
+  pub stood : Stood mode text t out r
 
--- for whatever text has these tables
-pub record Asked (t mid : List ℕ) (alts : List (List ℕ)) (out input cs : List ℕ) (lake place : ℕ) (new : List ℕ) (r : LakeWay) : Type 0 where
-  pub are : (m : Mode) (s : List ℕ) (ms : List Bool) (sets : List (List ℕ)) (eps : List Bool) (succ : List (List ℕ)) (rounds : ℕ)
-      → Stands m s t mid ms sets eps succ alts out rounds → lent r new ≡ askedOf (prepared m s) input cs lake place
+-- for whatever text it is so of
+pub record Asked (t out : List ℕ) (a : LakeAlt) (input cs : List ℕ) (place : ℕ) (new : List ℕ) (r : LakeWay) : Type 0 where
+  pub are : (m : Mode) (s : List ℕ) → Stood m s t out a → lent r new ≡ askedOf (prepared m s) input cs (a .symbol) place
