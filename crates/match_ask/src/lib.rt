@@ -143,8 +143,10 @@ pub fn ask(
     }
     let mut mem: Memory = [0; match_eval::memory::WORDS];
     match_cells::filling::fill(plain, input, cells, &mut mem);
+    // what filling remembered is about the plain table
+    mem = [0; match_eval::memory::WORDS];
     let a = l.alt;
-    let w = match_lake::way(t, input, cells, n, a, l.symbol, place);
+    let w = match_lake::way(t, input, cells, &mem, a, l.symbol, place);
     let how = way_of(w);
     LakeWay {
         way: how,

@@ -11,18 +11,21 @@ ghost use Rattle.grammar.specs.Numbers.{isLake};
 ghost use Rattle.grammar_table.specs.Table.{upTo, symbolCount, terminalCount, nameIn, leafIn, bodyBy, grammarIn};
 ghost use Rattle.lake_step_one.specs.Intermediate.{waterName, waterIn};
 ghost use Rattle.lake_plain.specs.Plain.{nonterminalsIn, terminalsIn};
+ghost use Rattle.match_eval.specs.steps.Memory.{Knows};
 ghost use Rattle.match_lake.specs.Asking.{noneMatches, ownTakes, symbolFails, terminalFails, wayIn};
+use grammar_table::Table;
 use grammar_table::records;
+use match_eval::memory::Memory;
 
 // Whether the body with word b matches at p; there is none for 0.
-fn takes(t: &[u32], s: &[u8], cells: &[u32], n: usize, b: usize, p: usize) -> bool
-    requires { ⌜ (n ≤ 64) × (b < 4294967296) × (length (now s) ≤ 65535) × (p ≤ length (now s)) ⌝ }
+fn takes(t: &Table, s: &[u8], cells: &[u32], mem: &Memory, n: usize, b: usize, p: usize) -> bool
+    requires { ⌜ ((n ≤ 64) × (b < 4294967296) × (length (now s) ≤ 65535) × (p ≤ length (now s))) × Knows (now t) (now s) (now cells) n (now mem) 0 p ⌝ }
     ensures { λ r. ⌜ r ≡ ownTakes (now (s .entry)) (now (cells .entry)) n (bodyBy (now (t .entry)) b) p ⌝ }
 {
     if b == 0 {
         return false;
     }
-    let v = match_eval::eval(t, s, cells, n, b, p);
+    let v = match_eval::eval_with(t, s, cells, mem, n, b, p);
     if v == 0 {
         return false;
     }
@@ -57,8 +60,9 @@ fn water_body(t: &[u32], n: usize) -> usize
 }
 
 // Whether `water` matches at p: "`!.` where there is no such rule".
-fn water_takes(t: &[u32], s: &[u8], cells: &[u32], n: usize, p: usize) -> bool
-    requires { ⌜ (n ≡ symbolCount (now t)) × (n ≤ 64) × (length (now s) ≤ 65535) × (p ≤ length (now s)) ⌝ }
+fn water_takes(t: &Table, s: &[u8], cells: &[u32], mem: &Memory, n: usize, p: usize) -> bool
+    requires { ⌜ ((n ≡ symbolCount (now t)) × (n ≤ 64) × (length (now s) ≤ 65535) × (p ≤ length (now s)))
+        × Knows (now t) (now s) (now cells) n (now mem) 0 p ⌝ }
     ensures { λ r. ⌜ r ≡ ownTakes (now (s .entry)) (now (cells .entry)) n (some (waterOf (waterIn (grammarIn (now (t .entry)))))) p ⌝ }
 {
     let b = water_body(t, n);
@@ -68,7 +72,7 @@ fn water_takes(t: &[u32], s: &[u8], cells: &[u32], n: usize, p: usize) -> bool
         }
         return false;
     }
-    takes(t, s, cells, n, b, p)
+    takes(t, s, cells, mem, n, b, p)
 }
 
 // Whether symbol i is no alternative or fails at p: lakes are none.
@@ -136,16 +140,26 @@ fn terminals_fail(t: &[u32], s: &[u8], m: usize, alt: [u64; 2], p: usize) -> boo
     true
 }
 
-// How lake l with the alternative symbols of a set matches at p: 1 its own rule, 2 water, 3 one byte skipped, 0 not.
-pub fn way(t: &[u32], s: &[u8], cells: &[u32], n: usize, alt: [u64; 2], l: usize, p: usize) -> usize
-    requires { ⌜ (n ≡ symbolCount (now t)) × (n ≤ 64) × (terminalCount (now t) ≤ 64) × (l < n) × (length (now s) ≤ 65535) × (p ≤ length (now s)) ⌝ }
-    ensures { λ r. ⌜ r ≡ wayIn (grammarIn (now (t .entry))) (now (s .entry)) (now (cells .entry)) n alt l p ⌝ }
+// How lake l with the alternative symbols of a set matches at p: 1 its own rule, 2 water, 3 one byte skipped, 0 not. What the memory says has to be about t.
+pub fn way(
+    t: &Table,
+    s: &[u8],
+    cells: &[u32],
+    mem: &Memory,
+    alt: [u64; 2],
+    l: usize,
+    p: usize,
+) -> usize
+    requires { ⌜ ((symbolCount (now t) ≤ 64) × (terminalCount (now t) ≤ 64) × (l < symbolCount (now t)) × (length (now s) ≤ 65535) × (p ≤ length (now s)))
+        × Knows (now t) (now s) (now cells) (symbolCount (now t)) (now mem) 0 p ⌝ }
+    ensures { λ r. ⌜ r ≡ wayIn (grammarIn (now (t .entry))) (now (s .entry)) (now (cells .entry)) (symbolCount (now (t .entry))) alt l p ⌝ }
 {
+    let n = records::symbols(t);
     let b = records::body(t, l);
-    if takes(t, s, cells, n, b, p) {
+    if takes(t, s, cells, mem, n, b, p) {
         return 1;
     }
-    if water_takes(t, s, cells, n, p) {
+    if water_takes(t, s, cells, mem, n, p) {
         return 2;
     }
     if s.len() <= p {

@@ -3,6 +3,7 @@ use mathlib.Core.Path.{refl, _∙_}
 use native.Mathlib.Omega.{arith}
 use lib.ListN.{length}
 use Rattle.base_facts.specs.laws.Bools.{not-false, not-true}
+use Rattle.match_eval.specs.laws.Memory.{knows-nothing}
 use Rattle.match_run.specs.laws.Runs.{need-small}
 use Rattle.match_ask.specs.laws.Asks.{standing-same, standing-few, standing-terminals, standing-within}
 use Rattle.match_ask.specs.laws.Asks.{asked-long, asked-few, asked-other, asked-behind, asked-all}
@@ -75,29 +76,28 @@ slice-aggregate-fill c = search needs
 
 fill-requires : tie.Need-fill-requires
 fill-requires c κs = (
-  (standing-few (c .before .before .before .before .before .before .before .before .before .before .before .pre), omega
-  (arith, c .before .before .before .before .before .before .before .before .if1 .left)),
+  (
+    standing-few (c .before .before .before .before .before .before .before .before .before .before .before .pre),
+    omega
+        (arith, c .before .before .before .before .before .before .before .before .if1 .left),
+  ),
   fresh-none (c .before .before .before .before .before .before .before .before .before .before .before .args .plain .now) 26901 (omega arith),
 )
 
 way-requires : tie.Need-way-requires
-way-requires c κs = (
-  c .before .before .before .before .before .before .before .before .before .before .before .before .before .before .symbols .ensures ∙ standing-same
-  (c .before .before .before .before .before .before .before .before .before .before .before .before .before .before .before .before .before .before .pre),
-  omega (arith, c .before .before .before .before .before .before .before .before .before .before .before .before .before .before .symbols .ensures, standing-few
-  (c .before .before .before .before .before .before .before .before .before .before .before .before .before .before .before .before .before .before .pre)),
-  standing-terminals (c .before .before .before .before .before .before .before .before .before .before .before .before .before .before .before .before .before .before .pre),
-  omega (
-    arith,
-    c .before .before .before .before .before .before .before .before .before .before .before .before .before .before .symbols .ensures,
-    standing-same (c .before .before .before .before .before .before .before .before .before .before .before .before .before .before .before .before .before .before .pre),
-    standing-within (c .before .before .before .before .before .before .before .before .before .before .before .before .before .before .before .before .before .before .pre)
-    (not-false (c .before .before .before .before .before .before .before .before .before .before .before .before .before .before .before .before .before .before .args .l .there)
-    (c .before .before .before .before .before .before .before .before .before .before .before .if3 .left)),
-  ),
-  omega (arith, c .before .before .before .before .before .before .before .before .before .before .before .before .before .before .before .if1 .left),
-  omega (arith, c .before .before .before .before .before .before .before .before .before .before .if4 .left),
-)
+way-requires c κs =
+    let w = c .before .before .before .before .before .before .before .before .before .before .before .before .before .before .before .before .before .before .pre in (
+      (
+        omega (arith, standing-same w, standing-few w),
+        standing-terminals w,
+        standing-within w (not-false
+            (c .before .before .before .before .before .before .before .before .before .before .before .before .before .before .before .before .before .before .args .l .there)
+            (c .before .before .before .before .before .before .before .before .before .before .before .if3 .left)),
+        omega (arith, c .before .before .before .before .before .before .before .before .before .before .before .before .before .before .before .if1 .left),
+        omega (arith, c .before .before .before .before .before .before .before .before .before .before .if4 .left),
+      ),
+      knows-nothing _ _ _ _ _ _ 26901,
+    )
 
 way-of-requires : tie.Need-way-of-requires
 way-of-requires c κs = search needs
@@ -106,16 +106,14 @@ same-length : tie.Need-same-length
 same-length c = search needs
 
 returns-5 : tie.Need-returns-5
-returns-5 c = asked-all
-    (c .before .before .before .before .before .before .before .before .before .before .before .before .before .before .before .before .before .before .before .before .args .input .now)
-    (c .before .before .before .before .before .before .before .before .before .before .before .before .before .before .before .before .before .before .before .before .args .cells .now)
-    (c .before .before .before .before .before .before .before .before .before .before .before .before .before .before .before .before .before .before .before .before .args .place)
+returns-5 c =
+    let a = c .before .before .before .before .before .before .before .before .before .before .before .before .before .before .before .before .before .before .before .before .args in
+    asked-all (a .input .now) (a .cells .now) (a .place)
     (c .before .before .before .before .before .before .before .before .before .before .before .before .before .before .before .before .symbols .result) _
-    (c .before .before .before .before .before .before .before .before .before .before .before .before .before .before .before .before .symbols .ensures) (omega
-    (arith, c .before .before .before .before .before .before .before .before .before .before .before .before .before .before .before .before .before .if1 .left)) refl
-    (omega (arith, c .before .before .before .before .before .before .before .before .before .before .before .before .before .before .before .if2 .left)) (not-false
-    (c .before .before .before .before .before .before .before .before .before .before .before .before .before .before .before .before .before .before .before .before .args .l .there)
-    (c .before .before .before .before .before .before .before .before .before .before .before .before .before .if3 .left))
+    (c .before .before .before .before .before .before .before .before .before .before .before .before .before .before .before .before .symbols .ensures)
+    (omega (arith, c .before .before .before .before .before .before .before .before .before .before .before .before .before .before .before .before .before .if1 .left)) refl
+    (omega (arith, c .before .before .before .before .before .before .before .before .before .before .before .before .before .before .before .if2 .left))
+    (not-false (a .l .there) (c .before .before .before .before .before .before .before .before .before .before .before .before .before .if3 .left))
     (omega (arith, c .before .before .before .before .before .before .before .before .before .before .before .before .if4 .left)) _
     (c .before .before .before .before .before .before .before .before .fill .ensures .0)
     (c .before .way .result) (c .way-of .result) (c .before .way .ensures) (c .way-of .ensures)

@@ -47,10 +47,10 @@ lake-in-requires c κs = omega (
   arith,
   c .before .before .symbols .ensures,
   (c .before .before .before .before .before .before .before .finish .ensures .ready
-  (c .before .before .before .before .before .before .before .before .before .before .before .before .before .before .before .before .before .before .args .mode)
-  (c .before .before .before .before .before .before .before .before .before .before .before .before .before .before .before .before .before .before .args .text .now) _ _ _ _ _
-  (c .before .before .before .before .before .before .before .before .before .before .before .before .before .before .before .load .ensures)
-  (c .before .before .before .before .before .before .before .before .before .before .before .alternatives .ensures .between))
+      (c .before .before .before .before .before .before .before .before .before .before .before .before .before .before .before .before .before .before .args .mode)
+      (c .before .before .before .before .before .before .before .before .before .before .before .before .before .before .before .before .before .before .args .text .now) _ _ _ _ _
+      (c .before .before .before .before .before .before .before .before .before .before .before .before .before .before .before .load .ensures)
+      (c .before .before .before .before .before .before .before .before .before .before .before .alternatives .ensures .between))
       .stands (sym (c .before .before .before .before .before .is-refused .ensures) ∙ c .before .before .before .before .if1 .left) .worked .plain .few-symbols,
 )
 

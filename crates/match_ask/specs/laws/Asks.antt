@@ -173,18 +173,18 @@ module _ (m : Mode) (s : List ℕ) where
               unfolding prepared preparedBy
               cells-are = fills .are g (plainOf g) (st .plain) (clear-loop m s (st .clear))
 
-              count-is : n ≡ length (p .bodies)
+              count-is : symbolCount t ≡ length (p .bodies)
               unfolding prepared preparedBy
-              count-is = e ∙ bodies-are out g (plainOf g) (st .plain .holds)
+              count-is = sym same-symbols ∙ bodies-are out g (plainOf g) (st .plain .holds)
 
-              way-all : (w : ℕ) → w ≡ wayIn (grammarIn t) i new n (a .alt) l q → w ≡ wayIn (p .grammar) i (filledBy (p .bodies) i cs) (length (p .bodies)) (bodyAlt (p .analysis) l) l q
+              way-all : (w : ℕ) → w ≡ wayIn (grammarIn t) i new (symbolCount t) (a .alt) l q → w ≡ wayIn (p .grammar) i (filledBy (p .bodies) i cs) (length (p .bodies)) (bodyAlt (p .analysis) l) l q
               unfolding prepared preparedBy
               way-all w y =
-                  way-is t g (st .table) (clear-good m s (st .clear) .proper) i new n (a .alt) l q w y
-                  ∙ ap (λ (z : List ℕ). wayIn g i new n z l q) (st .alt there)
+                  way-is t g (st .table) (clear-good m s (st .clear) .proper) i new (symbolCount t) (a .alt) l q w y
+                  ∙ ap (λ (z : List ℕ). wayIn g i new (symbolCount t) z l q) (st .alt there)
                   ∙ ap₂ (λ (cs : List ℕ) (k : ℕ). wayIn g i cs k (bodyAlt (analysis g) l) l q) cells-are count-is
 
-              pub answered : (w : ℕ) (r : Way) → w ≡ wayIn (grammarIn t) i new n (a .alt) l q → r ≡ wayOf w → lent (record { way = r; verdict = Accepted }) new ≡ askedOf p i cs l q
+              pub answered : (w : ℕ) (r : Way) → w ≡ wayIn (grammarIn t) i new (symbolCount t) (a .alt) l q → r ≡ wayOf w → lent (record { way = r; verdict = Accepted }) new ≡ askedOf p i cs l q
               answered w r y z =
                   ap₂ (λ (v : Way) (c : List ℕ). lent (record { way = v; verdict = Accepted }) c) (z ∙ ap wayOf (way-all w y)) cells-are ∙ by-checks none none input-none checks
 
@@ -242,6 +242,6 @@ module _ {t out : List ℕ} {a : LakeAlt} (i cs : List ℕ) (q : ℕ) where
         pub asked-behind : {r : LakeWay} → r ≡ notAsked (VerdictRefused 14 0) → length i < q → Asked t out a i cs q cs r
         asked-behind z k = record { are = λ m s st. same z (behind m s t out a st i cs q n need e short f room there k) }
 
-        pub asked-all : q ≤ length i → (new : List ℕ) → Fills out i cs new → (w : ℕ) (r : Way) → w ≡ wayIn (grammarIn t) i new n (a .alt) (a .symbol) q → r ≡ wayOf w
+        pub asked-all : q ≤ length i → (new : List ℕ) → Fills out i cs new → (w : ℕ) (r : Way) → w ≡ wayIn (grammarIn t) i new (symbolCount t) (a .alt) (a .symbol) q → r ≡ wayOf w
             → Asked t out a i cs q new (record { way = r; verdict = Accepted })
         asked-all k new fills w r y z = record { are = λ m s st. answered m s t out a st i cs q n need e short f room there k new fills w r y z }

@@ -23,14 +23,16 @@ returns c = water-none-ends (c .before .before .before .before .before .before .
     (c .before .before .before .before .before .before .args .cells .now) (c .before .before .before .before .before .before .args .n)
     (c .before .before .before .before .before .before .args .p) (c .before .before .water-body .result) (c .before .if1 .taken) (c .if2 .taken) ∙ ap
     (λ (o : Option (Exp ℕ)). ownTakes (c .before .before .before .before .before .before .args .s .now) (c .before .before .before .before .before .before .args .cells .now)
-    (c .before .before .before .before .before .before .args .n) (some (waterOf o)) (c .before .before .before .before .before .before .args .p)) (c .before .before .water-body .ensures .0)
+    (c .before .before .before .before .before .before .args .n) (some (waterOf o)) (c .before .before .before .before .before .before .args .p))
+    (c .before .before .water-body .ensures .0)
 
 returns-2 : tie.Need-returns-2
 returns-2 c = water-none (c .before .before .before .before .before .before .args .t .now) (c .before .before .before .before .before .before .args .s .now)
     (c .before .before .before .before .before .before .args .cells .now) (c .before .before .before .before .before .before .args .n)
     (c .before .before .before .before .before .before .args .p) (c .before .before .water-body .result) (c .before .if1 .taken) (omega (arith, c .if2 .left)) ∙ ap
     (λ (o : Option (Exp ℕ)). ownTakes (c .before .before .before .before .before .before .args .s .now) (c .before .before .before .before .before .before .args .cells .now)
-    (c .before .before .before .before .before .before .args .n) (some (waterOf o)) (c .before .before .before .before .before .before .args .p)) (c .before .before .water-body .ensures .0)
+    (c .before .before .before .before .before .before .args .n) (some (waterOf o)) (c .before .before .before .before .before .before .args .p))
+    (c .before .before .water-body .ensures .0)
 
 takes-requires : tie.Need-takes-requires
 takes-requires c κs = search needs
@@ -40,7 +42,8 @@ returns-3 c = c .takes .ensures ∙ water-body (c .before .before .before .befor
     (c .before .before .before .before .before .before .args .cells .now) (c .before .before .before .before .before .before .args .n)
     (c .before .before .before .before .before .before .args .p) (c .before .before .water-body .result) (c .before .if1 .left) ∙ ap
     (λ (o : Option (Exp ℕ)). ownTakes (c .before .before .before .before .before .before .args .s .now) (c .before .before .before .before .before .before .args .cells .now)
-    (c .before .before .before .before .before .before .args .n) (some (waterOf o)) (c .before .before .before .before .before .before .args .p)) (c .before .before .water-body .ensures .0)
+    (c .before .before .before .before .before .before .args .n) (some (waterOf o)) (c .before .before .before .before .before .before .args .p))
+    (c .before .before .water-body .ensures .0)
 
 pub water-takes-spec : {M : Type 1} → statement M
 water-takes-spec =
