@@ -242,7 +242,8 @@ module _ (new : List Bool) (r : ℕ) where
       (classToken (someFrom 0 256 new) new 0 r) ≡ classIs (classBy false 0 (rest s i))
   plain-is s i f = plain-go (rest s i) (some-listed s i f)
 
-  turned-go : (o : Body) → Some o → Painted o (replicate 256 false) new r → (r ≡ 0 → ⊥) → classIs (classToken (someFrom 0 256 (turnFrom 0 256 new)) (turnFrom 0 256 new) 0 r) ≡ classIs (classBy true 0 o)
+  turned-go : (o : Body) → Some o → Painted o (replicate 256 false) new r → (r ≡ 0 → ⊥) → classIs (classToken (someFrom 0 256 (turnFrom 0 256 new))
+      (turnFrom 0 256 new) 0 r) ≡ classIs (classBy true 0 o)
   unfolding classBy
   turned-go (shut [] e) u p z = absurd u
   turned-go (shut (x ∷ rs) e) u p z =

@@ -31,7 +31,13 @@ same-length-3 c = search needs
 returns : tie.Need-returns
 returns c = record {
   marks = c .before .before .before .before .before .before .before .before .before .before .before .before .mark-all .ensures;
-  begins = subst (λ (n : ℕ). BegunAll (c .before .before .before .before .before .before .before .before .before .before .before .before .before .before .before .before .before .before .args .t .now) (c .before .before .before .before .before .before .before .before .before .before .before .before .mark-all .last .1 .0) n (c .before .before .before .begin-all .last .1 .1 .0) (c .before .before .before .begin-all .last .1 .1 .1 .0)) (let q : length (c .before .before .before .before .before .before .before .before .before .before .before .before .mark-all .last .1 .1 .0) ≡ length (c .before .before .before .before .before .before .before .before .before .before .before .before .before .before .before .before .before .before .args .sets .now) = omega arith in q) (c .before .before .before .begin-all .ensures);
+  begins = subst (λ (n : ℕ). BegunAll
+      (c .before .before .before .before .before .before .before .before .before .before .before .before .before .before .before .before .before .before .args
+      .t .now) (c .before .before .before .before .before .before .before .before .before .before .before .before .mark-all .last .1 .0) n
+      (c .before .before .before .begin-all .last .1 .1 .0) (c .before .before .before .begin-all .last .1 .1 .1 .0)) (let q : length
+      (c .before .before .before .before .before .before .before .before .before .before .before .before .mark-all .last .1 .1 .0) ≡ length
+      (c .before .before .before .before .before .before .before .before .before .before .before .before .before .before .before .before .before .before .args
+      .sets .now) = omega arith in q) (c .before .before .before .begin-all .ensures);
 }
 
 pub begins-spec : {M : Type 1} → statement M

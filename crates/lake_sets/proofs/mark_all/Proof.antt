@@ -56,7 +56,12 @@ loop-again c = (
   omega arith,
   omega arith,
   λ x h. c .before .before .before .before .before .mark-round .ensures x
-      (subst (λ (n : ℕ). Tame (c .before .before .before .before .before .before .before .before .before .before .before .before .before .before .before .before .before .args .t .now) n (length (c .before .before .before .before .before .before .before .before .before .before .loop .marks)) x) (sym (c .before .before .before .before .before .before .before .before .before .before .loop .inv .2)) (subst (λ (n : ℕ). Tame (c .before .before .before .before .before .before .before .before .before .before .before .before .before .before .before .before .before .args .t .now) (length (c .before .before .before .before .before .before .before .before .before .before .before .before .before .before .before .before .before .args .sets .now)) n x) (sym (c .before .before .before .before .before .before .before .before .before .before .loop .inv .1)) h))
+      (subst (λ (n : ℕ). Tame (c .before .before .before .before .before .before .before .before .before .before .before .before .before .before .before
+      .before .before .args .t .now) n (length (c .before .before .before .before .before .before .before .before .before .before .loop .marks)) x) (sym
+      (c .before .before .before .before .before .before .before .before .before .before .loop .inv .2)) (subst (λ (n : ℕ). Tame
+      (c .before .before .before .before .before .before .before .before .before .before .before .before .before .before .before .before .before .args .t
+      .now) (length (c .before .before .before .before .before .before .before .before .before .before .before .before .before .before .before .before
+      .before .args .sets .now)) n x) (sym (c .before .before .before .before .before .before .before .before .before .before .loop .inv .1)) h))
       ∙ marks-next (c .before .before .before .before .before .before .before .before .before .before .before .before .before .before .before .before .before .args .t .now)
       (length (c .before .before .before .before .before .before .before .before .before .before .before .before .before .before .before .before .before .args .sets .now))
       (length (c .before .before .before .before .before .before .before .before .before .before .loop .sets))

@@ -71,32 +71,29 @@ returns-4 c = asked-behind (c .before .before .before .before .before .before .b
     (c .before .before .if3 .left))
     (c .not-asked4 .ensures) (c .before .if4 .taken)
 
-slice-aggregate-fill : tie.Need-slice-aggregate-fill
-slice-aggregate-fill c = search needs
-
 fill-requires : tie.Need-fill-requires
 fill-requires c κs = (
   (
-    standing-few (c .before .before .before .before .before .before .before .before .before .before .before .pre),
+    standing-few (c .before .before .before .before .before .before .before .before .before .before .pre),
     omega
-        (arith, c .before .before .before .before .before .before .before .before .if1 .left),
+        (arith, c .before .before .before .before .before .before .before .if1 .left),
   ),
-  fresh-none (c .before .before .before .before .before .before .before .before .before .before .before .args .plain .now) 26901 (omega arith),
+  fresh-none (c .before .before .before .before .before .before .before .before .before .before .args .plain .now) 27931 (omega arith),
 )
 
 way-requires : tie.Need-way-requires
 way-requires c κs =
-    let w = c .before .before .before .before .before .before .before .before .before .before .before .before .before .before .before .before .before .before .pre in (
+    let w = c .before .before .before .before .before .before .before .before .before .before .before .before .before .before .before .before .pre in (
       (
         omega (arith, standing-same w, standing-few w),
         standing-terminals w,
         standing-within w (not-false
-            (c .before .before .before .before .before .before .before .before .before .before .before .before .before .before .before .before .before .before .args .l .there)
-            (c .before .before .before .before .before .before .before .before .before .before .before .if3 .left)),
-        omega (arith, c .before .before .before .before .before .before .before .before .before .before .before .before .before .before .before .if1 .left),
-        omega (arith, c .before .before .before .before .before .before .before .before .before .before .if4 .left),
+            (c .before .before .before .before .before .before .before .before .before .before .before .before .before .before .before .before .args .l .there)
+            (c .before .before .before .before .before .before .before .before .before .if3 .left)),
+        omega (arith, c .before .before .before .before .before .before .before .before .before .before .before .before .before .if1 .left),
+        omega (arith, c .before .before .before .before .before .before .before .before .if4 .left),
       ),
-      knows-nothing _ _ _ _ _ _ 26901,
+      knows-nothing _ _ _ _ _ _ 27931,
     )
 
 way-of-requires : tie.Need-way-of-requires
@@ -107,15 +104,15 @@ same-length c = search needs
 
 returns-5 : tie.Need-returns-5
 returns-5 c =
-    let a = c .before .before .before .before .before .before .before .before .before .before .before .before .before .before .before .before .before .before .before .before .args in
+    let a = c .before .before .before .before .before .before .before .before .before .before .before .before .before .before .before .before .before .before .args in
     asked-all (a .input .now) (a .cells .now) (a .place)
-    (c .before .before .before .before .before .before .before .before .before .before .before .before .before .before .before .before .symbols .result) _
-    (c .before .before .before .before .before .before .before .before .before .before .before .before .before .before .before .before .symbols .ensures)
-    (omega (arith, c .before .before .before .before .before .before .before .before .before .before .before .before .before .before .before .before .before .if1 .left)) refl
-    (omega (arith, c .before .before .before .before .before .before .before .before .before .before .before .before .before .before .before .if2 .left))
-    (not-false (a .l .there) (c .before .before .before .before .before .before .before .before .before .before .before .before .before .if3 .left))
-    (omega (arith, c .before .before .before .before .before .before .before .before .before .before .before .before .if4 .left)) _
-    (c .before .before .before .before .before .before .before .before .fill .ensures .0)
+    (c .before .before .before .before .before .before .before .before .before .before .before .before .before .before .symbols .result) _
+    (c .before .before .before .before .before .before .before .before .before .before .before .before .before .before .symbols .ensures)
+    (omega (arith, c .before .before .before .before .before .before .before .before .before .before .before .before .before .before .before .if1 .left)) refl
+    (omega (arith, c .before .before .before .before .before .before .before .before .before .before .before .before .before .if2 .left))
+    (not-false (a .l .there) (c .before .before .before .before .before .before .before .before .before .before .before .if3 .left))
+    (omega (arith, c .before .before .before .before .before .before .before .before .before .before .if4 .left)) _
+    (c .before .before .before .before .before .before .before .fill .ensures .0)
     (c .before .way .result) (c .way-of .result) (c .before .way .ensures) (c .way-of .ensures)
 
 pub ask-spec : {M : Type 1} → statement M
@@ -133,7 +130,6 @@ ask-spec =
     returns-3
     not-asked-requires-4
     returns-4
-    slice-aggregate-fill
     fill-requires
     way-requires
     way-of-requires

@@ -45,7 +45,10 @@ returns c = (
       (parentsAt + c .before .before .before .before .before .before .before .before .before .before .before .before .before .before .before .before .before .before .args .z)
       (c .before .before .before .before .before .before .before .before .before .before .before .before .before .before .before .before .before .before .args .x))
       (c .before .before .before .before .before .before .put2 .ensures ∙ ap
-      (λ (k : List ℕ). set k (parentsAt + c .before .before .before .before .before .before .before .before .before .before .before .before .before .before .before .before .before .before .args .y) (c .before .before .before .before .before .before .before .before .before .before .before .before .before .before .before .before .before .before .args .x)) (c .before .before .before .before .before .before .before .before .before .before .put .ensures)),
+      (λ (k : List ℕ). set k (parentsAt + c .before .before .before .before .before .before .before .before .before .before .before .before .before .before
+      .before .before .before .before .args .y)
+      (c .before .before .before .before .before .before .before .before .before .before .before .before .before .before .before .before .before .before
+      .args .x)) (c .before .before .before .before .before .before .before .before .before .before .put .ensures)),
   λ z. let u = c .before .before .before .before .before .before .before .before .before .before .before .before .either .ensures .1 z in (
     sym (c .before .before .before .before .before .before .before .before .before .before .before .before .before .before .before .word .ensures .0) ∙ u .0,
     sym

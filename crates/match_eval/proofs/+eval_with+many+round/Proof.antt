@@ -10,7 +10,8 @@ use Rattle.read_tokens.specs.Token.{any}
 use Rattle.grammar_table.specs.Table.{rightOf, nodeBy, leafIn}
 use Rattle.match_eval.specs.Eval.{leafAt, ev, rep}
 use Rattle.match_eval.specs.laws.Within.{ev-within, rep-within}
-use Rattle.match_eval.specs.laws.EvalSteps.{seq-left, seq-right, seq-both, alt-left, alt-right, plus-ends, plus-takes, opt-fails, opt-takes, ahead-fails, ahead-takes, never-takes, never-fails, rep-ends, rep-none, rep-more}
+use Rattle.match_eval.specs.laws.EvalSteps.{seq-left, seq-right, seq-both, alt-left, alt-right, plus-ends, plus-takes, opt-fails, opt-takes, ahead-fails, ahead-takes, never-takes}
+use Rattle.match_eval.specs.laws.EvalSteps.{never-fails, rep-ends, rep-none, rep-more}
 use Rattle.grammar_table.specs.Trees.{treeOf, below}
 use Rattle.grammar_table.specs.laws.Trees.{node-never, below-le}
 use Rattle.match_eval.specs.laws.Evaluated.{node-ev}
@@ -127,7 +128,8 @@ eval-with-op-requires : (t : ℕ) → eval-with-lts.Need-op-requires (eval-with-
 eval-with-op-requires t c κs = omega (arith, c .before .before .before .before .before .before .before .pre .1 .0)
 
 eval-with-leaf-at-requires : (t : ℕ) → eval-with-lts.Need-leaf-at-requires (eval-with-claims t) (eval-with-at t) eval-with.Post
-eval-with-leaf-at-requires t c κs = omega (arith, c .before .before .before .before .before .left .ensures .1, c .before .before .before .before .before .before .before .before .before .before .pre .1 .0)
+eval-with-leaf-at-requires t c κs = omega
+    (arith, c .before .before .before .before .before .left .ensures .1, c .before .before .before .before .before .before .before .before .before .before .pre .1 .0)
 
 eval-with-cell-at-requires : (t : ℕ) → eval-with-lts.Need-cell-at-requires (eval-with-claims t) (eval-with-at t) eval-with.Post
 eval-with-cell-at-requires t c κs = omega (arith, c .before .before .before .before .before .before .before .before .before .pre .1 .0)
@@ -258,10 +260,66 @@ eval-with-returns-3 t c = seq-right _ _ _ _ (c .before .before .before .before .
     (treeOf (c .before .before .before .before .before .before .before .before .before .before .before .before .before .before .before .before .args .t .now) i)
     (c .before .before .before .before .before .before .before .before .before .before .before .before .before .before .before .before .args .p))
     (c .before .before .before .before .before .before .before .before .before .before .part .ensures)) (c .before .before .before .before .before .if2 .left)
-    (c .before .round2 .ensures ∙ ap (λ (i : ℕ). ev (c .before .before .before .before .before .before .before .before .before .before .before .before .before .before .before .before .args .s .now) (c .before .before .before .before .before .before .before .before .before .before .before .before .before .before .before .before .args .cells .now) (c .before .before .before .before .before .before .before .before .before .before .before .before .before .before .before .before .args .n) (treeOf (c .before .before .before .before .before .before .before .before .before .before .before .before .before .before .before .before .args .t .now) i) (c .before .before .before .before .before .before .before .before .before .before .before .before .before .before .before .before .args .p + (c .before .before .before .before .before .before .round .result - 1))) (c .before .before .part2 .ensures ∙ ap (λ (j : ℕ). below j (c .before .before .before .before .before .before .before .before .before .before .before .before .before .before .before .before .args .x - 1)) (c .before .before .before .right .ensures .0))) (c .if3 .taken) ∙ node-ev (c .before .before .before .before .before .before .before .before .before .before .before .before .before .before .before .before .args .s .now) (c .before .before .before .before .before .before .before .before .before .before .before .before .before .before .before .before .args .cells .now) (c .before .before .before .before .before .before .before .before .before .before .before .before .before .before .before .before .args .t .now) (c .before .before .before .before .before .before .before .before .before .before .before .before .before .before .before .before .args .n) (c .before .before .before .before .before .before .before .before .before .before .before .before .before .before .before .before .args .x) (c .before .before .before .before .before .before .before .before .before .before .before .before .before .before .before .before .args .p) 2 (c .before .before .before .before .before .before .before .before .before .before .before .left .result) (c .before .before .before .before .before .before .before .before .before .before .before .before .before .if1 .left) (sym (c .before .before .before .before .before .before .before .match .keys3) ∙ c .before .before .before .before .before .before .before .before .op .ensures .0) (c .before .before .before .before .before .before .before .before .before .before .before .left .ensures .0)
+    (c .before .round2 .ensures ∙ ap (λ (i : ℕ). ev
+    (c .before .before .before .before .before .before .before .before .before .before .before .before .before .before .before .before .args .s .now)
+    (c .before .before .before .before .before .before .before .before .before .before .before .before .before .before .before .before .args .cells .now)
+    (c .before .before .before .before .before .before .before .before .before .before .before .before .before .before .before .before .args .n) (treeOf
+    (c .before .before .before .before .before .before .before .before .before .before .before .before .before .before .before .before .args .t .now) i)
+    (c .before .before .before .before .before .before .before .before .before .before .before .before .before .before .before .before .args .p +
+    (c .before .before .before .before .before .before .round .result - 1))) (c .before .before .part2 .ensures ∙ ap (λ (j : ℕ). below j
+    (c .before .before .before .before .before .before .before .before .before .before .before .before .before .before .before .before .args .x - 1))
+    (c .before .before .before .right .ensures .0))) (c .if3 .taken) ∙ node-ev
+    (c .before .before .before .before .before .before .before .before .before .before .before .before .before .before .before .before .args .s .now)
+    (c .before .before .before .before .before .before .before .before .before .before .before .before .before .before .before .before .args .cells .now)
+    (c .before .before .before .before .before .before .before .before .before .before .before .before .before .before .before .before .args .t .now)
+    (c .before .before .before .before .before .before .before .before .before .before .before .before .before .before .before .before .args .n)
+    (c .before .before .before .before .before .before .before .before .before .before .before .before .before .before .before .before .args .x)
+    (c .before .before .before .before .before .before .before .before .before .before .before .before .before .before .before .before .args .p) 2
+    (c .before .before .before .before .before .before .before .before .before .before .before .left .result)
+    (c .before .before .before .before .before .before .before .before .before .before .before .before .before .if1 .left) (sym
+    (c .before .before .before .before .before .before .before .match .keys3)
+    ∙ c .before .before .before .before .before .before .before .before .op .ensures .0)
+    (c .before .before .before .before .before .before .before .before .before .before .before .left .ensures .0)
 
 eval-with-add-result : (t : ℕ) → eval-with-lts.Need-add-result (eval-with-claims t) (eval-with-at t) eval-with.Post
-eval-with-add-result t c = omega (arith, ev-within (c .before .before .before .before .before .before .before .before .before .before .before .before .before .before .before .before .args .s .now) (c .before .before .before .before .before .before .before .before .before .before .before .before .before .before .before .before .args .cells .now) (c .before .before .before .before .before .before .before .before .before .before .before .before .before .before .before .before .args .n) (treeOf (c .before .before .before .before .before .before .before .before .before .before .before .before .before .before .before .before .args .t .now) (c .before .before .before .before .before .before .before .before .before .before .part .result)) (c .before .before .before .before .before .before .before .before .before .before .before .before .before .before .before .before .args .p) (omega (arith, c .before .before .before .before .before .before .before .before .before .before .before .before .before .before .before .before .pre .1 .0)), c .before .before .before .before .before .before .round .ensures, ev-within (c .before .before .before .before .before .before .before .before .before .before .before .before .before .before .before .before .args .s .now) (c .before .before .before .before .before .before .before .before .before .before .before .before .before .before .before .before .args .cells .now) (c .before .before .before .before .before .before .before .before .before .before .before .before .before .before .before .before .args .n) (treeOf (c .before .before .before .before .before .before .before .before .before .before .before .before .before .before .before .before .args .t .now) (c .before .before .part2 .result)) (c .before .before .before .before .before .before .before .before .before .before .before .before .before .before .before .before .args .p + (c .before .before .before .before .before .before .round .result - 1)) (omega (arith, ev-within (c .before .before .before .before .before .before .before .before .before .before .before .before .before .before .before .before .args .s .now) (c .before .before .before .before .before .before .before .before .before .before .before .before .before .before .before .before .args .cells .now) (c .before .before .before .before .before .before .before .before .before .before .before .before .before .before .before .before .args .n) (treeOf (c .before .before .before .before .before .before .before .before .before .before .before .before .before .before .before .before .args .t .now) (c .before .before .before .before .before .before .before .before .before .before .part .result)) (c .before .before .before .before .before .before .before .before .before .before .before .before .before .before .before .before .args .p) (omega (arith, c .before .before .before .before .before .before .before .before .before .before .before .before .before .before .before .before .pre .1 .0)), c .before .before .before .before .before .before .round .ensures, c .before .before .before .before .before .before .before .before .before .before .before .before .before .before .before .before .pre .1 .0)), c .before .round2 .ensures, c .before .before .before .before .before .before .before .before .before .before .before .before .before .before .before .before .pre .1 .0)
+eval-with-add-result t c = omega (
+  arith,
+  ev-within
+      (c .before .before .before .before .before .before .before .before .before .before .before .before .before .before .before .before .args .s .now)
+      (c .before .before .before .before .before .before .before .before .before .before .before .before .before .before .before .before .args .cells .now)
+      (c .before .before .before .before .before .before .before .before .before .before .before .before .before .before .before .before .args .n) (treeOf
+      (c .before .before .before .before .before .before .before .before .before .before .before .before .before .before .before .before .args .t .now)
+      (c .before .before .before .before .before .before .before .before .before .before .part .result))
+      (c .before .before .before .before .before .before .before .before .before .before .before .before .before .before .before .before .args .p) (omega
+      (arith, c .before .before .before .before .before .before .before .before .before .before .before .before .before .before .before .before .pre .1 .0)),
+  c
+      .before .before .before .before .before .before .round .ensures,
+  ev-within
+      (c .before .before .before .before .before .before .before .before .before .before .before .before .before .before .before .before .args .s .now)
+      (c .before .before .before .before .before .before .before .before .before .before .before .before .before .before .before .before .args .cells .now)
+      (c .before .before .before .before .before .before .before .before .before .before .before .before .before .before .before .before .args .n) (treeOf
+      (c .before .before .before .before .before .before .before .before .before .before .before .before .before .before .before .before .args .t .now)
+      (c .before .before .part2 .result))
+      (c .before .before .before .before .before .before .before .before .before .before .before .before .before .before .before .before .args .p +
+      (c .before .before .before .before .before .before .round .result - 1)) (omega (
+        arith,
+        ev-within
+            (c .before .before .before .before .before .before .before .before .before .before .before .before .before .before .before .before .args .s .now)
+            (c .before .before .before .before .before .before .before .before .before .before .before .before .before .before .before .before .args .cells .now)
+            (c .before .before .before .before .before .before .before .before .before .before .before .before .before .before .before .before .args .n) (treeOf
+            (c .before .before .before .before .before .before .before .before .before .before .before .before .before .before .before .before .args .t .now)
+            (c .before .before .before .before .before .before .before .before .before .before .part .result))
+            (c .before .before .before .before .before .before .before .before .before .before .before .before .before .before .before .before .args .p) (omega
+            (arith, c .before .before .before .before .before .before .before .before .before .before .before .before .before .before .before .before .pre .1 .0)),
+        c
+            .before .before .before .before .before .before .round .ensures,
+        c .before .before .before .before .before .before .before .before .before .before .before
+            .before .before .before .before .before .pre .1 .0,
+      )),
+  c .before .round2 .ensures,
+  c .before .before .before .before .before .before .before .before .before
+      .before .before .before .before .before .before .before .pre .1 .0,
+)
 
 eval-with-sub-result : (t : ℕ) → eval-with-lts.Need-sub-result (eval-with-claims t) (eval-with-at t) eval-with.Post
 eval-with-sub-result t c = omega (arith, c .before .before .before .before .before .if2 .left)
@@ -668,7 +726,8 @@ eval-with-returns-9 t c = c .leaf-at .ensures ∙ node-ev (c .before .before .be
     (c .before .before .before .before .before .before .before .before .before .before .before .args .n)
     (c .before .before .before .before .before .before .before .before .before .before .before .args .x)
     (c .before .before .before .before .before .before .before .before .before .before .before .args .p) 0 (c .before .before .before .before .before .before .left .result)
-    (c .before .before .before .before .before .before .before .before .if1 .left) (sym (c .before .before .match .keys1) ∙ c .before .before .before .op .ensures .0) (c .before .before .before .before .before .before .left .ensures .0)
+    (c .before .before .before .before .before .before .before .before .if1 .left) (sym
+    (c .before .before .match .keys1) ∙ c .before .before .before .op .ensures .0) (c .before .before .before .before .before .before .left .ensures .0)
 
 eval-with-returns-10 : (t : ℕ) → eval-with-lts.Need-returns-10 (eval-with-claims t) (eval-with-at t) eval-with.Post
 unfolding ev nodeBy
@@ -678,7 +737,8 @@ eval-with-returns-10 t c = c .cell-at .ensures ∙ node-ev (c .before .before .b
     (c .before .before .before .before .before .before .before .before .before .before .args .n)
     (c .before .before .before .before .before .before .before .before .before .before .args .x)
     (c .before .before .before .before .before .before .before .before .before .before .args .p) 1 (c .before .before .before .before .before .left .result)
-    (c .before .before .before .before .before .before .before .if1 .left) (sym (c .before .match .keys2) ∙ c .before .before .op .ensures .0) (c .before .before .before .before .before .left .ensures .0)
+    (c .before .before .before .before .before .before .before .if1 .left) (sym (c .before .match .keys2) ∙ c .before .before .op .ensures .0)
+    (c .before .before .before .before .before .left .ensures .0)
 
 eval-with-returns-11 : (t : ℕ) → eval-with-lts.Need-returns-11 (eval-with-claims t) (eval-with-at t) eval-with.Post
 unfolding ev nodeBy
@@ -689,7 +749,26 @@ eval-with-returns-11 t c = seq-both _ _ _ _ (c .before .before .before .before .
     (treeOf (c .before .before .before .before .before .before .before .before .before .before .before .before .before .before .before .before .args .t .now) i)
     (c .before .before .before .before .before .before .before .before .before .before .before .before .before .before .before .before .args .p))
     (c .before .before .before .before .before .before .before .before .before .before .part .ensures)) (c .before .before .before .before .before .if2 .left)
-    (c .before .round2 .ensures ∙ ap (λ (i : ℕ). ev (c .before .before .before .before .before .before .before .before .before .before .before .before .before .before .before .before .args .s .now) (c .before .before .before .before .before .before .before .before .before .before .before .before .before .before .before .before .args .cells .now) (c .before .before .before .before .before .before .before .before .before .before .before .before .before .before .before .before .args .n) (treeOf (c .before .before .before .before .before .before .before .before .before .before .before .before .before .before .before .before .args .t .now) i) (c .before .before .before .before .before .before .before .before .before .before .before .before .before .before .before .before .args .p + (c .before .before .before .before .before .before .round .result - 1))) (c .before .before .part2 .ensures ∙ ap (λ (j : ℕ). below j (c .before .before .before .before .before .before .before .before .before .before .before .before .before .before .before .before .args .x - 1)) (c .before .before .before .right .ensures .0))) (c .if3 .left) ∙ node-ev (c .before .before .before .before .before .before .before .before .before .before .before .before .before .before .before .before .args .s .now) (c .before .before .before .before .before .before .before .before .before .before .before .before .before .before .before .before .args .cells .now) (c .before .before .before .before .before .before .before .before .before .before .before .before .before .before .before .before .args .t .now) (c .before .before .before .before .before .before .before .before .before .before .before .before .before .before .before .before .args .n) (c .before .before .before .before .before .before .before .before .before .before .before .before .before .before .before .before .args .x) (c .before .before .before .before .before .before .before .before .before .before .before .before .before .before .before .before .args .p) 2 (c .before .before .before .before .before .before .before .before .before .before .before .left .result) (c .before .before .before .before .before .before .before .before .before .before .before .before .before .if1 .left) (sym (c .before .before .before .before .before .before .before .match .keys3) ∙ c .before .before .before .before .before .before .before .before .op .ensures .0) (c .before .before .before .before .before .before .before .before .before .before .before .left .ensures .0)
+    (c .before .round2 .ensures ∙ ap (λ (i : ℕ). ev
+    (c .before .before .before .before .before .before .before .before .before .before .before .before .before .before .before .before .args .s .now)
+    (c .before .before .before .before .before .before .before .before .before .before .before .before .before .before .before .before .args .cells .now)
+    (c .before .before .before .before .before .before .before .before .before .before .before .before .before .before .before .before .args .n) (treeOf
+    (c .before .before .before .before .before .before .before .before .before .before .before .before .before .before .before .before .args .t .now) i)
+    (c .before .before .before .before .before .before .before .before .before .before .before .before .before .before .before .before .args .p +
+    (c .before .before .before .before .before .before .round .result - 1))) (c .before .before .part2 .ensures ∙ ap (λ (j : ℕ). below j
+    (c .before .before .before .before .before .before .before .before .before .before .before .before .before .before .before .before .args .x - 1))
+    (c .before .before .before .right .ensures .0))) (c .if3 .left) ∙ node-ev
+    (c .before .before .before .before .before .before .before .before .before .before .before .before .before .before .before .before .args .s .now)
+    (c .before .before .before .before .before .before .before .before .before .before .before .before .before .before .before .before .args .cells .now)
+    (c .before .before .before .before .before .before .before .before .before .before .before .before .before .before .before .before .args .t .now)
+    (c .before .before .before .before .before .before .before .before .before .before .before .before .before .before .before .before .args .n)
+    (c .before .before .before .before .before .before .before .before .before .before .before .before .before .before .before .before .args .x)
+    (c .before .before .before .before .before .before .before .before .before .before .before .before .before .before .before .before .args .p) 2
+    (c .before .before .before .before .before .before .before .before .before .before .before .left .result)
+    (c .before .before .before .before .before .before .before .before .before .before .before .before .before .if1 .left) (sym
+    (c .before .before .before .before .before .before .before .match .keys3)
+    ∙ c .before .before .before .before .before .before .before .before .op .ensures .0)
+    (c .before .before .before .before .before .before .before .before .before .before .before .left .ensures .0)
 
 eval-with-returns-12 : (t : ℕ) → eval-with-lts.Need-returns-12 (eval-with-claims t) (eval-with-at t) eval-with.Post
 unfolding ev nodeBy
@@ -713,7 +792,8 @@ eval-with-returns-12 t c = alt-right _ _ _ _ (c .before .before .before .before 
     (c .before .before .before .before .before .before .before .before .before .before .before .before .before .before .before .args .n)
     (c .before .before .before .before .before .before .before .before .before .before .before .before .before .before .before .args .x)
     (c .before .before .before .before .before .before .before .before .before .before .before .before .before .before .before .args .p) 3
-    (c .before .before .before .before .before .before .before .before .before .before .left .result) (c .before .before .before .before .before .before .before .before .before .before .before .before .if1 .left)
+    (c .before .before .before .before .before .before .before .before .before .before .left .result)
+    (c .before .before .before .before .before .before .before .before .before .before .before .before .if1 .left)
     (sym (c .before .before .before .before .before .before .match .keys4) ∙ c .before .before .before .before .before .before .before .op .ensures .0)
     (c .before .before .before .before .before .before .before .before .before .before .left .ensures .0)
 
@@ -749,7 +829,8 @@ eval-with-returns-14 t c = add-one _ ∙ ap suc (c .many .ensures ∙ ap
     (c .before .before .before .before .before .before .before .before .before .before .args .n)
     (c .before .before .before .before .before .before .before .before .before .before .args .x)
     (c .before .before .before .before .before .before .before .before .before .before .args .p) 5 (c .before .before .before .before .before .left .result)
-    (c .before .before .before .before .before .before .before .if1 .left) (sym (c .before .match .keys6) ∙ c .before .before .op .ensures .0) (c .before .before .before .before .before .left .ensures .0)
+    (c .before .before .before .before .before .before .before .if1 .left) (sym (c .before .match .keys6) ∙ c .before .before .op .ensures .0)
+    (c .before .before .before .before .before .left .ensures .0)
 
 eval-with-returns-15 : (t : ℕ) → eval-with-lts.Need-returns-15 (eval-with-claims t) (eval-with-at t) eval-with.Post
 unfolding ev nodeBy
@@ -844,10 +925,27 @@ many-sub-result t c = omega (arith, c .before .before .before .before .before .b
 many-returns : (t : ℕ) → many-lts.Need-returns (many-claims t) (many-at t) many.Post many-Inv-loop many-μ-loop
 many-returns t c = omega (
   arith,
-  rep-ends (λ (i : ℕ). ev (c .before .before .before .before .before .before .before .before .before .args .s .now) (c .before .before .before .before .before .before .before .before .before .args .cells .now) (c .before .before .before .before .before .before .before .before .before .args .n) (treeOf (c .before .before .before .before .before .before .before .before .before .args .t .now) (c .before .before .before .before .before .before .before .before .before .args .x)) i) (c .before .before .before .before .before .before .loop .k) (c .before .before .before .before .before .before .loop .q) (c .before .before .said .result - 1)
-      (said-right (c .before .before .before .before .before .before .before .before .before .args .t .now) (c .before .before .before .before .before .before .before .before .before .args .s .now) (c .before .before .before .before .before .before .before .before .before .args .cells .now) (c .before .before .before .before .before .before .before .before .before .args .mem .now) (c .before .before .before .before .before .before .before .before .before .args .n) 0 (c .before .before .before .before .before .before .loop .q)
-      (knows-from (c .before .before .before .before .before .before .before .before .before .args .t .now) (c .before .before .before .before .before .before .before .before .before .args .s .now) (c .before .before .before .before .before .before .before .before .before .args .cells .now) (c .before .before .before .before .before .before .before .before .before .args .mem .now) (c .before .before .before .before .before .before .before .before .before .args .n) 0 0 (c .before .before .before .before .before .before .before .before .before .args .p) (c .before .before .before .before .before .before .loop .q) (omega arith) (c .before .before .before .before .before .before .loop .inv .0) (c .before .before .before .before .before .before .before .before .before .pre .1 .1))
-      (c .before .before .before .before .before .before .before .before .before .args .x) (c .before .before .before .before .byte-at .result) (c .before .before .said .result) (c .before .before .before .before .before .before .loop .inv .1) (c .before .before .before .before .byte-at .ensures .0) (c .before .before .said .ensures) (λ e. omega (arith, e, c .before .if1 .taken)))
+  rep-ends (λ (i : ℕ). ev (c .before .before .before .before .before .before .before .before .before .args .s .now)
+      (c .before .before .before .before .before .before .before .before .before .args .cells .now)
+      (c .before .before .before .before .before .before .before .before .before .args .n) (treeOf
+      (c .before .before .before .before .before .before .before .before .before .args .t .now)
+      (c .before .before .before .before .before .before .before .before .before .args .x)) i) (c .before .before .before .before .before .before .loop .k)
+      (c .before .before .before .before .before .before .loop .q) (c .before .before .said .result - 1)
+      (said-right (c .before .before .before .before .before .before .before .before .before .args .t .now)
+      (c .before .before .before .before .before .before .before .before .before .args .s .now)
+      (c .before .before .before .before .before .before .before .before .before .args .cells .now)
+      (c .before .before .before .before .before .before .before .before .before .args .mem .now)
+      (c .before .before .before .before .before .before .before .before .before .args .n) 0 (c .before .before .before .before .before .before .loop .q)
+      (knows-from (c .before .before .before .before .before .before .before .before .before .args .t .now)
+      (c .before .before .before .before .before .before .before .before .before .args .s .now)
+      (c .before .before .before .before .before .before .before .before .before .args .cells .now)
+      (c .before .before .before .before .before .before .before .before .before .args .mem .now)
+      (c .before .before .before .before .before .before .before .before .before .args .n) 0 0
+      (c .before .before .before .before .before .before .before .before .before .args .p) (c .before .before .before .before .before .before .loop .q)
+      (omega arith) (c .before .before .before .before .before .before .loop .inv .0) (c .before .before .before .before .before .before .before .before .before .pre .1 .1))
+      (c .before .before .before .before .before .before .before .before .before .args .x) (c .before .before .before .before .byte-at .result)
+      (c .before .before .said .result) (c .before .before .before .before .before .before .loop .inv .1)
+      (c .before .before .before .before .byte-at .ensures .0) (c .before .before .said .ensures) (λ e. omega (arith, e, c .before .if1 .taken)))
       (omega (arith, c .if2 .taken)),
   c .before .before .before .before .before .before .loop .inv .2,
   c .before .before .before .before .before .before .loop .inv .0,
@@ -870,13 +968,15 @@ many-add-result t c = omega (
 
 many-returns-2 : (t : ℕ) → many-lts.Need-returns-2 (many-claims t) (many-at t) many.Post many-Inv-loop many-μ-loop
 many-returns-2 t c = known-ends (c .before .before .before .before .before .before .before .before .before .before .args .t .now)
-    (c .before .before .before .before .before .before .before .before .before .before .args .s .now) (c .before .before .before .before .before .before .before .before .before .before .args .cells .now)
+    (c .before .before .before .before .before .before .before .before .before .before .args .s .now)
+    (c .before .before .before .before .before .before .before .before .before .before .args .cells .now)
     (c .before .before .before .before .before .before .before .before .before .before .args .mem .now) (c .before .before .before .before .before .before .before .before .before .before .args .n)
     (c .before .before .before .before .before .before .before .before .before .before .args .p) (c .before .before .before .before .before .before .before .before .before .before .pre .1 .1)
     (c .before .before .before .before .before .before .before .before .before .before .args .x) (c .before .before .before .before .before .before .before .loop .k)
     (c .before .before .before .before .before .before .before .before .before .before .args .p) (c .before .before .before .before .before .before .before .loop .q) (c .before .known .result)
     (omega (arith, c .before .before .before .before .before .before .before .before .before .before .pre .1 .0)) (c .before .before .before .before .before .before .before .loop .inv .0)
-    (c .before .before .before .before .before .before .before .loop .inv .1) (c .before .before .before .before .before .before .before .loop .inv .3) (c .before .before .before .before .before .before .before .loop .inv .2) (c .before .known .ensures (c .if3 .taken))
+    (c .before .before .before .before .before .before .before .loop .inv .1) (c .before .before .before .before .before .before .before .loop .inv .3)
+    (c .before .before .before .before .before .before .before .loop .inv .2) (c .before .known .ensures (c .if3 .taken))
 
 many-eval-with-requires : (t : ℕ) → many-lts.Need-eval-with-requires (many-claims t) (many-at t) many.Post many-Inv-loop many-μ-loop
 many-eval-with-requires t c κs = (
@@ -894,9 +994,13 @@ many-eval-with-requires t c κs = (
       c .before .before .before .before .before .before .before .before .before .before .before .pre .1 .0,
     ),
     knows-from (c .before .before .before .before .before .before .before .before .before .before .before .args .t .now)
-        (c .before .before .before .before .before .before .before .before .before .before .before .args .s .now) (c .before .before .before .before .before .before .before .before .before .before .before .args .cells .now)
-        (c .before .before .before .before .before .before .before .before .before .before .before .args .mem .now) (c .before .before .before .before .before .before .before .before .before .before .before .args .n) 0 0
-        (c .before .before .before .before .before .before .before .before .before .before .before .args .p) (c .before .before .before .before .before .before .before .before .loop .q) (omega arith) (c .before .before .before .before .before .before .before .before .loop .inv .0)
+        (c .before .before .before .before .before .before .before .before .before .before .before .args .s .now)
+        (c .before .before .before .before .before .before .before .before .before .before .before .args .cells .now)
+        (c .before .before .before .before .before .before .before .before .before .before .before .args .mem .now)
+        (c .before .before .before .before .before .before .before .before .before .before .before .args .n) 0 0
+        (c .before .before .before .before .before .before .before .before .before .before .before .args .p)
+        (c .before .before .before .before .before .before .before .before .loop .q) (omega arith)
+        (c .before .before .before .before .before .before .before .before .loop .inv .0)
         (c .before .before .before .before .before .before .before .before .before .before .before .pre .1 .1),
   ),
 )
@@ -908,21 +1012,94 @@ many-sub-result-3 : (t : ℕ) → many-lts.Need-sub-result-3 (many-claims t) (ma
 many-sub-result-3 t c = omega (arith, c .before .before .before .before .before .before .before .before .before .loop .inv .0)
 
 many-returns-3 : (t : ℕ) → many-lts.Need-returns-3 (many-claims t) (many-at t) many.Post many-Inv-loop many-μ-loop
-many-returns-3 t c = let h : (c .before .if4 .a) ≡ ev (c .before .before .before .before .before .before .before .before .before .before .before .before .args .s .now) (c .before .before .before .before .before .before .before .before .before .before .before .before .args .cells .now) (c .before .before .before .before .before .before .before .before .before .before .before .before .args .n) (treeOf (c .before .before .before .before .before .before .before .before .before .before .before .before .args .t .now) (c .before .before .before .before .before .before .before .before .before .before .before .before .args .x)) (c .before .before .before .before .before .before .before .before .before .loop .q) =
-    ⊎-elim (λ w. w .2 ∙ w .1 .ensures) (λ w. w .1 ∙ said-right (c .before .before .before .before .before .before .before .before .before .before .before .before .args .t .now) (c .before .before .before .before .before .before .before .before .before .before .before .before .args .s .now) (c .before .before .before .before .before .before .before .before .before .before .before .before .args .cells .now) (c .before .before .before .before .before .before .before .before .before .before .before .before .args .mem .now) (c .before .before .before .before .before .before .before .before .before .before .before .before .args .n) 0 (c .before .before .before .before .before .before .before .before .before .loop .q)
-    (knows-from (c .before .before .before .before .before .before .before .before .before .before .before .before .args .t .now) (c .before .before .before .before .before .before .before .before .before .before .before .before .args .s .now) (c .before .before .before .before .before .before .before .before .before .before .before .before .args .cells .now) (c .before .before .before .before .before .before .before .before .before .before .before .before .args .mem .now) (c .before .before .before .before .before .before .before .before .before .before .before .before .args .n) 0 0 (c .before .before .before .before .before .before .before .before .before .before .before .before .args .p) (c .before .before .before .before .before .before .before .before .before .loop .q) (omega arith) (c .before .before .before .before .before .before .before .before .before .loop .inv .0) (c .before .before .before .before .before .before .before .before .before .before .before .before .pre .1 .1))
-    (c .before .before .before .before .before .before .before .before .before .before .before .before .args .x) (c .before .before .before .before .before .before .before .byte-at .result) (c .before .before .before .before .before .said .result) (c .before .before .before .before .before .before .before .before .before .loop .inv .1) (c .before .before .before .before .before .before .before .byte-at .ensures .0) (c .before .before .before .before .before .said .ensures) (w .0 .left)) (c .before .if4 .came) in
-    omega (arith, rep-ends (λ (i : ℕ). ev (c .before .before .before .before .before .before .before .before .before .before .before .before .args .s .now) (c .before .before .before .before .before .before .before .before .before .before .before .before .args .cells .now) (c .before .before .before .before .before .before .before .before .before .before .before .before .args .n) (treeOf (c .before .before .before .before .before .before .before .before .before .before .before .before .args .t .now) (c .before .before .before .before .before .before .before .before .before .before .before .before .args .x)) i) (c .before .before .before .before .before .before .before .before .before .loop .k) (c .before .before .before .before .before .before .before .before .before .loop .q) (c .before .if4 .a) h (c .if5 .taken), c .before .before .before .before .before .before .before .before .before .loop .inv .2, c .before .before .before .before .before .before .before .before .before .loop .inv .0)
+many-returns-3 t c = let h : (c .before .if4 .a) ≡ ev
+    (c .before .before .before .before .before .before .before .before .before .before .before .before .args .s .now)
+    (c .before .before .before .before .before .before .before .before .before .before .before .before .args .cells .now)
+    (c .before .before .before .before .before .before .before .before .before .before .before .before .args .n) (treeOf
+    (c .before .before .before .before .before .before .before .before .before .before .before .before .args .t .now)
+    (c .before .before .before .before .before .before .before .before .before .before .before .before .args .x))
+    (c .before .before .before .before .before .before .before .before .before .loop .q) =
+    ⊎-elim (λ w. w .2 ∙ w .1 .ensures) (λ w. w .1 ∙ said-right
+    (c .before .before .before .before .before .before .before .before .before .before .before .before .args .t .now)
+    (c .before .before .before .before .before .before .before .before .before .before .before .before .args .s .now)
+    (c .before .before .before .before .before .before .before .before .before .before .before .before .args .cells .now)
+    (c .before .before .before .before .before .before .before .before .before .before .before .before .args .mem .now)
+    (c .before .before .before .before .before .before .before .before .before .before .before .before .args .n) 0
+    (c .before .before .before .before .before .before .before .before .before .loop .q)
+    (knows-from (c .before .before .before .before .before .before .before .before .before .before .before .before .args .t .now)
+    (c .before .before .before .before .before .before .before .before .before .before .before .before .args .s .now)
+    (c .before .before .before .before .before .before .before .before .before .before .before .before .args .cells .now)
+    (c .before .before .before .before .before .before .before .before .before .before .before .before .args .mem .now)
+    (c .before .before .before .before .before .before .before .before .before .before .before .before .args .n) 0 0
+    (c .before .before .before .before .before .before .before .before .before .before .before .before .args .p)
+    (c .before .before .before .before .before .before .before .before .before .loop .q) (omega arith)
+    (c .before .before .before .before .before .before .before .before .before .loop .inv .0)
+    (c .before .before .before .before .before .before .before .before .before .before .before .before .pre .1 .1))
+    (c .before .before .before .before .before .before .before .before .before .before .before .before .args .x)
+    (c .before .before .before .before .before .before .before .byte-at .result) (c .before .before .before .before .before .said .result)
+    (c .before .before .before .before .before .before .before .before .before .loop .inv .1)
+    (c .before .before .before .before .before .before .before .byte-at .ensures .0) (c .before .before .before .before .before .said .ensures)
+    (w .0 .left)) (c .before .if4 .came) in
+    omega (
+      arith,
+      rep-ends (λ (i : ℕ). ev (c .before .before .before .before .before .before .before .before .before .before .before .before .args .s .now)
+          (c .before .before .before .before .before .before .before .before .before .before .before .before .args .cells .now)
+          (c .before .before .before .before .before .before .before .before .before .before .before .before .args .n) (treeOf
+          (c .before .before .before .before .before .before .before .before .before .before .before .before .args .t .now)
+          (c .before .before .before .before .before .before .before .before .before .before .before .before .args .x)) i)
+          (c .before .before .before .before .before .before .before .before .before .loop .k)
+          (c .before .before .before .before .before .before .before .before .before .loop .q) (c .before .if4 .a) h
+          (c .if5 .taken),
+      c .before .before .before .before .before .before .before .before .before .loop .inv .2,
+      c .before .before .before .before .before
+          .before .before .before .before .loop .inv .0,
+    )
 
 many-sub-q : (t : ℕ) → many-lts.Need-sub-q (many-claims t) (many-at t) many.Post many-Inv-loop many-μ-loop
 many-sub-q t c = omega (arith, c .before .if5 .left)
 
 many-add-q : (t : ℕ) → many-lts.Need-add-q (many-claims t) (many-at t) many.Post many-Inv-loop many-μ-loop
-many-add-q t c = let h : (c .before .before .if4 .a) ≡ ev (c .before .before .before .before .before .before .before .before .before .before .before .before .before .args .s .now) (c .before .before .before .before .before .before .before .before .before .before .before .before .before .args .cells .now) (c .before .before .before .before .before .before .before .before .before .before .before .before .before .args .n) (treeOf (c .before .before .before .before .before .before .before .before .before .before .before .before .before .args .t .now) (c .before .before .before .before .before .before .before .before .before .before .before .before .before .args .x)) (c .before .before .before .before .before .before .before .before .before .before .loop .q) =
-    ⊎-elim (λ w. w .2 ∙ w .1 .ensures) (λ w. w .1 ∙ said-right (c .before .before .before .before .before .before .before .before .before .before .before .before .before .args .t .now) (c .before .before .before .before .before .before .before .before .before .before .before .before .before .args .s .now) (c .before .before .before .before .before .before .before .before .before .before .before .before .before .args .cells .now) (c .before .before .before .before .before .before .before .before .before .before .before .before .before .args .mem .now) (c .before .before .before .before .before .before .before .before .before .before .before .before .before .args .n) 0 (c .before .before .before .before .before .before .before .before .before .before .loop .q)
-    (knows-from (c .before .before .before .before .before .before .before .before .before .before .before .before .before .args .t .now) (c .before .before .before .before .before .before .before .before .before .before .before .before .before .args .s .now) (c .before .before .before .before .before .before .before .before .before .before .before .before .before .args .cells .now) (c .before .before .before .before .before .before .before .before .before .before .before .before .before .args .mem .now) (c .before .before .before .before .before .before .before .before .before .before .before .before .before .args .n) 0 0 (c .before .before .before .before .before .before .before .before .before .before .before .before .before .args .p) (c .before .before .before .before .before .before .before .before .before .before .loop .q) (omega arith) (c .before .before .before .before .before .before .before .before .before .before .loop .inv .0) (c .before .before .before .before .before .before .before .before .before .before .before .before .before .pre .1 .1))
-    (c .before .before .before .before .before .before .before .before .before .before .before .before .before .args .x) (c .before .before .before .before .before .before .before .before .byte-at .result) (c .before .before .before .before .before .before .said .result) (c .before .before .before .before .before .before .before .before .before .before .loop .inv .1) (c .before .before .before .before .before .before .before .before .byte-at .ensures .0) (c .before .before .before .before .before .before .said .ensures) (w .0 .left)) (c .before .before .if4 .came) in
-    omega (arith, ev-within (c .before .before .before .before .before .before .before .before .before .before .before .before .before .args .s .now) (c .before .before .before .before .before .before .before .before .before .before .before .before .before .args .cells .now) (c .before .before .before .before .before .before .before .before .before .before .before .before .before .args .n) (treeOf (c .before .before .before .before .before .before .before .before .before .before .before .before .before .args .t .now) (c .before .before .before .before .before .before .before .before .before .before .before .before .before .args .x)) (c .before .before .before .before .before .before .before .before .before .before .loop .q) (omega (arith, c .before .before .before .before .before .before .before .before .before .before .loop .inv .1)), h, c .before .before .before .before .before .before .before .before .before .before .before .before .before .pre .1 .0)
+many-add-q t c = let h : (c .before .before .if4 .a) ≡ ev
+    (c .before .before .before .before .before .before .before .before .before .before .before .before .before .args .s .now)
+    (c .before .before .before .before .before .before .before .before .before .before .before .before .before .args .cells .now)
+    (c .before .before .before .before .before .before .before .before .before .before .before .before .before .args .n) (treeOf
+    (c .before .before .before .before .before .before .before .before .before .before .before .before .before .args .t .now)
+    (c .before .before .before .before .before .before .before .before .before .before .before .before .before .args .x))
+    (c .before .before .before .before .before .before .before .before .before .before .loop .q) =
+    ⊎-elim (λ w. w .2 ∙ w .1 .ensures) (λ w. w .1 ∙ said-right
+    (c .before .before .before .before .before .before .before .before .before .before .before .before .before .args .t .now)
+    (c .before .before .before .before .before .before .before .before .before .before .before .before .before .args .s .now)
+    (c .before .before .before .before .before .before .before .before .before .before .before .before .before .args .cells .now)
+    (c .before .before .before .before .before .before .before .before .before .before .before .before .before .args .mem .now)
+    (c .before .before .before .before .before .before .before .before .before .before .before .before .before .args .n) 0
+    (c .before .before .before .before .before .before .before .before .before .before .loop .q)
+    (knows-from (c .before .before .before .before .before .before .before .before .before .before .before .before .before .args .t .now)
+    (c .before .before .before .before .before .before .before .before .before .before .before .before .before .args .s .now)
+    (c .before .before .before .before .before .before .before .before .before .before .before .before .before .args .cells .now)
+    (c .before .before .before .before .before .before .before .before .before .before .before .before .before .args .mem .now)
+    (c .before .before .before .before .before .before .before .before .before .before .before .before .before .args .n) 0 0
+    (c .before .before .before .before .before .before .before .before .before .before .before .before .before .args .p)
+    (c .before .before .before .before .before .before .before .before .before .before .loop .q) (omega arith)
+    (c .before .before .before .before .before .before .before .before .before .before .loop .inv .0)
+    (c .before .before .before .before .before .before .before .before .before .before .before .before .before .pre .1 .1))
+    (c .before .before .before .before .before .before .before .before .before .before .before .before .before .args .x)
+    (c .before .before .before .before .before .before .before .before .byte-at .result) (c .before .before .before .before .before .before .said .result)
+    (c .before .before .before .before .before .before .before .before .before .before .loop .inv .1)
+    (c .before .before .before .before .before .before .before .before .byte-at .ensures .0)
+    (c .before .before .before .before .before .before .said .ensures) (w .0 .left)) (c .before .before .if4 .came) in
+    omega (
+      arith,
+      ev-within (c .before .before .before .before .before .before .before .before .before .before .before .before .before .args .s .now)
+          (c .before .before .before .before .before .before .before .before .before .before .before .before .before .args .cells .now)
+          (c .before .before .before .before .before .before .before .before .before .before .before .before .before .args .n) (treeOf
+          (c .before .before .before .before .before .before .before .before .before .before .before .before .before .args .t .now)
+          (c .before .before .before .before .before .before .before .before .before .before .before .before .before .args .x))
+          (c .before .before .before .before .before .before .before .before .before .before .loop .q) (omega
+          (arith, c .before .before .before .before .before .before .before .before .before .before .loop .inv .1)),
+      h,
+      c .before .before .before .before .before
+          .before .before .before .before .before .before .before .before .pre .1 .0,
+    )
 
 many-sub-k : (t : ℕ) → many-lts.Need-sub-k (many-claims t) (many-at t) many.Post many-Inv-loop many-μ-loop
 many-sub-k t c = omega (arith, c .before .before .before .before .before .before .before .before .before .loop-test .taken)
@@ -931,14 +1108,68 @@ many-loop-less : (t : ℕ) → many-lts.Need-loop-less (many-claims t) (many-at 
 many-loop-less t c = omega (arith, c .before .before .before .before .before .before .before .before .before .loop-test .taken)
 
 many-loop-again : (t : ℕ) → many-lts.Need-loop-again (many-claims t) (many-at t) many.Post many-Inv-loop many-μ-loop
-many-loop-again t c = let h : (c .before .before .if4 .a) ≡ ev (c .before .before .before .before .before .before .before .before .before .before .before .before .before .args .s .now) (c .before .before .before .before .before .before .before .before .before .before .before .before .before .args .cells .now) (c .before .before .before .before .before .before .before .before .before .before .before .before .before .args .n) (treeOf (c .before .before .before .before .before .before .before .before .before .before .before .before .before .args .t .now) (c .before .before .before .before .before .before .before .before .before .before .before .before .before .args .x)) (c .before .before .before .before .before .before .before .before .before .before .loop .q) =
-    ⊎-elim (λ w. w .2 ∙ w .1 .ensures) (λ w. w .1 ∙ said-right (c .before .before .before .before .before .before .before .before .before .before .before .before .before .args .t .now) (c .before .before .before .before .before .before .before .before .before .before .before .before .before .args .s .now) (c .before .before .before .before .before .before .before .before .before .before .before .before .before .args .cells .now) (c .before .before .before .before .before .before .before .before .before .before .before .before .before .args .mem .now) (c .before .before .before .before .before .before .before .before .before .before .before .before .before .args .n) 0 (c .before .before .before .before .before .before .before .before .before .before .loop .q)
-    (knows-from (c .before .before .before .before .before .before .before .before .before .before .before .before .before .args .t .now) (c .before .before .before .before .before .before .before .before .before .before .before .before .before .args .s .now) (c .before .before .before .before .before .before .before .before .before .before .before .before .before .args .cells .now) (c .before .before .before .before .before .before .before .before .before .before .before .before .before .args .mem .now) (c .before .before .before .before .before .before .before .before .before .before .before .before .before .args .n) 0 0 (c .before .before .before .before .before .before .before .before .before .before .before .before .before .args .p) (c .before .before .before .before .before .before .before .before .before .before .loop .q) (omega arith) (c .before .before .before .before .before .before .before .before .before .before .loop .inv .0) (c .before .before .before .before .before .before .before .before .before .before .before .before .before .pre .1 .1))
-    (c .before .before .before .before .before .before .before .before .before .before .before .before .before .args .x) (c .before .before .before .before .before .before .before .before .byte-at .result) (c .before .before .before .before .before .before .said .result) (c .before .before .before .before .before .before .before .before .before .before .loop .inv .1) (c .before .before .before .before .before .before .before .before .byte-at .ensures .0) (c .before .before .before .before .before .before .said .ensures) (w .0 .left)) (c .before .before .if4 .came) in (
+many-loop-again t c = let h : (c .before .before .if4 .a) ≡ ev
+    (c .before .before .before .before .before .before .before .before .before .before .before .before .before .args .s .now)
+    (c .before .before .before .before .before .before .before .before .before .before .before .before .before .args .cells .now)
+    (c .before .before .before .before .before .before .before .before .before .before .before .before .before .args .n) (treeOf
+    (c .before .before .before .before .before .before .before .before .before .before .before .before .before .args .t .now)
+    (c .before .before .before .before .before .before .before .before .before .before .before .before .before .args .x))
+    (c .before .before .before .before .before .before .before .before .before .before .loop .q) =
+    ⊎-elim (λ w. w .2 ∙ w .1 .ensures) (λ w. w .1 ∙ said-right
+    (c .before .before .before .before .before .before .before .before .before .before .before .before .before .args .t .now)
+    (c .before .before .before .before .before .before .before .before .before .before .before .before .before .args .s .now)
+    (c .before .before .before .before .before .before .before .before .before .before .before .before .before .args .cells .now)
+    (c .before .before .before .before .before .before .before .before .before .before .before .before .before .args .mem .now)
+    (c .before .before .before .before .before .before .before .before .before .before .before .before .before .args .n) 0
+    (c .before .before .before .before .before .before .before .before .before .before .loop .q)
+    (knows-from (c .before .before .before .before .before .before .before .before .before .before .before .before .before .args .t .now)
+    (c .before .before .before .before .before .before .before .before .before .before .before .before .before .args .s .now)
+    (c .before .before .before .before .before .before .before .before .before .before .before .before .before .args .cells .now)
+    (c .before .before .before .before .before .before .before .before .before .before .before .before .before .args .mem .now)
+    (c .before .before .before .before .before .before .before .before .before .before .before .before .before .args .n) 0 0
+    (c .before .before .before .before .before .before .before .before .before .before .before .before .before .args .p)
+    (c .before .before .before .before .before .before .before .before .before .before .loop .q) (omega arith)
+    (c .before .before .before .before .before .before .before .before .before .before .loop .inv .0)
+    (c .before .before .before .before .before .before .before .before .before .before .before .before .before .pre .1 .1))
+    (c .before .before .before .before .before .before .before .before .before .before .before .before .before .args .x)
+    (c .before .before .before .before .before .before .before .before .byte-at .result) (c .before .before .before .before .before .before .said .result)
+    (c .before .before .before .before .before .before .before .before .before .before .loop .inv .1)
+    (c .before .before .before .before .before .before .before .before .byte-at .ensures .0)
+    (c .before .before .before .before .before .before .said .ensures) (w .0 .left)) (c .before .before .if4 .came) in (
       omega (arith, c .before .before .before .before .before .before .before .before .before .before .loop .inv .0),
-      omega (arith, ev-within (c .before .before .before .before .before .before .before .before .before .before .before .before .before .args .s .now) (c .before .before .before .before .before .before .before .before .before .before .before .before .before .args .cells .now) (c .before .before .before .before .before .before .before .before .before .before .before .before .before .args .n) (treeOf (c .before .before .before .before .before .before .before .before .before .before .before .before .before .args .t .now) (c .before .before .before .before .before .before .before .before .before .before .before .before .before .args .x)) (c .before .before .before .before .before .before .before .before .before .before .loop .q) (omega (arith, c .before .before .before .before .before .before .before .before .before .before .loop .inv .1)), h, c .before .if5 .left),
-      omega (arith, rep-more (λ (i : ℕ). ev (c .before .before .before .before .before .before .before .before .before .before .before .before .before .args .s .now) (c .before .before .before .before .before .before .before .before .before .before .before .before .before .args .cells .now) (c .before .before .before .before .before .before .before .before .before .before .before .before .before .args .n) (treeOf (c .before .before .before .before .before .before .before .before .before .before .before .before .before .args .t .now) (c .before .before .before .before .before .before .before .before .before .before .before .before .before .args .x)) i) (c .before .before .before .before .before .before .before .before .before .before .loop .k) (c .before .before .before .before .before .before .before .before .before .before .loop .q) (c .before .before .if4 .a) (c .before .before .before .before .before .before .before .before .before .loop-test .taken) h (omega (arith, c .before .if5 .left)), c .before .before .before .before .before .before .before .before .before .before .loop .inv .2),
-      omega (arith, c .before .before .before .before .before .before .before .before .before .before .loop .inv .3, c .before .if5 .left, c .before .before .before .before .before .before .before .before .before .loop-test .taken),
+      omega (
+        arith,
+        ev-within (c .before .before .before .before .before .before .before .before .before .before .before .before .before .args .s .now)
+            (c .before .before .before .before .before .before .before .before .before .before .before .before .before .args .cells .now)
+            (c .before .before .before .before .before .before .before .before .before .before .before .before .before .args .n) (treeOf
+            (c .before .before .before .before .before .before .before .before .before .before .before .before .before .args .t .now)
+            (c .before .before .before .before .before .before .before .before .before .before .before .before .before .args .x))
+            (c .before .before .before .before .before .before .before .before .before .before .loop .q) (omega
+            (arith, c .before .before .before .before .before .before .before .before .before .before .loop .inv .1)),
+        h,
+        c .before .if5 .left,
+      ),
+      omega (
+        arith,
+        rep-more (λ (i : ℕ). ev
+            (c .before .before .before .before .before .before .before .before .before .before .before .before .before .args .s .now)
+            (c .before .before .before .before .before .before .before .before .before .before .before .before .before .args .cells .now)
+            (c .before .before .before .before .before .before .before .before .before .before .before .before .before .args .n) (treeOf
+            (c .before .before .before .before .before .before .before .before .before .before .before .before .before .args .t .now)
+            (c .before .before .before .before .before .before .before .before .before .before .before .before .before .args .x)) i)
+            (c .before .before .before .before .before .before .before .before .before .before .loop .k)
+            (c .before .before .before .before .before .before .before .before .before .before .loop .q) (c .before .before .if4 .a)
+            (c .before .before .before .before .before .before .before .before .before .loop-test .taken) h (omega
+            (arith, c .before .if5 .left)),
+        c .before .before .before .before .before .before .before .before .before .before .loop .inv .2,
+      ),
+      omega (
+        arith,
+        c .before .before .before .before .before .before .before .before .before .before .loop .inv .3,
+        c .before .if5 .left,
+        c .before .before
+            .before .before .before .before .before .before .before .loop-test .taken,
+      ),
     )
 
 many-sub-result-4 : (t : ℕ) → many-lts.Need-sub-result-4 (many-claims t) (many-at t) many.Post many-Inv-loop many-μ-loop

@@ -9,7 +9,8 @@ use Rattle.grammar_table.specs.laws.Trees.{below-le}
 use Rattle.match_firsts.specs.steps.Firm.{Firm}
 use Rattle.match_eval.specs.steps.Firsts.{Sure, Guards}
 use Rattle.match_eval.specs.laws.EvalSteps.{opt-fails, opt-takes, ahead-fails, ahead-takes, never-takes, never-fails}
-use Rattle.match_firsts.specs.laws.Firsts.{dot-sure, sure-leaf, sure-symbol, sure-left, sure-next, sure-guard, sure-one, sure-both, sure-option, sure-star, sure-plus, sure-ahead, sure-never, firm-ahead, firm-never}
+use Rattle.match_firsts.specs.laws.Firsts.{dot-sure, sure-leaf, sure-symbol, sure-left, sure-next, sure-guard, sure-one, sure-both, sure-option, sure-star, sure-plus, sure-ahead}
+use Rattle.match_firsts.specs.laws.Firsts.{sure-never, firm-ahead, firm-never}
 use borrow.Author.Needs.{needs}
 use Rattle.match_firsts.proofs.decide.Statement.{statement}
 use Rattle.match_firsts.proofs.decide.Tie as tie
@@ -138,7 +139,33 @@ guards-requires c κs = omega (
 )
 
 returns-7 : tie.Need-returns-7
-returns-7 c = λ e. sure-guard (c .before .before .before .before .before .before .before .before .before .before .before .before .before .before .before .before .before .before .args .t .now) (c .before .before .before .before .before .before .before .before .before .before .before .before .before .before .before .before .before .before .args .mem .now) (c .before .before .before .before .before .before .before .before .before .before .before .before .before .before .before .before .before .before .args .n) (c .before .before .before .before .before .before .before .before .before .before .before .before .before .before .before .before .before .before .args .b) (c .before .before .before .before .before .before .before .before .before .before .before .before .before .before .before .before .before .before .args .x) (c .before .before .before .before .before .before .before .before .before .before .before .before .before .before .op .result) (c .before .before .before .before .before .before .before .before .before .before .before .before .before .left .result) (c .before .before .before .before .before .before .before .before .before .before .before .before .before .before .before .if1 .left) (c .before .before .before .before .before .before .before .before .before .before .before .before .before .before .op .ensures .0) (c .before .before .before .before .before .before .before .before .before .before .before .before .before .left .ensures .0) (c .before .before .before .before .before .before .before .before .if4 .taken) (subst (λ (j : ℕ). Guards (treeOf (c .before .before .before .before .before .before .before .before .before .before .before .before .before .before .before .before .before .before .args .t .now) j)) (c .before .before .before .before .before .before .before .before .before .before .part .ensures) (c .before .guards .ensures (c .if8 .taken))) (at (c .before .before .before .before .before .before .before .before .before .before .before .before .before .before .before .before .before .before .args .t .now) (c .before .before .before .before .before .before .before .before .before .before .before .before .before .before .before .before .before .before .args .mem .now) (c .before .before .before .before .before .before .before .before .before .before .before .before .before .before .before .before .before .before .args .n) (c .before .before .before .before .before .before .before .before .before .before .before .before .before .before .before .before .before .before .args .b) (c .before .before .before .before .before .part2 .result) (below (rightOf (c .before .before .before .before .before .before .before .before .before .before .before .before .before .before .before .before .before .before .args .t .now) (c .before .before .before .before .before .before .before .before .before .before .before .before .before .before .before .before .before .before .args .x - 1)) (c .before .before .before .before .before .before .before .before .before .before .before .before .before .before .before .before .before .before .args .x - 1)) (c .before .before .before .before .first2 .result) 0 (c .before .before .before .before .before .part2 .ensures ∙ ap (λ (j : ℕ). below j (c .before .before .before .before .before .before .before .before .before .before .before .before .before .before .before .before .before .before .args .x - 1)) (c .before .before .before .before .before .before .right .ensures .0)) (c .before .before .if7 .left) (omega arith) (c .before .before .before .before .first2 .ensures))
+returns-7 c = λ e. sure-guard (c .before .before .before .before .before .before .before .before .before .before .before .before .before .before .before
+    .before .before .before .args .t .now)
+    (c .before .before .before .before .before .before .before .before .before .before .before .before .before .before .before .before .before .before .args
+    .mem .now) (c .before .before .before .before .before .before .before .before .before .before .before .before .before .before .before .before .before
+    .before .args .n) (c .before .before .before .before .before .before .before .before .before .before .before .before .before .before .before .before
+    .before .before .args .b) (c .before .before .before .before .before .before .before .before .before .before .before .before .before .before .before
+    .before .before .before .args .x)
+    (c .before .before .before .before .before .before .before .before .before .before .before .before .before .before .op .result)
+    (c .before .before .before .before .before .before .before .before .before .before .before .before .before .left .result)
+    (c .before .before .before .before .before .before .before .before .before .before .before .before .before .before .before .if1 .left)
+    (c .before .before .before .before .before .before .before .before .before .before .before .before .before .before .op .ensures .0)
+    (c .before .before .before .before .before .before .before .before .before .before .before .before .before .left .ensures .0)
+    (c .before .before .before .before .before .before .before .before .if4 .taken) (subst (λ (j : ℕ). Guards (treeOf
+    (c .before .before .before .before .before .before .before .before .before .before .before .before .before .before .before .before .before .before .args .t
+    .now) j)) (c .before .before .before .before .before .before .before .before .before .before .part .ensures) (c .before .guards .ensures (c .if8 .taken)))
+    (at (c .before .before .before .before .before .before .before .before .before .before .before .before .before .before .before .before .before .before
+    .args .t .now) (c .before .before .before .before .before .before .before .before .before .before .before .before .before .before .before .before .before
+    .before .args .mem .now) (c .before .before .before .before .before .before .before .before .before .before .before .before .before .before .before .before
+    .before .before .args .n) (c .before .before .before .before .before .before .before .before .before .before .before .before .before .before .before
+    .before .before .before .args .b) (c .before .before .before .before .before .part2 .result) (below (rightOf
+    (c .before .before .before .before .before .before .before .before .before .before .before .before .before .before .before .before .before .before .args .t
+    .now) (c .before .before .before .before .before .before .before .before .before .before .before .before .before .before .before .before .before .before
+    .args .x - 1)) (c .before .before .before .before .before .before .before .before .before .before .before .before .before .before .before .before .before
+    .before .args .x - 1)) (c .before .before .before .before .first2 .result) 0 (c .before .before .before .before .before .part2 .ensures ∙ ap (λ
+    (j : ℕ). below j (c .before .before .before .before .before .before .before .before .before .before .before .before .before .before .before .before .before
+    .before .args .x - 1)) (c .before .before .before .before .before .before .right .ensures .0)) (c .before .before .if7 .left) (omega arith)
+    (c .before .before .before .before .first2 .ensures))
 
 returns-8 : tie.Need-returns-8
 returns-8 c = λ e. absurd (omega (arith, e))
@@ -223,7 +250,9 @@ returns-12 c = λ e. firm-ahead (c .before .before .before .before .before .befo
     (c .before .before .before .before .before .before .before .before .before .before .before .before .before .if1 .left)
     (c .before .before .before .before .before .before .before .before .before .before .before .before .op .ensures .0)
     (c .before .before .before .before .before .before .before .before .before .before .before .left .ensures .0) (c .if14 .taken)
-    (subst (λ (j : ℕ). Firm (treeOf (c .before .before .before .before .before .before .before .before .before .before .before .before .before .before .before .before .args .t .now) j)) (c .before .before .before .before .before .before .before .before .part .ensures) (c .before .before .firm .ensures (c .before .if13 .taken)))
+    (subst (λ (j : ℕ). Firm (treeOf
+    (c .before .before .before .before .before .before .before .before .before .before .before .before .before .before .before .before .args .t .now) j))
+    (c .before .before .before .before .before .before .before .before .part .ensures) (c .before .before .firm .ensures (c .before .if13 .taken)))
 
 returns-13 : tie.Need-returns-13
 returns-13 c = λ e. firm-never (c .before .before .before .before .before .before .before .before .before .before .before .before .before .before .before .before .args .t .now)
@@ -240,7 +269,9 @@ returns-13 c = λ e. firm-never (c .before .before .before .before .before .befo
     (c .before .before .before .before .before .before .before .before .before .if3 .left) (c .before .before .before .before .before .before .if4 .left)
     (c .before .before .before .before .before .if9 .left) (λ z. omega (arith, z, c .before .before .before .if12 .left))
     (λ z. omega (arith, z, c .before .before .before .if12 .left)) (λ z. omega (arith, z, c .before .before .before .if12 .left)) (c .if14 .left)
-    (subst (λ (j : ℕ). Firm (treeOf (c .before .before .before .before .before .before .before .before .before .before .before .before .before .before .before .before .args .t .now) j)) (c .before .before .before .before .before .before .before .before .part .ensures) (c .before .before .firm .ensures (c .before .if13 .taken)))
+    (subst (λ (j : ℕ). Firm (treeOf
+    (c .before .before .before .before .before .before .before .before .before .before .before .before .before .before .before .before .args .t .now) j))
+    (c .before .before .before .before .before .before .before .before .part .ensures) (c .before .before .firm .ensures (c .before .if13 .taken)))
 
 returns-14 : tie.Need-returns-14
 returns-14 c = λ e. absurd (omega (arith, e))
@@ -300,7 +331,17 @@ returns-17 c = λ e. sure-star (c .before .before .before .before .before .befor
     (c .before .before .before .before .before .before .before .before .before .before .before .before .if1 .left)
     (c .before .before .before .before .before .before .before .before .before .before .before .op .ensures .0)
     (c .before .before .before .before .before .before .before .before .before .before .left .ensures .0) (c .before .before .before .before .before .before .first .result)
-    (c .before .if17 .taken) (c .if18 .taken) (at (c .before .before .before .before .before .before .before .before .before .before .before .before .before .before .before .args .t .now) (c .before .before .before .before .before .before .before .before .before .before .before .before .before .before .before .args .mem .now) (c .before .before .before .before .before .before .before .before .before .before .before .before .before .before .before .args .n) (c .before .before .before .before .before .before .before .before .before .before .before .before .before .before .before .args .b) (c .before .before .before .before .before .before .before .part .result) (below (c .before .before .before .before .before .before .before .before .before .before .left .result) (c .before .before .before .before .before .before .before .before .before .before .before .before .before .before .before .args .x - 1)) (c .before .before .before .before .before .before .first .result) (c .before .before .before .before .before .before .first .result) (c .before .before .before .before .before .before .before .part .ensures) refl (omega (arith, c .before .before .before .if11 .left)) (c .before .before .before .before .before .before .first .ensures))
+    (c .before .if17 .taken) (c .if18 .taken) (at
+    (c .before .before .before .before .before .before .before .before .before .before .before .before .before .before .before .args .t .now)
+    (c .before .before .before .before .before .before .before .before .before .before .before .before .before .before .before .args .mem .now)
+    (c .before .before .before .before .before .before .before .before .before .before .before .before .before .before .before .args .n)
+    (c .before .before .before .before .before .before .before .before .before .before .before .before .before .before .before .args .b)
+    (c .before .before .before .before .before .before .before .part .result) (below
+    (c .before .before .before .before .before .before .before .before .before .before .left .result)
+    (c .before .before .before .before .before .before .before .before .before .before .before .before .before .before .before .args .x - 1))
+    (c .before .before .before .before .before .before .first .result) (c .before .before .before .before .before .before .first .result)
+    (c .before .before .before .before .before .before .before .part .ensures) refl (omega (arith, c .before .before .before .if11 .left))
+    (c .before .before .before .before .before .before .first .ensures))
 
 returns-18 : tie.Need-returns-18
 returns-18 c = λ e. absurd (omega (arith, e))
@@ -332,16 +373,114 @@ returns-20 : tie.Need-returns-20
 returns-20 c = λ e. absurd (omega (arith, e))
 
 returns-21 : tie.Need-returns-21
-returns-21 c = λ e. sure-ahead (c .before .before .before .before .before .before .before .before .before .before .before .before .before .before .before .before .before .args .t .now) (c .before .before .before .before .before .before .before .before .before .before .before .before .before .before .before .before .before .args .mem .now) (c .before .before .before .before .before .before .before .before .before .before .before .before .before .before .before .before .before .args .n) (c .before .before .before .before .before .before .before .before .before .before .before .before .before .before .before .before .before .args .b) (c .before .before .before .before .before .before .before .before .before .before .before .before .before .before .before .before .before .args .x) (c .before .before .before .before .before .before .before .before .before .before .before .before .before .op .result) (c .before .before .before .before .before .before .before .before .before .before .before .before .left .result) (c .before .before .before .before .before .before .before .before .before .before .before .before .before .before .if1 .left) (c .before .before .before .before .before .before .before .before .before .before .before .before .before .op .ensures .0) (c .before .before .before .before .before .before .before .before .before .before .before .before .left .ensures .0) (c .before .before .before .before .before .before .before .before .first .result) 0 (c .before .if21 .taken) (ahead-fails _ _ refl (c .if22 .taken)) (at (c .before .before .before .before .before .before .before .before .before .before .before .before .before .before .before .before .before .args .t .now) (c .before .before .before .before .before .before .before .before .before .before .before .before .before .before .before .before .before .args .mem .now) (c .before .before .before .before .before .before .before .before .before .before .before .before .before .before .before .before .before .args .n) (c .before .before .before .before .before .before .before .before .before .before .before .before .before .before .before .before .before .args .b) (c .before .before .before .before .before .before .before .before .before .part .result) (below (c .before .before .before .before .before .before .before .before .before .before .before .before .left .result) (c .before .before .before .before .before .before .before .before .before .before .before .before .before .before .before .before .before .args .x - 1)) (c .before .before .before .before .before .before .before .before .first .result) (c .before .before .before .before .before .before .before .before .first .result) (c .before .before .before .before .before .before .before .before .before .part .ensures) refl (omega (arith, c .before .before .before .before .before .if11 .left)) (c .before .before .before .before .before .before .before .before .first .ensures))
+returns-21 c = λ e. sure-ahead (c .before .before .before .before .before .before .before .before .before .before .before .before .before .before .before
+    .before .before .args .t .now)
+    (c .before .before .before .before .before .before .before .before .before .before .before .before .before .before .before .before .before .args .mem .now)
+    (c .before .before .before .before .before .before .before .before .before .before .before .before .before .before .before .before .before .args .n)
+    (c .before .before .before .before .before .before .before .before .before .before .before .before .before .before .before .before .before .args .b)
+    (c .before .before .before .before .before .before .before .before .before .before .before .before .before .before .before .before .before .args .x)
+    (c .before .before .before .before .before .before .before .before .before .before .before .before .before .op .result)
+    (c .before .before .before .before .before .before .before .before .before .before .before .before .left .result)
+    (c .before .before .before .before .before .before .before .before .before .before .before .before .before .before .if1 .left)
+    (c .before .before .before .before .before .before .before .before .before .before .before .before .before .op .ensures .0)
+    (c .before .before .before .before .before .before .before .before .before .before .before .before .left .ensures .0)
+    (c .before .before .before .before .before .before .before .before .first .result) 0 (c .before .if21 .taken) (ahead-fails _ _ refl (c .if22 .taken)) (at
+    (c .before .before .before .before .before .before .before .before .before .before .before .before .before .before .before .before .before .args .t .now)
+    (c .before .before .before .before .before .before .before .before .before .before .before .before .before .before .before .before .before .args .mem .now)
+    (c .before .before .before .before .before .before .before .before .before .before .before .before .before .before .before .before .before .args .n)
+    (c .before .before .before .before .before .before .before .before .before .before .before .before .before .before .before .before .before .args .b)
+    (c .before .before .before .before .before .before .before .before .before .part .result) (below
+    (c .before .before .before .before .before .before .before .before .before .before .before .before .left .result)
+    (c .before .before .before .before .before .before .before .before .before .before .before .before .before .before .before .before .before .args .x - 1))
+    (c .before .before .before .before .before .before .before .before .first .result)
+    (c .before .before .before .before .before .before .before .before .first .result)
+    (c .before .before .before .before .before .before .before .before .before .part .ensures) refl (omega
+    (arith, c .before .before .before .before .before .if11 .left)) (c .before .before .before .before .before .before .before .before .first .ensures))
 
 returns-22 : tie.Need-returns-22
-returns-22 c = λ e. sure-ahead (c .before .before .before .before .before .before .before .before .before .before .before .before .before .before .before .before .before .args .t .now) (c .before .before .before .before .before .before .before .before .before .before .before .before .before .before .before .before .before .args .mem .now) (c .before .before .before .before .before .before .before .before .before .before .before .before .before .before .before .before .before .args .n) (c .before .before .before .before .before .before .before .before .before .before .before .before .before .before .before .before .before .args .b) (c .before .before .before .before .before .before .before .before .before .before .before .before .before .before .before .before .before .args .x) (c .before .before .before .before .before .before .before .before .before .before .before .before .before .op .result) (c .before .before .before .before .before .before .before .before .before .before .before .before .left .result) (c .before .before .before .before .before .before .before .before .before .before .before .before .before .before .if1 .left) (c .before .before .before .before .before .before .before .before .before .before .before .before .before .op .ensures .0) (c .before .before .before .before .before .before .before .before .before .before .before .before .left .ensures .0) (c .before .before .before .before .before .before .before .before .first .result) 1 (c .before .if21 .taken) (ahead-takes _ _ refl (c .if22 .left)) (at (c .before .before .before .before .before .before .before .before .before .before .before .before .before .before .before .before .before .args .t .now) (c .before .before .before .before .before .before .before .before .before .before .before .before .before .before .before .before .before .args .mem .now) (c .before .before .before .before .before .before .before .before .before .before .before .before .before .before .before .before .before .args .n) (c .before .before .before .before .before .before .before .before .before .before .before .before .before .before .before .before .before .args .b) (c .before .before .before .before .before .before .before .before .before .part .result) (below (c .before .before .before .before .before .before .before .before .before .before .before .before .left .result) (c .before .before .before .before .before .before .before .before .before .before .before .before .before .before .before .before .before .args .x - 1)) (c .before .before .before .before .before .before .before .before .first .result) (c .before .before .before .before .before .before .before .before .first .result) (c .before .before .before .before .before .before .before .before .before .part .ensures) refl (omega (arith, c .before .before .before .before .before .if11 .left)) (c .before .before .before .before .before .before .before .before .first .ensures))
+returns-22 c = λ e. sure-ahead (c .before .before .before .before .before .before .before .before .before .before .before .before .before .before .before
+    .before .before .args .t .now)
+    (c .before .before .before .before .before .before .before .before .before .before .before .before .before .before .before .before .before .args .mem .now)
+    (c .before .before .before .before .before .before .before .before .before .before .before .before .before .before .before .before .before .args .n)
+    (c .before .before .before .before .before .before .before .before .before .before .before .before .before .before .before .before .before .args .b)
+    (c .before .before .before .before .before .before .before .before .before .before .before .before .before .before .before .before .before .args .x)
+    (c .before .before .before .before .before .before .before .before .before .before .before .before .before .op .result)
+    (c .before .before .before .before .before .before .before .before .before .before .before .before .left .result)
+    (c .before .before .before .before .before .before .before .before .before .before .before .before .before .before .if1 .left)
+    (c .before .before .before .before .before .before .before .before .before .before .before .before .before .op .ensures .0)
+    (c .before .before .before .before .before .before .before .before .before .before .before .before .left .ensures .0)
+    (c .before .before .before .before .before .before .before .before .first .result) 1 (c .before .if21 .taken) (ahead-takes _ _ refl (c .if22 .left)) (at
+    (c .before .before .before .before .before .before .before .before .before .before .before .before .before .before .before .before .before .args .t .now)
+    (c .before .before .before .before .before .before .before .before .before .before .before .before .before .before .before .before .before .args .mem .now)
+    (c .before .before .before .before .before .before .before .before .before .before .before .before .before .before .before .before .before .args .n)
+    (c .before .before .before .before .before .before .before .before .before .before .before .before .before .before .before .before .before .args .b)
+    (c .before .before .before .before .before .before .before .before .before .part .result) (below
+    (c .before .before .before .before .before .before .before .before .before .before .before .before .left .result)
+    (c .before .before .before .before .before .before .before .before .before .before .before .before .before .before .before .before .before .args .x - 1))
+    (c .before .before .before .before .before .before .before .before .first .result)
+    (c .before .before .before .before .before .before .before .before .first .result)
+    (c .before .before .before .before .before .before .before .before .before .part .ensures) refl (omega
+    (arith, c .before .before .before .before .before .if11 .left)) (c .before .before .before .before .before .before .before .before .first .ensures))
 
 returns-23 : tie.Need-returns-23
-returns-23 c = λ e. sure-never (c .before .before .before .before .before .before .before .before .before .before .before .before .before .before .before .before .before .args .t .now) (c .before .before .before .before .before .before .before .before .before .before .before .before .before .before .before .before .before .args .mem .now) (c .before .before .before .before .before .before .before .before .before .before .before .before .before .before .before .before .before .args .n) (c .before .before .before .before .before .before .before .before .before .before .before .before .before .before .before .before .before .args .b) (c .before .before .before .before .before .before .before .before .before .before .before .before .before .before .before .before .before .args .x) (c .before .before .before .before .before .before .before .before .before .before .before .before .before .op .result) (c .before .before .before .before .before .before .before .before .before .before .before .before .left .result) (c .before .before .before .before .before .before .before .before .before .before .before .before .before .before .if1 .left) (c .before .before .before .before .before .before .before .before .before .before .before .before .before .op .ensures .0) (c .before .before .before .before .before .before .before .before .before .before .before .before .left .ensures .0) (c .before .before .before .before .before .before .before .before .first .result) 1 (c .before .before .before .before .before .before .before .before .before .before .before .if2 .left) (c .before .before .before .before .before .before .before .before .before .before .if3 .left) (c .before .before .before .before .before .before .before .if4 .left) (c .before .before .before .before .before .before .if9 .left) (c .before .before .before .before .if15 .left) (c .before .before .before .if17 .left) (c .before .before .if19 .left) (c .before .if21 .left) (never-takes _ _ refl (c .if23 .taken)) (at (c .before .before .before .before .before .before .before .before .before .before .before .before .before .before .before .before .before .args .t .now) (c .before .before .before .before .before .before .before .before .before .before .before .before .before .before .before .before .before .args .mem .now) (c .before .before .before .before .before .before .before .before .before .before .before .before .before .before .before .before .before .args .n) (c .before .before .before .before .before .before .before .before .before .before .before .before .before .before .before .before .before .args .b) (c .before .before .before .before .before .before .before .before .before .part .result) (below (c .before .before .before .before .before .before .before .before .before .before .before .before .left .result) (c .before .before .before .before .before .before .before .before .before .before .before .before .before .before .before .before .before .args .x - 1)) (c .before .before .before .before .before .before .before .before .first .result) (c .before .before .before .before .before .before .before .before .first .result) (c .before .before .before .before .before .before .before .before .before .part .ensures) refl (omega (arith, c .before .before .before .before .before .if11 .left)) (c .before .before .before .before .before .before .before .before .first .ensures))
+returns-23 c = λ e. sure-never (c .before .before .before .before .before .before .before .before .before .before .before .before .before .before .before
+    .before .before .args .t .now)
+    (c .before .before .before .before .before .before .before .before .before .before .before .before .before .before .before .before .before .args .mem .now)
+    (c .before .before .before .before .before .before .before .before .before .before .before .before .before .before .before .before .before .args .n)
+    (c .before .before .before .before .before .before .before .before .before .before .before .before .before .before .before .before .before .args .b)
+    (c .before .before .before .before .before .before .before .before .before .before .before .before .before .before .before .before .before .args .x)
+    (c .before .before .before .before .before .before .before .before .before .before .before .before .before .op .result)
+    (c .before .before .before .before .before .before .before .before .before .before .before .before .left .result)
+    (c .before .before .before .before .before .before .before .before .before .before .before .before .before .before .if1 .left)
+    (c .before .before .before .before .before .before .before .before .before .before .before .before .before .op .ensures .0)
+    (c .before .before .before .before .before .before .before .before .before .before .before .before .left .ensures .0)
+    (c .before .before .before .before .before .before .before .before .first .result) 1
+    (c .before .before .before .before .before .before .before .before .before .before .before .if2 .left)
+    (c .before .before .before .before .before .before .before .before .before .before .if3 .left)
+    (c .before .before .before .before .before .before .before .if4 .left) (c .before .before .before .before .before .before .if9 .left)
+    (c .before .before .before .before .if15 .left) (c .before .before .before .if17 .left) (c .before .before .if19 .left) (c .before .if21 .left)
+    (never-takes _ _ refl (c .if23 .taken)) (at
+    (c .before .before .before .before .before .before .before .before .before .before .before .before .before .before .before .before .before .args .t .now)
+    (c .before .before .before .before .before .before .before .before .before .before .before .before .before .before .before .before .before .args .mem .now)
+    (c .before .before .before .before .before .before .before .before .before .before .before .before .before .before .before .before .before .args .n)
+    (c .before .before .before .before .before .before .before .before .before .before .before .before .before .before .before .before .before .args .b)
+    (c .before .before .before .before .before .before .before .before .before .part .result) (below
+    (c .before .before .before .before .before .before .before .before .before .before .before .before .left .result)
+    (c .before .before .before .before .before .before .before .before .before .before .before .before .before .before .before .before .before .args .x - 1))
+    (c .before .before .before .before .before .before .before .before .first .result)
+    (c .before .before .before .before .before .before .before .before .first .result)
+    (c .before .before .before .before .before .before .before .before .before .part .ensures) refl (omega
+    (arith, c .before .before .before .before .before .if11 .left)) (c .before .before .before .before .before .before .before .before .first .ensures))
 
 returns-24 : tie.Need-returns-24
-returns-24 c = λ e. sure-never (c .before .before .before .before .before .before .before .before .before .before .before .before .before .before .before .before .before .args .t .now) (c .before .before .before .before .before .before .before .before .before .before .before .before .before .before .before .before .before .args .mem .now) (c .before .before .before .before .before .before .before .before .before .before .before .before .before .before .before .before .before .args .n) (c .before .before .before .before .before .before .before .before .before .before .before .before .before .before .before .before .before .args .b) (c .before .before .before .before .before .before .before .before .before .before .before .before .before .before .before .before .before .args .x) (c .before .before .before .before .before .before .before .before .before .before .before .before .before .op .result) (c .before .before .before .before .before .before .before .before .before .before .before .before .left .result) (c .before .before .before .before .before .before .before .before .before .before .before .before .before .before .if1 .left) (c .before .before .before .before .before .before .before .before .before .before .before .before .before .op .ensures .0) (c .before .before .before .before .before .before .before .before .before .before .before .before .left .ensures .0) (c .before .before .before .before .before .before .before .before .first .result) 0 (c .before .before .before .before .before .before .before .before .before .before .before .if2 .left) (c .before .before .before .before .before .before .before .before .before .before .if3 .left) (c .before .before .before .before .before .before .before .if4 .left) (c .before .before .before .before .before .before .if9 .left) (c .before .before .before .before .if15 .left) (c .before .before .before .if17 .left) (c .before .before .if19 .left) (c .before .if21 .left) (never-fails _ _ refl (c .if23 .left)) (at (c .before .before .before .before .before .before .before .before .before .before .before .before .before .before .before .before .before .args .t .now) (c .before .before .before .before .before .before .before .before .before .before .before .before .before .before .before .before .before .args .mem .now) (c .before .before .before .before .before .before .before .before .before .before .before .before .before .before .before .before .before .args .n) (c .before .before .before .before .before .before .before .before .before .before .before .before .before .before .before .before .before .args .b) (c .before .before .before .before .before .before .before .before .before .part .result) (below (c .before .before .before .before .before .before .before .before .before .before .before .before .left .result) (c .before .before .before .before .before .before .before .before .before .before .before .before .before .before .before .before .before .args .x - 1)) (c .before .before .before .before .before .before .before .before .first .result) (c .before .before .before .before .before .before .before .before .first .result) (c .before .before .before .before .before .before .before .before .before .part .ensures) refl (omega (arith, c .before .before .before .before .before .if11 .left)) (c .before .before .before .before .before .before .before .before .first .ensures))
+returns-24 c = λ e. sure-never (c .before .before .before .before .before .before .before .before .before .before .before .before .before .before .before
+    .before .before .args .t .now)
+    (c .before .before .before .before .before .before .before .before .before .before .before .before .before .before .before .before .before .args .mem .now)
+    (c .before .before .before .before .before .before .before .before .before .before .before .before .before .before .before .before .before .args .n)
+    (c .before .before .before .before .before .before .before .before .before .before .before .before .before .before .before .before .before .args .b)
+    (c .before .before .before .before .before .before .before .before .before .before .before .before .before .before .before .before .before .args .x)
+    (c .before .before .before .before .before .before .before .before .before .before .before .before .before .op .result)
+    (c .before .before .before .before .before .before .before .before .before .before .before .before .left .result)
+    (c .before .before .before .before .before .before .before .before .before .before .before .before .before .before .if1 .left)
+    (c .before .before .before .before .before .before .before .before .before .before .before .before .before .op .ensures .0)
+    (c .before .before .before .before .before .before .before .before .before .before .before .before .left .ensures .0)
+    (c .before .before .before .before .before .before .before .before .first .result) 0
+    (c .before .before .before .before .before .before .before .before .before .before .before .if2 .left)
+    (c .before .before .before .before .before .before .before .before .before .before .if3 .left)
+    (c .before .before .before .before .before .before .before .if4 .left) (c .before .before .before .before .before .before .if9 .left)
+    (c .before .before .before .before .if15 .left) (c .before .before .before .if17 .left) (c .before .before .if19 .left) (c .before .if21 .left)
+    (never-fails _ _ refl (c .if23 .left)) (at
+    (c .before .before .before .before .before .before .before .before .before .before .before .before .before .before .before .before .before .args .t .now)
+    (c .before .before .before .before .before .before .before .before .before .before .before .before .before .before .before .before .before .args .mem .now)
+    (c .before .before .before .before .before .before .before .before .before .before .before .before .before .before .before .before .before .args .n)
+    (c .before .before .before .before .before .before .before .before .before .before .before .before .before .before .before .before .before .args .b)
+    (c .before .before .before .before .before .before .before .before .before .part .result) (below
+    (c .before .before .before .before .before .before .before .before .before .before .before .before .left .result)
+    (c .before .before .before .before .before .before .before .before .before .before .before .before .before .before .before .before .before .args .x - 1))
+    (c .before .before .before .before .before .before .before .before .first .result)
+    (c .before .before .before .before .before .before .before .before .first .result)
+    (c .before .before .before .before .before .before .before .before .before .part .ensures) refl (omega
+    (arith, c .before .before .before .before .before .if11 .left)) (c .before .before .before .before .before .before .before .before .first .ensures))
 
 pub decide-spec : {M : Type 1} → statement M
 decide-spec =

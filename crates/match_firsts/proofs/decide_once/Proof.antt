@@ -52,7 +52,11 @@ decide-bodies-requires c κs = (
 )
 
 decide-bodies-requires-2 : tie.Need-decide-bodies-requires-2
-decide-bodies-requires-2 c κs = (c .before .before .before .before .before .before .before .before .before .before .before .before .before .before .before .before .before .before .before .pre .0, c .before .before .before .decide-bodies .ensures)
+decide-bodies-requires-2 c κs = (
+  c .before .before .before .before .before .before .before .before .before .before .before .before .before .before .before .before .before .before .before
+      .pre .0,
+  c .before .before .before .decide-bodies .ensures,
+)
 
 same-length : tie.Need-same-length
 same-length c = search needs

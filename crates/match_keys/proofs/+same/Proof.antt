@@ -151,7 +151,8 @@ same-same-requires-2 t c κs = (
     arith,
     below-le (c .before .before .before .right .result)
         (c .before .before .before .before .before .before .before .before .before .before .before .before .before .before .before .before .before .before .before .args .x - 1),
-    below-le (c .before .before .right2 .result) (c .before .before .before .before .before .before .before .before .before .before .before .before .before .before .before .before .before .before .before .args .y - 1),
+    below-le (c .before .before .right2 .result)
+        (c .before .before .before .before .before .before .before .before .before .before .before .before .before .before .before .before .before .before .before .args .y - 1),
     c .before .part3 .ensures,
     c .part4 .ensures,
     c .before .before .before .before .before .before .before .before .before .before .before .before .before .before .before .before .before .before .before .pre .1,
@@ -159,7 +160,38 @@ same-same-requires-2 t c κs = (
 )
 
 same-returns-9 : (t : ℕ) → same-lts.Need-returns-9 (same-claims t) (same-at t) same.Post
-same-returns-9 t c = λ e. trees-same (c .before .before .before .before .before .before .before .before .before .before .before .before .before .before .before .before .before .before .before .before .args .t .now) (c .before .before .before .before .before .before .before .before .before .before .before .before .before .before .before .before .before .before .before .before .args .x) (c .before .before .before .before .before .before .before .before .before .before .before .before .before .before .before .before .before .before .before .before .args .y) (c .before .before .before .before .before .before .before .before .before .before .before .before .before .before .before .op .result) (c .before .before .before .before .before .before .before .before .before .before .before .before .before .before .op2 .result) (c .before .before .before .before .before .before .before .before .before .before .before .before .left .result) (c .before .before .before .before .before .before .before .before .before .before .before .left2 .result) (c .before .before .before .before .before .before .before .before .before .before .before .before .before .before .before .before .before .if2 .left) (c .before .before .before .before .before .before .before .before .before .before .before .before .before .before .before .before .if3 .left) (c .before .before .before .before .before .before .before .before .before .before .before .before .before .before .before .op .ensures .0) (c .before .before .before .before .before .before .before .before .before .before .before .before .before .before .op2 .ensures .0) (omega (arith, c .before .before .before .before .before .before .before .before .before .before .before .before .before .if4 .left)) (c .before .before .before .before .before .before .before .before .before .before .before .before .left .ensures .0) (c .before .before .before .before .before .before .before .before .before .before .before .left2 .ensures .0) (λ h. absurd (omega (arith, h, c .before .before .before .before .before .before .before .before .before .before .if5 .left))) (λ h. ap (treeOf (c .before .before .before .before .before .before .before .before .before .before .before .before .before .before .before .before .before .before .before .before .args .t .now)) (sym (c .before .before .before .before .before .before .before .before .before .part .ensures)) ∙ c .before .before .before .before .before .before .before .same .ensures (not-false (c .before .before .before .before .before .before .before .same .result) (c .before .before .before .before .before .before .if7 .left)) ∙ ap (treeOf (c .before .before .before .before .before .before .before .before .before .before .before .before .before .before .before .before .before .before .before .before .args .t .now)) (c .before .before .before .before .before .before .before .before .part2 .ensures)) (λ h g. ap (treeOf (c .before .before .before .before .before .before .before .before .before .before .before .before .before .before .before .before .before .before .before .before .args .t .now)) (sym (c .before .before .part3 .ensures ∙ ap (λ (j : ℕ). below j (c .before .before .before .before .before .before .before .before .before .before .before .before .before .before .before .before .before .before .before .before .args .x - 1)) (c .before .before .before .before .right .ensures .0))) ∙ c .same2 .ensures e ∙ ap (treeOf (c .before .before .before .before .before .before .before .before .before .before .before .before .before .before .before .before .before .before .before .before .args .t .now)) (c .before .part4 .ensures ∙ ap (λ (j : ℕ). below j (c .before .before .before .before .before .before .before .before .before .before .before .before .before .before .before .before .before .before .before .before .args .y - 1)) (c .before .before .before .right2 .ensures .0)))
+same-returns-9 t c = λ e. trees-same
+    (c .before .before .before .before .before .before .before .before .before .before .before .before .before .before .before .before .before .before .before
+    .before .args .t .now) (c .before .before .before .before .before .before .before .before .before .before .before .before .before .before .before .before
+    .before .before .before .before .args .x)
+    (c .before .before .before .before .before .before .before .before .before .before .before .before .before .before .before .before .before .before .before
+    .before .args .y) (c .before .before .before .before .before .before .before .before .before .before .before .before .before .before .before .op .result)
+    (c .before .before .before .before .before .before .before .before .before .before .before .before .before .before .op2 .result)
+    (c .before .before .before .before .before .before .before .before .before .before .before .before .left .result)
+    (c .before .before .before .before .before .before .before .before .before .before .before .left2 .result)
+    (c .before .before .before .before .before .before .before .before .before .before .before .before .before .before .before .before .before .if2 .left)
+    (c .before .before .before .before .before .before .before .before .before .before .before .before .before .before .before .before .if3 .left)
+    (c .before .before .before .before .before .before .before .before .before .before .before .before .before .before .before .op .ensures .0)
+    (c .before .before .before .before .before .before .before .before .before .before .before .before .before .before .op2 .ensures .0) (omega
+    (arith, c .before .before .before .before .before .before .before .before .before .before .before .before .before .if4 .left))
+    (c .before .before .before .before .before .before .before .before .before .before .before .before .left .ensures .0)
+    (c .before .before .before .before .before .before .before .before .before .before .before .left2 .ensures .0) (λ h. absurd (omega
+    (arith, h, c .before .before .before .before .before .before .before .before .before .before .if5 .left))) (λ h. ap (treeOf
+    (c .before .before .before .before .before .before .before .before .before .before .before .before .before .before .before .before .before .before .before
+    .before .args .t .now)) (sym
+    (c .before .before .before .before .before .before .before .before .before .part .ensures))
+    ∙ c .before .before .before .before .before .before .before .same .ensures (not-false
+    (c .before .before .before .before .before .before .before .same .result) (c .before .before .before .before .before .before .if7 .left)) ∙ ap (treeOf
+    (c .before .before .before .before .before .before .before .before .before .before .before .before .before .before .before .before .before .before .before
+    .before .args .t .now)) (c .before .before .before .before .before .before .before .before .part2 .ensures)) (λ h g. ap (treeOf
+    (c .before .before .before .before .before .before .before .before .before .before .before .before .before .before .before .before .before .before .before
+    .before .args .t .now)) (sym (c .before .before .part3 .ensures ∙ ap (λ (j : ℕ). below j
+    (c .before .before .before .before .before .before .before .before .before .before .before .before .before .before .before .before .before .before .before
+    .before .args .x - 1)) (c .before .before .before .before .right .ensures .0))) ∙ c .same2 .ensures e ∙ ap (treeOf
+    (c .before .before .before .before .before .before .before .before .before .before .before .before .before .before .before .before .before .before .before
+    .before .args .t .now)) (c .before .part4 .ensures ∙ ap (λ (j : ℕ). below j
+    (c .before .before .before .before .before .before .before .before .before .before .before .before .before .before .before .before .before .before .before
+    .before .args .y - 1)) (c .before .before .before .right2 .ensures .0)))
 
 pub +same-spec : {M : Type 1} → statement M
 +same-spec = close μ-same λ t. same-lts.spec (same-claims t) (same-at t) same.Post

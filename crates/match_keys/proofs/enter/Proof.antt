@@ -62,7 +62,24 @@ same-length-2 : tie.Need-same-length-2
 same-length-2 c = search needs
 
 returns-2 : tie.Need-returns-2
-returns-2 c = subst (λ (v : List ℕ). Fresh (c .before .before .before .before .before .before .before .before .before .before .before .before .before .before .before .before .before .before .before .before .args .t .now) v) (sym (c .before .before .put4 .ensures ∙ ap (λ (v : List ℕ). set v (2 + c .before .before .before .before .before .before .before .before .before .before .before .before .before .before .before .before .before .before .before .before .args .y) (c .before .before .before .before .before .before .before .before .before .before .before .before .before .word .result + 1)) (c .before .before .before .before .before .before .put3 .ensures ∙ ap (λ (v : List ℕ). set v 1 (c .before .before .before .before .before .before .before .before .before .before .before .before .before .word .result + 1)) (c .before .before .before .before .before .before .before .before .before .before .put2 .ensures)))) (fresh-own (c .before .before .before .before .before .before .before .before .before .before .before .before .before .before .before .before .before .before .before .before .args .t .now) (c .before .before .before .before .before .before .before .before .before .before .before .before .before .before .before .before .before .before .before .before .args .mem .now) (c .before .before .before .before .before .before .before .before .before .before .before .before .before .before .before .before .before .before .before .before .pre .1) (c .before .before .before .before .before .before .before .before .before .before .before .before .before .before .before .before .before .before .before .before .args .y) (c .before .before .before .before .before .before .before .before .before .before .before .before .before .before .before .before .before .before .before .before .pre .0) (c .before .before .before .before .before .before .before .before .before .before .before .before .before .word .result) (c .before .before .before .before .before .before .before .before .before .before .before .before .before .word .ensures .0) (c .before .before .before .before .before .before .before .before .before .before .before .before .if2 .taken))
+returns-2 c = subst (λ (v : List ℕ). Fresh
+    (c .before .before .before .before .before .before .before .before .before .before .before .before .before .before .before .before .before .before .before
+    .before .args .t .now) v) (sym (c .before .before .put4 .ensures ∙ ap (λ (v : List ℕ). set v
+    (2 + c .before .before .before .before .before .before .before .before .before .before .before .before .before .before .before .before .before .before
+    .before .before .args .y) (c .before .before .before .before .before .before .before .before .before .before .before .before .before .word .result + 1))
+    (c .before .before .before .before .before .before .put3 .ensures ∙ ap (λ (v : List ℕ). set v 1
+    (c .before .before .before .before .before .before .before .before .before .before .before .before .before .word .result + 1))
+    (c .before .before .before .before .before .before .before .before .before .before .put2 .ensures)))) (fresh-own
+    (c .before .before .before .before .before .before .before .before .before .before .before .before .before .before .before .before .before .before .before
+    .before .args .t .now) (c .before .before .before .before .before .before .before .before .before .before .before .before .before .before .before .before
+    .before .before .before .before .args .mem .now)
+    (c .before .before .before .before .before .before .before .before .before .before .before .before .before .before .before .before .before .before .before
+    .before .pre .1) (c .before .before .before .before .before .before .before .before .before .before .before .before .before .before .before .before .before
+    .before .before .before .args .y)
+    (c .before .before .before .before .before .before .before .before .before .before .before .before .before .before .before .before .before .before .before
+    .before .pre .0) (c .before .before .before .before .before .before .before .before .before .before .before .before .before .word .result)
+    (c .before .before .before .before .before .before .before .before .before .before .before .before .before .word .ensures .0)
+    (c .before .before .before .before .before .before .before .before .before .before .before .before .if2 .taken))
 
 same-length-3 : tie.Need-same-length-3
 same-length-3 c = search needs

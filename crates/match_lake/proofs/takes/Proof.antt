@@ -15,16 +15,16 @@ eval-with-requires : tie.Need-eval-with-requires
 eval-with-requires c κs = search needs
 
 returns-2 : tie.Need-returns-2
-returns-2 c = body-fails (c .before .before .before .before .before .before .before .args .t .now) (c .before .before .before .before .before .before .before .args .s .now)
-    (c .before .before .before .before .before .before .before .args .cells .now) (c .before .before .before .before .before .before .before .args .n)
-    (c .before .before .before .before .before .before .before .args .p) (c .before .before .before .before .before .before .before .args .b) (c .before .eval-with .result)
-    (c .before .before .before .before .if1 .left) (c .before .eval-with .ensures) (c .if2 .taken)
+returns-2 c = body-fails (c .before .before .before .before .before .args .t .now) (c .before .before .before .before .before .args .s .now)
+    (c .before .before .before .before .before .args .cells .now) (c .before .before .before .before .before .args .n)
+    (c .before .before .before .before .before .args .p) (c .before .before .before .before .before .args .b) (c .before .eval-with .result)
+    (c .before .before .if1 .left) (c .before .eval-with .ensures) (c .if2 .taken)
 
 returns-3 : tie.Need-returns-3
-returns-3 c = body-takes (c .before .before .before .before .before .before .before .args .t .now) (c .before .before .before .before .before .before .before .args .s .now)
-    (c .before .before .before .before .before .before .before .args .cells .now) (c .before .before .before .before .before .before .before .args .n)
-    (c .before .before .before .before .before .before .before .args .p) (c .before .before .before .before .before .before .before .args .b) (c .before .eval-with .result)
-    (c .before .before .before .before .if1 .left) (c .before .eval-with .ensures) (c .if2 .left)
+returns-3 c = body-takes (c .before .before .before .before .before .args .t .now) (c .before .before .before .before .before .args .s .now)
+    (c .before .before .before .before .before .args .cells .now) (c .before .before .before .before .before .args .n)
+    (c .before .before .before .before .before .args .p) (c .before .before .before .before .before .args .b) (c .before .eval-with .result)
+    (c .before .before .if1 .left) (c .before .eval-with .ensures) (c .if2 .left)
 
 pub takes-spec : {M : Type 1} → statement M
 takes-spec = tie.close (tie.spec returns eval-with-requires returns-2 returns-3)

@@ -145,7 +145,36 @@ same-length-4 : tie.Need-same-length-4
 same-length-4 c = search needs
 
 returns-2 : tie.Need-returns-2
-returns-2 c = rw (c .before .before .put .ensures) (entered (c .before .before .before .before .before .before .before .before .before .before .before .before .before .before .before .before .before .before .args .t .now) (c .before .before .before .before .before .before .before .before .before .before .before .before .before .before .before .before .before .before .args .s .now) (c .before .before .before .before .before .before .before .before .before .before .before .before .before .before .before .before .before .before .args .cells .now) (c .before .before .before .before .before .before .before .before .before .before .before .before .before .before .before .before .before .before .args .g .n) (c .before .before .before .before .before .before .before .before .before .before .before .before .before .before .before .before .before .before .pre .0) (c .before .before .before .before .before .before .before .before .before .before .before .before .before .before .before .before .before .before .args .g .room) (c .before .before .before .before .before .before .before .before .before .before .before .before .before .before .before .before .before .before .args .g .write) (c .before .before .before .before .before .before .before .before .before .before .before .before .before .before .before .before .before .before .args .e .level) (c .before .before .before .before .before .before .before .before .before .before .before .before .before .before .before .before .before .before .args .e .symbol) (c .before .before .before .before .before .before .before .before .before .before .before .before .before .before .before .before .before .before .args .e .place) (c .before .before .before .before .before .before .before .before .before .before .before .before .before .before .before .before .before .before .args .e .at) (c .before .before .before .before .before .before .before .before .before .before .before .before .cell-at .result) (c .before .before .before .before .before .before .before .before .before .before .before .body .result) _ (c .before .before .before .before .before .before .before .before .before .before .before .before .before .before .before .before .before .before .args .nodes .now) (c .before .before .before .before .before .before .before .before .before .before .before .before .before .before .before .before .before .before .pre .5) (c .before .before .before .before .before .before .before .before .before .before .before .before .before .before .before .before .before .before .pre .6) (c .before .before .before .before .before .before .before .before .before .before .before .before .before .before .before .before .before .before .pre .3) (c .before .before .before .before .before .before .before .before .before .before .before .before .before .before .before .before .before .before .pre .2) (c .before .before .before .before .before .before .before .before .before .before .before .before .cell-at .ensures) (c .before .before .before .before .before .before .before .before .before .before .before .body .ensures .0) (c .before .before .before .before .before .before .before .before .before .note .ensures) (c .before .before .before .before .before .before .before .before .before .before .before .before .before .before .before .before .before .before .args .desk .now) (c .before .before .before .before .before .before .before .before .before .before .before .before .before .before .before .before .before .before .args .e .x) (c .before .before .before .before .before .before .before .before .before .before .before .before .before .before .before .before .before .before .pre .1) (c .before .before .before .before .before .before .before .before .before .before .before .before .before .before .before .before .before .before .pre .4) (c .before .before .before .before .before .before .before .before .before .before .before .before .before .before .before .before .before .before .pre .7))
+returns-2 c = rw (c .before .before .put .ensures) (entered
+    (c .before .before .before .before .before .before .before .before .before .before .before .before .before .before .before .before .before .before .args .t
+    .now) (c .before .before .before .before .before .before .before .before .before .before .before .before .before .before .before .before .before .before
+    .args .s .now) (c .before .before .before .before .before .before .before .before .before .before .before .before .before .before .before .before .before
+    .before .args .cells .now) (c .before .before .before .before .before .before .before .before .before .before .before .before .before .before .before
+    .before .before .before .args .g .n)
+    (c .before .before .before .before .before .before .before .before .before .before .before .before .before .before .before .before .before .before .pre .0)
+    (c .before .before .before .before .before .before .before .before .before .before .before .before .before .before .before .before .before .before .args .g
+    .room) (c .before .before .before .before .before .before .before .before .before .before .before .before .before .before .before .before .before .before
+    .args .g .write) (c .before .before .before .before .before .before .before .before .before .before .before .before .before .before .before .before .before
+    .before .args .e .level) (c .before .before .before .before .before .before .before .before .before .before .before .before .before .before .before .before
+    .before .before .args .e .symbol)
+    (c .before .before .before .before .before .before .before .before .before .before .before .before .before .before .before .before .before .before .args .e
+    .place) (c .before .before .before .before .before .before .before .before .before .before .before .before .before .before .before .before .before .before
+    .args .e .at) (c .before .before .before .before .before .before .before .before .before .before .before .before .cell-at .result)
+    (c .before .before .before .before .before .before .before .before .before .before .before .body .result) _
+    (c .before .before .before .before .before .before .before .before .before .before .before .before .before .before .before .before .before .before .args
+    .nodes .now) (c .before .before .before .before .before .before .before .before .before .before .before .before .before .before .before .before .before
+    .before .pre .5) (c .before .before .before .before .before .before .before .before .before .before .before .before .before .before .before .before .before
+    .before .pre .6) (c .before .before .before .before .before .before .before .before .before .before .before .before .before .before .before .before .before
+    .before .pre .3) (c .before .before .before .before .before .before .before .before .before .before .before .before .before .before .before .before .before
+    .before .pre .2) (c .before .before .before .before .before .before .before .before .before .before .before .before .cell-at .ensures)
+    (c .before .before .before .before .before .before .before .before .before .before .before .body .ensures .0)
+    (c .before .before .before .before .before .before .before .before .before .note .ensures)
+    (c .before .before .before .before .before .before .before .before .before .before .before .before .before .before .before .before .before .before .args
+    .desk .now) (c .before .before .before .before .before .before .before .before .before .before .before .before .before .before .before .before .before
+    .before .args .e .x) (c .before .before .before .before .before .before .before .before .before .before .before .before .before .before .before .before
+    .before .before .pre .1) (c .before .before .before .before .before .before .before .before .before .before .before .before .before .before .before .before
+    .before .before .pre .4) (c .before .before .before .before .before .before .before .before .before .before .before .before .before .before .before .before
+    .before .before .pre .7))
 
 pub enter-spec : {M : Type 1} → statement M
 enter-spec =

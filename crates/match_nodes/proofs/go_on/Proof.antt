@@ -43,7 +43,13 @@ same-length-2 : tie.Need-same-length-2 Inv-loop μ-loop
 same-length-2 c = c .before .before .before .before .before .turn .kept .1 .1 .1 .1 .1 .0 ∙ c .before .before .before .before .before .before .before .before .before .loop .inv .2
 
 returns : tie.Need-returns Inv-loop μ-loop
-returns c = (run-stopped _ (c .before .before .before .before .before .before .before .before .before .before .before .before .before .before .before .before .args .tour .setting .write) _ _ _ (c .if1 .taken) ∙ c .before .before .before .before .before .turn .ensures .same ∙ c .before .before .before .before .before .before .before .before .before .loop .inv .4, c .before .before .before .before .before .turn .ensures .desk)
+returns c = (
+  run-stopped _ (c .before .before .before .before .before .before .before .before .before .before .before .before .before .before .before .before
+      .args .tour .setting .write) _ _ _
+      (c .if1 .taken) ∙ c .before .before .before .before .before .turn .ensures .same
+      ∙ c .before .before .before .before .before .before .before .before .before .loop .inv .4,
+  c .before .before .before .before .before .turn .ensures .desk,
+)
 
 loop-less : tie.Need-loop-less Inv-loop μ-loop
 unfolding turns

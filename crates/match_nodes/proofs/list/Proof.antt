@@ -49,7 +49,15 @@ same-length c = search needs
 
 returns : tie.Need-returns
 unfolding roomOf nodeWords
-returns c = let a = pass-refused (roomOf (c .before .before .before .before .before .before .before .before .before .before .before .before .before .before .before .args .nodes .now)) (c .before .before .before .before .before .before .before .before .before .before .before .before .before .before .before .args .nodes .now) _ (c .before .before .before .before .before .pass .result) (listOf (bodiesOf (c .before .before .before .before .before .before .before .before .before .before .before .before .before .before .before .args .t .now)) (c .before .before .before .before .before .before .before .before .before .before .before .before .before .before .before .args .s .now) (c .before .before .before .before .before .before .before .before .before .before .before .before .before .before .before .args .cells .now)) (omega (arith, small (c .before .before .before .before .before .before .before .before .before .before .before .before .before .before .before))) (c .before .before .before .before .before .pass .ensures .0) (c .before .if1 .taken) in (c .answer .ensures ∙ a .0, a .1)
+returns c = let a = pass-refused (roomOf
+    (c .before .before .before .before .before .before .before .before .before .before .before .before .before .before .before .args .nodes .now))
+    (c .before .before .before .before .before .before .before .before .before .before .before .before .before .before .before .args .nodes .now) _
+    (c .before .before .before .before .before .pass .result) (listOf (bodiesOf
+    (c .before .before .before .before .before .before .before .before .before .before .before .before .before .before .before .args .t .now))
+    (c .before .before .before .before .before .before .before .before .before .before .before .before .before .before .before .args .s .now)
+    (c .before .before .before .before .before .before .before .before .before .before .before .before .before .before .before .args .cells .now)) (omega
+    (arith, small (c .before .before .before .before .before .before .before .before .before .before .before .before .before .before .before)))
+    (c .before .before .before .before .before .pass .ensures .0) (c .before .if1 .taken) in (c .answer .ensures ∙ a .0, a .1)
 
 slice-aggregate-pass-2 : tie.Need-slice-aggregate-pass-2
 slice-aggregate-pass-2 c = search needs
@@ -69,7 +77,24 @@ same-length-2 c = search needs
 
 returns-2 : tie.Need-returns-2
 unfolding roomOf nodeWords
-returns-2 c = let a = pass-written (roomOf (c .before .before .before .before .before .before .before .before .before .before .before .before .before .before .before .before .before .before .before .before .before .args .nodes .now)) (c .before .before .before .before .before .before .before .before .before .before .before .before .before .before .before .before .before .before .before .before .before .args .nodes .now) _ (c .before .before .before .before .before .before .before .before .before .before .before .pass .result) (listOf (bodiesOf (c .before .before .before .before .before .before .before .before .before .before .before .before .before .before .before .before .before .before .before .before .before .args .t .now)) (c .before .before .before .before .before .before .before .before .before .before .before .before .before .before .before .before .before .before .before .before .before .args .s .now) (c .before .before .before .before .before .before .before .before .before .before .before .before .before .before .before .before .before .before .before .before .before .args .cells .now)) (omega (arith, small (c .before .before .before .before .before .before .before .before .before .before .before .before .before .before .before .before .before .before .before .before .before))) (c .before .before .before .before .before .before .before .before .before .before .before .pass .ensures .0) _ (c .before .before .before .before .pass2 .result) (omega (arith, c .before .before .before .before .before .before .before .if1 .left)) (c .before .before .before .before .pass2 .ensures .0) in (c .answer2 .ensures ∙ a .0, a .1)
+returns-2 c = let a = pass-written (roomOf
+    (c .before .before .before .before .before .before .before .before .before .before .before .before .before .before .before .before .before .before .before
+    .before .before .args .nodes .now))
+    (c .before .before .before .before .before .before .before .before .before .before .before .before .before .before .before .before .before .before .before
+    .before .before .args .nodes .now) _ (c .before .before .before .before .before .before .before .before .before .before .before .pass .result) (listOf
+    (bodiesOf (c .before .before .before .before .before .before .before .before .before .before .before .before .before .before .before .before .before
+    .before .before .before .before .args .t .now))
+    (c .before .before .before .before .before .before .before .before .before .before .before .before .before .before .before .before .before .before .before
+    .before .before .args .s .now)
+    (c .before .before .before .before .before .before .before .before .before .before .before .before .before .before .before .before .before .before .before
+    .before .before .args .cells .now)) (omega (
+      arith,
+      small
+          (c .before .before .before .before .before .before .before .before .before .before .before .before .before .before .before .before .before .before .before
+          .before .before),
+    )) (c .before .before .before .before .before .before .before .before .before .before .before .pass .ensures .0) _
+    (c .before .before .before .before .pass2 .result) (omega (arith, c .before .before .before .before .before .before .before .if1 .left))
+    (c .before .before .before .before .pass2 .ensures .0) in (c .answer2 .ensures ∙ a .0, a .1)
 
 pub list-spec : {M : Type 1} → statement M
 list-spec =

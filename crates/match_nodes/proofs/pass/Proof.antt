@@ -52,10 +52,33 @@ same-length-2 : tie.Need-same-length-2
 same-length-2 c = search needs
 
 returns-2 : tie.Need-returns-2
-returns-2 c = (run-stopped _ (c .before .before .before .before .before .before .before .before .before .before .before .before .before .before .before .before .args .g .write) _ _ _ (c .if2 .taken) ∙ c .before .before .before .before .before .before .enter .ensures .same ∙ ap (run _ (c .before .before .before .before .before .before .before .before .before .before .before .before .before .before .before .before .args .g .write) (out (c .before .before .before .before .before .before .before .before .before .before .before .before .before .before .before .before .args .nodes .now) 0)) (start-list (c .before .before .before .before .before .before .before .before .before .before .before .before .before .before .before .before .args .t .now) (c .before .before .before .before .before .before .before .before .before .before .before .before .before .before .before .before .args .s .now) (c .before .before .before .before .before .before .before .before .before .before .before .before .before .before .before .before .args .cells .now) (c .before .before .before .before .before .before .before .before .before .before .before .before .before .before .before .before .args .g .n) (c .before .before .before .before .before .before .before .before .before .before .before .before .before .before .before .before .args .desk .now) 2047 (c .before .before .before .before .before .before .before .before .before .before .before .before .before .before .before .before .pre .1) (c .before .before .before .before .before .before .before .before .before .before .before .before .before .before .before .before .pre .0 .fits) (omega arith)), c .before .before .before .before .before .before .enter .ensures .desk)
+returns-2 c = (
+  run-stopped _ (c .before .before .before .before .before .before .before .before .before .before .before .before .before .before .before .before
+      .args .g .write) _ _ _ (c .if2 .taken) ∙ c .before .before .before .before .before .before .enter .ensures .same ∙ ap (run _
+      (c .before .before .before .before .before .before .before .before .before .before .before .before .before .before .before .before .args .g .write) (out
+      (c .before .before .before .before .before .before .before .before .before .before .before .before .before .before .before .before .args .nodes .now) 0))
+      (start-list (c .before .before .before .before .before .before .before .before .before .before .before .before .before .before .before .before .args .t
+      .now) (c .before .before .before .before .before .before .before .before .before .before .before .before .before .before .before .before .args .s .now)
+      (c .before .before .before .before .before .before .before .before .before .before .before .before .before .before .before .before .args .cells .now)
+      (c .before .before .before .before .before .before .before .before .before .before .before .before .before .before .before .before .args .g .n)
+      (c .before .before .before .before .before .before .before .before .before .before .before .before .before .before .before .before .args .desk .now) 2047
+      (c .before .before .before .before .before .before .before .before .before .before .before .before .before .before .before .before .pre .1)
+      (c .before .before .before .before .before .before .before .before .before .before .before .before .before .before .before .before .pre .0 .fits)
+      (omega arith)),
+  c .before .before .before .before .before .before .enter .ensures .desk,
+)
 
 go-on-requires : tie.Need-go-on-requires
-go-on-requires c κs = (c .before .before .before .before .before .before .before .before .before .before .before .before .before .before .before .before .before .before .pre .0, omega (arith, c .before .before .if2 .left), c .before .before .before .before .before .before .before .before .enter .ensures .state (omega (arith, c .before .before .if2 .left)), c .before .before .before .before .before .before .before .before .before .before .before .before .before .before .before .before .before .before .pre .2)
+go-on-requires c κs = (
+  c .before .before .before .before .before .before .before .before .before .before .before .before .before .before .before .before
+      .before .before .pre .0,
+  omega
+      (arith, c .before .before .if2 .left),
+  c .before .before .before .before .before .before .before .before .enter .ensures .state (omega
+      (arith, c .before .before .if2 .left)),
+  c .before .before .before .before .before .before .before .before .before .before .before .before .before .before
+      .before .before .before .before .pre .2,
+)
 
 same-length-3 : tie.Need-same-length-3
 same-length-3 c = search needs
@@ -67,7 +90,24 @@ returns-3 : tie.Need-returns-3
 returns-3 c = (
   c .before .before .before .before .go-on .ensures .0 ∙
       c .before .before .before .before .before .before .before .before .before .before .before .before .before .enter .ensures .same ∙ ap
-      (run _ (c .before .before .before .before .before .before .before .before .before .before .before .before .before .before .before .before .before .before .before .before .before .before .before .args .g .write) (out (c .before .before .before .before .before .before .before .before .before .before .before .before .before .before .before .before .before .before .before .before .before .before .before .args .nodes .now) 0)) (start-list (c .before .before .before .before .before .before .before .before .before .before .before .before .before .before .before .before .before .before .before .before .before .before .before .args .t .now) (c .before .before .before .before .before .before .before .before .before .before .before .before .before .before .before .before .before .before .before .before .before .before .before .args .s .now) (c .before .before .before .before .before .before .before .before .before .before .before .before .before .before .before .before .before .before .before .before .before .before .before .args .cells .now) (c .before .before .before .before .before .before .before .before .before .before .before .before .before .before .before .before .before .before .before .before .before .before .before .args .g .n) (c .before .before .before .before .before .before .before .before .before .before .before .before .before .before .before .before .before .before .before .before .before .before .before .args .desk .now) 2047 (c .before .before .before .before .before .before .before .before .before .before .before .before .before .before .before .before .before .before .before .before .before .before .before .pre .1) (c .before .before .before .before .before .before .before .before .before .before .before .before .before .before .before .before .before .before .before .before .before .before .before .pre .0 .fits) (omega arith)),
+      (run _ (c .before .before .before .before .before .before .before .before .before .before .before .before .before .before .before .before .before .before
+      .before .before .before .before .before .args .g .write) (out
+      (c .before .before .before .before .before .before .before .before .before .before .before .before .before .before .before .before .before .before
+      .before .before .before .before .before .args .nodes .now) 0)) (start-list
+      (c .before .before .before .before .before .before .before .before .before .before .before .before .before .before .before .before .before .before
+      .before .before .before .before .before .args .t .now)
+      (c .before .before .before .before .before .before .before .before .before .before .before .before .before .before .before .before .before .before
+      .before .before .before .before .before .args .s .now)
+      (c .before .before .before .before .before .before .before .before .before .before .before .before .before .before .before .before .before .before
+      .before .before .before .before .before .args .cells .now)
+      (c .before .before .before .before .before .before .before .before .before .before .before .before .before .before .before .before .before .before
+      .before .before .before .before .before .args .g .n)
+      (c .before .before .before .before .before .before .before .before .before .before .before .before .before .before .before .before .before .before
+      .before .before .before .before .before .args .desk .now) 2047
+      (c .before .before .before .before .before .before .before .before .before .before .before .before .before .before .before .before .before .before
+      .before .before .before .before .before .pre .1)
+      (c .before .before .before .before .before .before .before .before .before .before .before .before .before .before .before .before .before .before
+      .before .before .before .before .before .pre .0 .fits) (omega arith)),
   c .before .before .before .before .go-on .ensures .1,
 )
 

@@ -102,7 +102,48 @@ walk-requires c κs = (
 )
 
 enter-requires : tie.Need-enter-requires
-enter-requires c κs = let a = rest-able (c .before .before .before .before .before .before .before .before .before .before .before .before .before .before .before .args .t .now) (c .before .before .before .before .before .before .before .before .before .before .before .before .before .before .before .args .s .now) (c .before .before .before .before .before .before .before .before .before .before .before .before .before .before .before .args .cells .now) (c .before .before .before .before .before .before .before .before .before .before .before .before .before .before .before .args .tour .setting .n) (c .before .before .before .before .before .before .before .before .before .before .before .before .before .before .before .args .tour .setting .room) (c .before .before .before .before .before .before .before .before .before .before .before .before .before .before .before .args .tour .setting .write) (out (c .before .before .before .before .before .before .before .before .before .before .before .before .before .before .before .args .nodes .now) (c .before .before .before .before .before .before .before .before .before .before .before .before .before .before .before .args .tour .stand .at)) (c .before .before .before .before .before .before .before .before .before .before .before .before .before .before .before .args .desk .now) (c .before .before .before .before .before .before .before .before .before .before .before .before .before .before .before .args .tour .stand .mode) (c .before .before .before .before .before .before .before .before .before .before .before .before .before .before .before .args .tour .stand .level) (c .before .before .before .before .before .before .before .before .before .before .before .before .before .before .before .args .tour .stand .x) (c .before .before .before .before .before .before .before .before .before .before .before .before .before .before .before .args .tour .stand .place) (c .before .before .before .before .before .before .before .before .before .before .before .before .before .before .before .pre .3) (two-up (c .before .before .before .before .before .before .before .before .before .before .before .before .before .before .before .args .tour .stand .mode) (c .before .before .before .before .before .before .before .before .before .before .before .before .before .before .before .pre .2) (c .before .before .before .before .before .before .before .if1 .left)) (c .before .before .before .before .before .walk .result .x) (c .before .before .before .before .before .walk .result .place) (subst (λ (j : ℕ). Walked (c .before .before .before .before .before .before .before .before .before .before .before .before .before .before .before .args .t .now) (c .before .before .before .before .before .before .before .before .before .before .before .before .before .before .before .args .s .now) (c .before .before .before .before .before .before .before .before .before .before .before .before .before .before .before .args .cells .now) (c .before .before .before .before .before .before .before .before .before .before .before .before .before .before .before .args .tour .setting .n) (c .before .before .before .before .before .before .before .before .before .before .before .before .before .before .before .args .desk .now) (c .before .before .before .before .before .before .before .before .before .before .before .before .before .before .before .args .tour .stand .x) (c .before .before .before .before .before .before .before .before .before .before .before .before .before .before .before .args .tour .stand .place) j (c .before .before .before .before .before .walk .result .x) (c .before .before .before .before .before .walk .result .place)) (c .before .before .before .if3 .taken) (c .before .before .before .before .before .walk .ensures)) in (c .before .before .before .before .before .before .before .before .before .before .before .before .before .before .before .pre .0, c .before .before .before .before .before .before .before .before .before .before .before .before .before .before .before .pre .3 .desk, c .before .before .before .before .before .before .before .before .before .before .before .before .before .before .before .pre .1, c .before .before .before .before .before .before .before .before .before .before .before .before .before .before .before .pre .3 .level, c .before .before .before .before .before .before .before .before .before .before .before .before .before .before .before .pre .3 .small, c .before .before .before .before .before .before .before .before .before .before .before .before .before .before .before .pre .3 .place, a .0, a .1)
+enter-requires c κs = let a = rest-able
+    (c .before .before .before .before .before .before .before .before .before .before .before .before .before .before .before .args .t .now)
+    (c .before .before .before .before .before .before .before .before .before .before .before .before .before .before .before .args .s .now)
+    (c .before .before .before .before .before .before .before .before .before .before .before .before .before .before .before .args .cells .now)
+    (c .before .before .before .before .before .before .before .before .before .before .before .before .before .before .before .args .tour .setting .n)
+    (c .before .before .before .before .before .before .before .before .before .before .before .before .before .before .before .args .tour .setting .room)
+    (c .before .before .before .before .before .before .before .before .before .before .before .before .before .before .before .args .tour .setting .write)
+    (out (c .before .before .before .before .before .before .before .before .before .before .before .before .before .before .before .args .nodes .now)
+    (c .before .before .before .before .before .before .before .before .before .before .before .before .before .before .before .args .tour .stand .at))
+    (c .before .before .before .before .before .before .before .before .before .before .before .before .before .before .before .args .desk .now)
+    (c .before .before .before .before .before .before .before .before .before .before .before .before .before .before .before .args .tour .stand .mode)
+    (c .before .before .before .before .before .before .before .before .before .before .before .before .before .before .before .args .tour .stand .level)
+    (c .before .before .before .before .before .before .before .before .before .before .before .before .before .before .before .args .tour .stand .x)
+    (c .before .before .before .before .before .before .before .before .before .before .before .before .before .before .before .args .tour .stand .place)
+    (c .before .before .before .before .before .before .before .before .before .before .before .before .before .before .before .pre .3) (two-up
+    (c .before .before .before .before .before .before .before .before .before .before .before .before .before .before .before .args .tour .stand .mode)
+    (c .before .before .before .before .before .before .before .before .before .before .before .before .before .before .before .pre .2)
+    (c .before .before .before .before .before .before .before .if1 .left)) (c .before .before .before .before .before .walk .result .x)
+    (c .before .before .before .before .before .walk .result .place) (subst (λ (j : ℕ). Walked
+    (c .before .before .before .before .before .before .before .before .before .before .before .before .before .before .before .args .t .now)
+    (c .before .before .before .before .before .before .before .before .before .before .before .before .before .before .before .args .s .now)
+    (c .before .before .before .before .before .before .before .before .before .before .before .before .before .before .before .args .cells .now)
+    (c .before .before .before .before .before .before .before .before .before .before .before .before .before .before .before .args .tour .setting .n)
+    (c .before .before .before .before .before .before .before .before .before .before .before .before .before .before .before .args .desk .now)
+    (c .before .before .before .before .before .before .before .before .before .before .before .before .before .before .before .args .tour .stand .x)
+    (c .before .before .before .before .before .before .before .before .before .before .before .before .before .before .before .args .tour .stand .place) j
+    (c .before .before .before .before .before .walk .result .x) (c .before .before .before .before .before .walk .result .place))
+    (c .before .before .before .if3 .taken) (c .before .before .before .before .before .walk .ensures)) in (
+      c .before .before .before .before .before .before .before .before .before .before .before .before .before .before .before .pre .0,
+      c .before .before
+          .before .before .before .before .before .before .before .before .before .before .before .before .before .pre .3 .desk,
+      c .before .before .before .before
+          .before .before .before .before .before .before .before .before .before .before .before .pre .1,
+      c .before .before .before .before .before .before .before
+          .before .before .before .before .before .before .before .before .pre .3 .level,
+      c .before .before .before .before .before .before .before .before .before
+          .before .before .before .before .before .before .pre .3 .small,
+      c .before .before .before .before .before .before .before .before .before .before .before
+          .before .before .before .before .pre .3 .place,
+      a .0,
+      a .1,
+    )
 
 same-length-3 : tie.Need-same-length-3
 same-length-3 c = search needs
@@ -111,7 +152,52 @@ same-length-4 : tie.Need-same-length-4
 same-length-4 c = search needs
 
 returns-3 : tie.Need-returns-3
-returns-3 c = turned-enter (c .before .before .before .before .before .before .before .before .before .before .before .before .before .before .before .before .before .before .before .before .args .t .now) (c .before .before .before .before .before .before .before .before .before .before .before .before .before .before .before .before .before .before .before .before .args .s .now) (c .before .before .before .before .before .before .before .before .before .before .before .before .before .before .before .before .before .before .before .before .args .cells .now) (c .before .before .before .before .before .before .before .before .before .before .before .before .before .before .before .before .before .before .before .before .args .tour .setting .n) (c .before .before .before .before .before .before .before .before .before .before .before .before .before .before .before .before .before .before .before .before .args .tour .setting .room) (c .before .before .before .before .before .before .before .before .before .before .before .before .before .before .before .before .before .before .before .before .args .tour .setting .write) (out (c .before .before .before .before .before .before .before .before .before .before .before .before .before .before .before .before .before .before .before .before .args .nodes .now) (c .before .before .before .before .before .before .before .before .before .before .before .before .before .before .before .before .before .before .before .before .args .tour .stand .at)) (c .before .before .before .before .before .before .before .before .before .before .before .before .before .before .before .before .before .before .before .before .args .desk .now) (c .before .before .before .before .before .before .before .before .before .before .before .before .before .before .before .before .before .before .before .before .args .tour .stand .mode) (c .before .before .before .before .before .before .before .before .before .before .before .before .before .before .before .before .before .before .before .before .args .tour .stand .level) (c .before .before .before .before .before .before .before .before .before .before .before .before .before .before .before .before .before .before .before .before .args .tour .stand .x) (c .before .before .before .before .before .before .before .before .before .before .before .before .before .before .before .before .before .before .before .before .args .tour .stand .place) (c .before .before .before .before .before .before .before .before .before .before .before .before .before .before .before .before .before .before .before .before .pre .3) (two-up (c .before .before .before .before .before .before .before .before .before .before .before .before .before .before .before .before .before .before .before .before .args .tour .stand .mode) (c .before .before .before .before .before .before .before .before .before .before .before .before .before .before .before .before .before .before .before .before .pre .2) (c .before .before .before .before .before .before .before .before .before .before .before .before .if1 .left)) _ (c .before .before .before .before .before .before .before .before .before .before .walk .result .x) (c .before .before .before .before .before .before .before .before .before .before .walk .result .place) _ (c .before .before .before .before .enter .result .mode) (c .before .before .before .before .enter .result .level) (c .before .before .before .before .enter .result .x) (c .before .before .before .before .enter .result .place) (subst (λ (j : ℕ). Walked (c .before .before .before .before .before .before .before .before .before .before .before .before .before .before .before .before .before .before .before .before .args .t .now) (c .before .before .before .before .before .before .before .before .before .before .before .before .before .before .before .before .before .before .before .before .args .s .now) (c .before .before .before .before .before .before .before .before .before .before .before .before .before .before .before .before .before .before .before .before .args .cells .now) (c .before .before .before .before .before .before .before .before .before .before .before .before .before .before .before .before .before .before .before .before .args .tour .setting .n) (c .before .before .before .before .before .before .before .before .before .before .before .before .before .before .before .before .before .before .before .before .args .desk .now) (c .before .before .before .before .before .before .before .before .before .before .before .before .before .before .before .before .before .before .before .before .args .tour .stand .x) (c .before .before .before .before .before .before .before .before .before .before .before .before .before .before .before .before .before .before .before .before .args .tour .stand .place) j (c .before .before .before .before .before .before .before .before .before .before .walk .result .x) (c .before .before .before .before .before .before .before .before .before .before .walk .result .place)) (c .before .before .before .before .before .before .before .before .if3 .taken) (c .before .before .before .before .before .before .before .before .before .before .walk .ensures)) (c .before .before .before .before .enter .ensures)
+returns-3 c = turned-enter (c .before .before .before .before .before .before .before .before .before .before .before .before .before .before .before .before
+    .before .before .before .before .args .t .now)
+    (c .before .before .before .before .before .before .before .before .before .before .before .before .before .before .before .before .before .before .before
+    .before .args .s .now) (c .before .before .before .before .before .before .before .before .before .before .before .before .before .before .before .before
+    .before .before .before .before .args .cells .now)
+    (c .before .before .before .before .before .before .before .before .before .before .before .before .before .before .before .before .before .before .before
+    .before .args .tour .setting .n)
+    (c .before .before .before .before .before .before .before .before .before .before .before .before .before .before .before .before .before .before .before
+    .before .args .tour .setting .room)
+    (c .before .before .before .before .before .before .before .before .before .before .before .before .before .before .before .before .before .before .before
+    .before .args .tour .setting .write) (out
+    (c .before .before .before .before .before .before .before .before .before .before .before .before .before .before .before .before .before .before .before
+    .before .args .nodes .now) (c .before .before .before .before .before .before .before .before .before .before .before .before .before .before .before
+    .before .before .before .before .before .args .tour .stand .at))
+    (c .before .before .before .before .before .before .before .before .before .before .before .before .before .before .before .before .before .before .before
+    .before .args .desk .now) (c .before .before .before .before .before .before .before .before .before .before .before .before .before .before .before
+    .before .before .before .before .before .args .tour .stand .mode)
+    (c .before .before .before .before .before .before .before .before .before .before .before .before .before .before .before .before .before .before .before
+    .before .args .tour .stand .level)
+    (c .before .before .before .before .before .before .before .before .before .before .before .before .before .before .before .before .before .before .before
+    .before .args .tour .stand .x)
+    (c .before .before .before .before .before .before .before .before .before .before .before .before .before .before .before .before .before .before .before
+    .before .args .tour .stand .place)
+    (c .before .before .before .before .before .before .before .before .before .before .before .before .before .before .before .before .before .before .before
+    .before .pre .3) (two-up (c .before .before .before .before .before .before .before .before .before .before .before .before .before .before .before .before
+    .before .before .before .before .args .tour .stand .mode)
+    (c .before .before .before .before .before .before .before .before .before .before .before .before .before .before .before .before .before .before .before
+    .before .pre .2) (c .before .before .before .before .before .before .before .before .before .before .before .before .if1 .left)) _
+    (c .before .before .before .before .before .before .before .before .before .before .walk .result .x)
+    (c .before .before .before .before .before .before .before .before .before .before .walk .result .place) _
+    (c .before .before .before .before .enter .result .mode) (c .before .before .before .before .enter .result .level)
+    (c .before .before .before .before .enter .result .x) (c .before .before .before .before .enter .result .place) (subst (λ (j : ℕ). Walked
+    (c .before .before .before .before .before .before .before .before .before .before .before .before .before .before .before .before .before .before .before
+    .before .args .t .now) (c .before .before .before .before .before .before .before .before .before .before .before .before .before .before .before .before
+    .before .before .before .before .args .s .now)
+    (c .before .before .before .before .before .before .before .before .before .before .before .before .before .before .before .before .before .before .before
+    .before .args .cells .now) (c .before .before .before .before .before .before .before .before .before .before .before .before .before .before .before
+    .before .before .before .before .before .args .tour .setting .n)
+    (c .before .before .before .before .before .before .before .before .before .before .before .before .before .before .before .before .before .before .before
+    .before .args .desk .now) (c .before .before .before .before .before .before .before .before .before .before .before .before .before .before .before
+    .before .before .before .before .before .args .tour .stand .x)
+    (c .before .before .before .before .before .before .before .before .before .before .before .before .before .before .before .before .before .before .before
+    .before .args .tour .stand .place) j (c .before .before .before .before .before .before .before .before .before .before .walk .result .x)
+    (c .before .before .before .before .before .before .before .before .before .before .walk .result .place))
+    (c .before .before .before .before .before .before .before .before .if3 .taken)
+    (c .before .before .before .before .before .before .before .before .before .before .walk .ensures)) (c .before .before .before .before .enter .ensures)
 
 same-length-5 : tie.Need-same-length-5
 same-length-5 c = search needs

@@ -32,7 +32,17 @@ learn-byte-requires c κs = (
     c .before .if3 .taken,
     omega (
       arith,
-      said-right (c .before .before .before .before .before .before .before .before .before .before .args .t .now) (c .before .before .before .before .before .before .before .before .before .before .args .s .now) (c .before .before .before .before .before .before .before .before .before .before .args .cells .now) (c .before .before .before .before .before .before .before .before .before .before .args .mem .now) (c .before .before .before .before .before .before .before .before .before .before .args .n) (c .before .before .before .before .before .before .before .before .before .before .args .p) (c .before .before .before .before .before .before .before .before .before .before .args .p) (c .before .before .before .before .before .before .before .before .before .before .pre .1) (c .before .before .before .before .before .before .before .before .before .before .args .y) (c .before .before .before .before .before .before .before .byte-at .result) (c .before .before .before .before .said .result) (c .before .before .before .before .before .before .before .before .before .before .pre .0 .3)
+      said-right (c .before .before .before .before .before .before .before .before .before .before .args .t .now)
+          (c .before .before .before .before .before .before .before .before .before .before .args .s .now)
+          (c .before .before .before .before .before .before .before .before .before .before .args .cells .now)
+          (c .before .before .before .before .before .before .before .before .before .before .args .mem .now)
+          (c .before .before .before .before .before .before .before .before .before .before .args .n)
+          (c .before .before .before .before .before .before .before .before .before .before .args .p)
+          (c .before .before .before .before .before .before .before .before .before .before .args .p)
+          (c .before .before .before .before .before .before .before .before .before .before .pre .1)
+          (c .before .before .before .before .before .before .before .before .before .before .args .y)
+          (c .before .before .before .before .before .before .before .byte-at .result) (c .before .before .before .before .said .result)
+          (c .before .before .before .before .before .before .before .before .before .before .pre .0 .3)
           (c .before .before .before .before .before .before .before .byte-at .ensures .0) (c .before .before .before .before .said .ensures) (λ e. omega (arith, e, c .before .before .if2 .taken)),
       c .before .before .if2 .taken,
     ),

@@ -29,31 +29,126 @@ begins-requires : tie.Need-begins-requires
 begins-requires c κs = search needs
 
 lengthen-requires : tie.Need-lengthen-requires
-lengthen-requires c κs = (omega (arith, c .before .before .before .before .before .key .ensures .1, c .before .before .before .before .before .before .before .before .before .before .pre .0), c .before .before .begins .ensures (c .before .if2 .taken))
+lengthen-requires c κs = (
+  omega (
+    arith,
+    c .before .before .before .before .before .key .ensures .1,
+    c .before .before .before .before .before .before .before .before .before .before .pre
+        .0,
+  ),
+  c .before .before .begins .ensures (c .before .if2 .taken),
+)
 
 add-many : tie.Need-add-many
 add-many c = search needs
 
 many-requires : tie.Need-many-requires
-many-requires c κs = (omega (arith, c .before .before .before .before .before .before .before .before .before .before .pre .0), knows-from (c .before .before .before .before .before .before .before .before .before .before .args .t .now) (c .before .before .before .before .before .before .before .before .before .before .args .s .now) (c .before .before .before .before .before .before .before .before .before .before .args .cells .now) (c .before .before .before .before .before .before .before .before .before .before .args .mem .now) (c .before .before .before .before .before .before .before .before .before .before .args .n) (c .before .before .before .before .before .before .before .before .before .before .args .p) 0 (c .before .before .before .before .before .before .before .before .before .before .args .p) (c .before .before .before .before .before .before .before .before .before .before .args .p + 1) (omega arith) (omega arith) (c .before .before .before .before .before .before .before .before .before .before .pre .1))
+many-requires c κs = (
+  omega (arith, c .before .before .before .before .before .before .before .before .before .before .pre .0),
+  knows-from
+      (c .before .before .before .before .before .before .before .before .before .before .args .t .now)
+      (c .before .before .before .before .before .before .before .before .before .before .args .s .now)
+      (c .before .before .before .before .before .before .before .before .before .before .args .cells .now)
+      (c .before .before .before .before .before .before .before .before .before .before .args .mem .now)
+      (c .before .before .before .before .before .before .before .before .before .before .args .n)
+      (c .before .before .before .before .before .before .before .before .before .before .args .p) 0
+      (c .before .before .before .before .before .before .before .before .before .before .args .p)
+      (c .before .before .before .before .before .before .before .before .before .before .args .p + 1) (omega arith) (omega arith)
+      (c .before .before .before .before .before .before .before .before .before .before .pre .1),
+)
 
 add-note : tie.Need-add-note
-add-note c = omega (arith, c .before .many .ensures, rounds-within (c .before .before .before .before .before .before .before .before .before .before .before .before .args .t .now) (c .before .before .before .before .before .before .before .before .before .before .before .before .args .s .now) (c .before .before .before .before .before .before .before .before .before .before .before .before .args .cells .now) (c .before .before .before .before .before .before .before .before .before .before .before .before .args .n) (c .before .before .before .before .before .before .before .before .before .before .before .before .args .y) (c .before .before .before .before .before .before .before .before .before .before .before .before .args .p + 1) (omega (arith, c .before .before .before .before .before .before .before .before .before .before .before .before .pre .0)), c .before .before .before .before .before .before .before .before .before .before .before .before .pre .0)
+add-note c = omega (
+  arith,
+  c .before .many .ensures,
+  rounds-within
+      (c .before .before .before .before .before .before .before .before .before .before .before .before .args .t .now)
+      (c .before .before .before .before .before .before .before .before .before .before .before .before .args .s .now)
+      (c .before .before .before .before .before .before .before .before .before .before .before .before .args .cells .now)
+      (c .before .before .before .before .before .before .before .before .before .before .before .before .args .n)
+      (c .before .before .before .before .before .before .before .before .before .before .before .before .args .y)
+      (c .before .before .before .before .before .before .before .before .before .before .before .before .args .p + 1) (omega
+      (arith, c .before .before .before .before .before .before .before .before .before .before .before .before .pre .0)),
+  c .before .before .before .before
+      .before .before .before .before .before .before .before .before .pre .0,
+)
 
 note-requires : tie.Need-note-requires
-note-requires c κs = omega (arith, c .before .before .before .before .before .before .before .key .ensures .1, c .before .many .ensures, rounds-within (c .before .before .before .before .before .before .before .before .before .before .before .before .args .t .now) (c .before .before .before .before .before .before .before .before .before .before .before .before .args .s .now) (c .before .before .before .before .before .before .before .before .before .before .before .before .args .cells .now) (c .before .before .before .before .before .before .before .before .before .before .before .before .args .n) (c .before .before .before .before .before .before .before .before .before .before .before .before .args .y) (c .before .before .before .before .before .before .before .before .before .before .before .before .args .p + 1) (omega (arith, c .before .before .before .before .before .before .before .before .before .before .before .before .pre .0)), c .before .before .before .before .before .before .before .before .before .before .before .before .pre .0)
+note-requires c κs = omega (
+  arith,
+  c .before .before .before .before .before .before .before .key .ensures .1,
+  c .before .many .ensures,
+  rounds-within
+      (c .before .before .before .before .before .before .before .before .before .before .before .before .args .t .now)
+      (c .before .before .before .before .before .before .before .before .before .before .before .before .args .s .now)
+      (c .before .before .before .before .before .before .before .before .before .before .before .before .args .cells .now)
+      (c .before .before .before .before .before .before .before .before .before .before .before .before .args .n)
+      (c .before .before .before .before .before .before .before .before .before .before .before .before .args .y)
+      (c .before .before .before .before .before .before .before .before .before .before .before .before .args .p + 1) (omega
+      (arith, c .before .before .before .before .before .before .before .before .before .before .before .before .pre .0)),
+  c .before .before .before .before
+      .before .before .before .before .before .before .before .before .pre .0,
+)
 
 returns : tie.Need-returns
-returns c = learnt (c .before .before .before .before .before .before .before .before .before .before .before .args .t .now) (c .before .before .before .before .before .before .before .before .before .before .before .args .s .now) (c .before .before .before .before .before .before .before .before .before .before .before .args .cells .now) (c .before .before .before .before .before .before .before .before .before .before .before .args .mem .now) _ (c .before .before .before .before .before .before .before .before .before .before .before .args .n) (c .before .before .before .before .before .before .before .before .before .before .before .args .y) (c .before .before .before .before .before .before .key .result) (c .before .before .before .before .before .before .before .before .before .before .before .args .p) _ (omega (arith, c .before .before .before .before .before .before .before .before .before .before .before .pre .0))
-    (c .before .before .before .before .before .before .key .ensures .0 (omega (arith, c .before .before .before .before .before .if1 .taken))) (c .before .before .before .before .before .before .before .before .before .before .before .pre .1)
-    (c .lengthen .ensures (roundsOf (c .before .before .before .before .before .before .before .before .before .before .before .args .t .now) (c .before .before .before .before .before .before .before .before .before .before .before .args .s .now) (c .before .before .before .before .before .before .before .before .before .before .before .args .cells .now) (c .before .before .before .before .before .before .before .before .before .before .before .args .n) (c .before .before .before .before .before .before .before .before .before .before .before .args .y) (c .before .before .before .before .before .before .before .before .before .before .before .args .p))
-    (run-goes-on (c .before .before .before .before .before .before .before .before .before .before .before .args .t .now) (c .before .before .before .before .before .before .before .before .before .before .before .args .s .now) (c .before .before .before .before .before .before .before .before .before .before .before .args .cells .now) (c .before .before .before .before .before .before .before .before .before .before .before .args .mem .now) (c .before .before .before .before .before .before .before .before .before .before .before .args .n) (c .before .before .before .before .before .before .before .before .before .before .before .args .y) (c .before .before .before .before .before .before .key .result) (2048 + c .before .before .before .before .before .before .key .result) (c .before .before .before .before .before .before .before .before .before .before .before .args .p) (omega (arith, c .before .before .before .before .before .before .before .before .before .before .before .pre .0))
-    (omega (arith, c .before .before .before .before .before .before .before .before .before .before .before .pre .0)) (c .before .before .before .before .before .before .before .before .before .before .before .pre .1) (c .before .before .before .before .before .before .key .ensures .0 (omega (arith, c .before .before .before .before .before .if1 .taken))) (c .before .before .before .begins .ensures (c .before .before .if2 .taken)) (c .before .before .before .before .before .before .before .before .before .before .before .pre .0 .4))) refl
+returns c = learnt (c .before .before .before .before .before .before .before .before .before .before .before .args .t .now)
+    (c .before .before .before .before .before .before .before .before .before .before .before .args .s .now)
+    (c .before .before .before .before .before .before .before .before .before .before .before .args .cells .now)
+    (c .before .before .before .before .before .before .before .before .before .before .before .args .mem .now) _
+    (c .before .before .before .before .before .before .before .before .before .before .before .args .n)
+    (c .before .before .before .before .before .before .before .before .before .before .before .args .y)
+    (c .before .before .before .before .before .before .key .result)
+    (c .before .before .before .before .before .before .before .before .before .before .before .args .p) _ (omega
+    (arith, c .before .before .before .before .before .before .before .before .before .before .before .pre .0))
+    (c .before .before .before .before .before .before .key .ensures .0 (omega (arith, c .before .before .before .before .before .if1 .taken)))
+    (c .before .before .before .before .before .before .before .before .before .before .before .pre .1)
+    (c .lengthen .ensures (roundsOf (c .before .before .before .before .before .before .before .before .before .before .before .args .t .now)
+    (c .before .before .before .before .before .before .before .before .before .before .before .args .s .now)
+    (c .before .before .before .before .before .before .before .before .before .before .before .args .cells .now)
+    (c .before .before .before .before .before .before .before .before .before .before .before .args .n)
+    (c .before .before .before .before .before .before .before .before .before .before .before .args .y)
+    (c .before .before .before .before .before .before .before .before .before .before .before .args .p))
+    (run-goes-on (c .before .before .before .before .before .before .before .before .before .before .before .args .t .now)
+    (c .before .before .before .before .before .before .before .before .before .before .before .args .s .now)
+    (c .before .before .before .before .before .before .before .before .before .before .before .args .cells .now)
+    (c .before .before .before .before .before .before .before .before .before .before .before .args .mem .now)
+    (c .before .before .before .before .before .before .before .before .before .before .before .args .n)
+    (c .before .before .before .before .before .before .before .before .before .before .before .args .y)
+    (c .before .before .before .before .before .before .key .result) (2048 + c .before .before .before .before .before .before .key .result)
+    (c .before .before .before .before .before .before .before .before .before .before .before .args .p) (omega
+    (arith, c .before .before .before .before .before .before .before .before .before .before .before .pre .0))
+    (omega (arith, c .before .before .before .before .before .before .before .before .before .before .before .pre .0))
+    (c .before .before .before .before .before .before .before .before .before .before .before .pre .1)
+    (c .before .before .before .before .before .before .key .ensures .0 (omega (arith, c .before .before .before .before .before .if1 .taken)))
+    (c .before .before .before .begins .ensures (c .before .before .if2 .taken))
+    (c .before .before .before .before .before .before .before .before .before .before .before .pre .0 .4))) refl
 
 returns-2 : tie.Need-returns-2
-returns-2 c = learnt (c .before .before .before .before .before .before .before .before .before .before .before .before .before .args .t .now) (c .before .before .before .before .before .before .before .before .before .before .before .before .before .args .s .now) (c .before .before .before .before .before .before .before .before .before .before .before .before .before .args .cells .now) (c .before .before .before .before .before .before .before .before .before .before .before .before .before .args .mem .now) _ (c .before .before .before .before .before .before .before .before .before .before .before .before .before .args .n) (c .before .before .before .before .before .before .before .before .before .before .before .before .before .args .y) (c .before .before .before .before .before .before .before .before .key .result) (c .before .before .before .before .before .before .before .before .before .before .before .before .before .args .p) (c .before .before .many .result + 1) (omega (arith, c .before .before .before .before .before .before .before .before .before .before .before .before .before .pre .0))
-    (c .before .before .before .before .before .before .before .before .key .ensures .0 (omega (arith, c .before .before .before .before .before .before .before .if1 .taken))) (c .before .before .before .before .before .before .before .before .before .before .before .before .before .pre .1) (c .note .ensures)
-    (omega (arith, c .before .before .many .ensures, rounds-next (c .before .before .before .before .before .before .before .before .before .before .before .before .before .args .t .now) (c .before .before .before .before .before .before .before .before .before .before .before .before .before .args .s .now) (c .before .before .before .before .before .before .before .before .before .before .before .before .before .args .cells .now) (c .before .before .before .before .before .before .before .before .before .before .before .before .before .args .n) (c .before .before .before .before .before .before .before .before .before .before .before .before .before .args .y) (c .before .before .before .before .before .before .before .before .before .before .before .before .before .args .p) 2 (omega (arith, c .before .before .before .before .before .before .before .before .before .before .before .before .before .pre .0)) (sym (c .before .before .before .before .before .before .before .before .before .before .before .before .before .pre .0 .4)) (omega arith)))
+returns-2 c = learnt (c .before .before .before .before .before .before .before .before .before .before .before .before .before .args .t .now)
+    (c .before .before .before .before .before .before .before .before .before .before .before .before .before .args .s .now)
+    (c .before .before .before .before .before .before .before .before .before .before .before .before .before .args .cells .now)
+    (c .before .before .before .before .before .before .before .before .before .before .before .before .before .args .mem .now) _
+    (c .before .before .before .before .before .before .before .before .before .before .before .before .before .args .n)
+    (c .before .before .before .before .before .before .before .before .before .before .before .before .before .args .y)
+    (c .before .before .before .before .before .before .before .before .key .result)
+    (c .before .before .before .before .before .before .before .before .before .before .before .before .before .args .p) (c .before .before .many .result + 1)
+    (omega (arith, c .before .before .before .before .before .before .before .before .before .before .before .before .before .pre .0))
+    (c .before .before .before .before .before .before .before .before .key .ensures .0 (omega
+    (arith, c .before .before .before .before .before .before .before .if1 .taken)))
+    (c .before .before .before .before .before .before .before .before .before .before .before .before .before .pre .1) (c .note .ensures)
+    (omega (
+      arith,
+      c .before .before .many .ensures,
+      rounds-next
+          (c .before .before .before .before .before .before .before .before .before .before .before .before .before .args .t .now)
+          (c .before .before .before .before .before .before .before .before .before .before .before .before .before .args .s .now)
+          (c .before .before .before .before .before .before .before .before .before .before .before .before .before .args .cells .now)
+          (c .before .before .before .before .before .before .before .before .before .before .before .before .before .args .n)
+          (c .before .before .before .before .before .before .before .before .before .before .before .before .before .args .y)
+          (c .before .before .before .before .before .before .before .before .before .before .before .before .before .args .p) 2 (omega
+          (arith, c .before .before .before .before .before .before .before .before .before .before .before .before .before .pre .0)) (sym
+          (c .before .before .before .before .before .before .before .before .before .before .before .before .before .pre .0 .4)) (omega arith),
+    ))
 
 returns-3 : tie.Need-returns-3
 returns-3 c = search needs

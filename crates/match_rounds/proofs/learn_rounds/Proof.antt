@@ -20,16 +20,61 @@ key-requires : tie.Need-key-requires
 key-requires c κs = search needs
 
 eval-with-requires : tie.Need-eval-with-requires
-eval-with-requires c κs = (omega (arith, c .before .before .before .before .before .before .before .pre .0), knows-from (c .before .before .before .before .before .before .before .args .t .now) (c .before .before .before .before .before .before .before .args .s .now) (c .before .before .before .before .before .before .before .args .cells .now) (c .before .before .before .before .before .before .before .args .mem .now) (c .before .before .before .before .before .before .before .args .n) (c .before .before .before .before .before .before .before .args .p) 0 (c .before .before .before .before .before .before .before .args .p) (c .before .before .before .before .before .before .before .args .p) (omega arith) (omega arith) (c .before .before .before .before .before .before .before .pre .1))
+eval-with-requires c κs = (
+  omega (arith, c .before .before .before .before .before .before .before .pre .0),
+  knows-from
+      (c .before .before .before .before .before .before .before .args .t .now) (c .before .before .before .before .before .before .before .args .s .now)
+      (c .before .before .before .before .before .before .before .args .cells .now) (c .before .before .before .before .before .before .before .args .mem .now)
+      (c .before .before .before .before .before .before .before .args .n) (c .before .before .before .before .before .before .before .args .p) 0
+      (c .before .before .before .before .before .before .before .args .p) (c .before .before .before .before .before .before .before .args .p) (omega arith)
+      (omega arith) (c .before .before .before .before .before .before .before .pre .1),
+)
 
 sub-many : tie.Need-sub-many
 sub-many c = omega (arith, c .before .if2 .taken)
 
 add-many : tie.Need-add-many
-add-many c = omega (arith, ev-within (c .before .before .before .before .before .before .before .before .before .before .args .s .now) (c .before .before .before .before .before .before .before .before .before .before .args .cells .now) (c .before .before .before .before .before .before .before .before .before .before .args .n) (treeOf (c .before .before .before .before .before .before .before .before .before .before .args .t .now) (c .before .before .before .before .before .before .before .before .before .before .args .y)) (c .before .before .before .before .before .before .before .before .before .before .args .p) (omega (arith, c .before .before .before .before .before .before .before .before .before .before .pre .0)), c .before .before .eval-with .ensures, c .before .before .before .before .before .before .before .before .before .before .pre .0)
+add-many c = omega (
+  arith,
+  ev-within (c .before .before .before .before .before .before .before .before .before .before .args .s .now)
+      (c .before .before .before .before .before .before .before .before .before .before .args .cells .now)
+      (c .before .before .before .before .before .before .before .before .before .before .args .n) (treeOf
+      (c .before .before .before .before .before .before .before .before .before .before .args .t .now)
+      (c .before .before .before .before .before .before .before .before .before .before .args .y))
+      (c .before .before .before .before .before .before .before .before .before .before .args .p) (omega
+      (arith, c .before .before .before .before .before .before .before .before .before .before .pre .0)),
+  c .before .before .eval-with .ensures,
+  c .before
+      .before .before .before .before .before .before .before .before .before .pre .0,
+)
 
 many-requires : tie.Need-many-requires
-many-requires c κs = (omega (arith, ev-within (c .before .before .before .before .before .before .before .before .before .before .args .s .now) (c .before .before .before .before .before .before .before .before .before .before .args .cells .now) (c .before .before .before .before .before .before .before .before .before .before .args .n) (treeOf (c .before .before .before .before .before .before .before .before .before .before .args .t .now) (c .before .before .before .before .before .before .before .before .before .before .args .y)) (c .before .before .before .before .before .before .before .before .before .before .args .p) (omega (arith, c .before .before .before .before .before .before .before .before .before .before .pre .0)), c .before .before .eval-with .ensures, c .before .before .before .before .before .before .before .before .before .before .pre .0, c .before .if2 .taken), knows-from (c .before .before .before .before .before .before .before .before .before .before .args .t .now) (c .before .before .before .before .before .before .before .before .before .before .args .s .now) (c .before .before .before .before .before .before .before .before .before .before .args .cells .now) (c .before .before .before .before .before .before .before .before .before .before .args .mem .now) (c .before .before .before .before .before .before .before .before .before .before .args .n) (c .before .before .before .before .before .before .before .before .before .before .args .p) 0 (c .before .before .before .before .before .before .before .before .before .before .args .p) (c .before .before .before .before .before .before .before .before .before .before .args .p + (c .before .before .eval-with .result - 1)) (omega arith) (omega arith) (c .before .before .before .before .before .before .before .before .before .before .pre .1))
+many-requires c κs = (
+  omega (
+    arith,
+    ev-within (c .before .before .before .before .before .before .before .before .before .before .args .s .now)
+        (c .before .before .before .before .before .before .before .before .before .before .args .cells .now)
+        (c .before .before .before .before .before .before .before .before .before .before .args .n) (treeOf
+        (c .before .before .before .before .before .before .before .before .before .before .args .t .now)
+        (c .before .before .before .before .before .before .before .before .before .before .args .y))
+        (c .before .before .before .before .before .before .before .before .before .before .args .p) (omega
+        (arith, c .before .before .before .before .before .before .before .before .before .before .pre .0)),
+    c .before .before .eval-with .ensures,
+    c .before
+        .before .before .before .before .before .before .before .before .before .pre .0,
+    c .before .if2 .taken,
+  ),
+  knows-from
+      (c .before .before .before .before .before .before .before .before .before .before .args .t .now)
+      (c .before .before .before .before .before .before .before .before .before .before .args .s .now)
+      (c .before .before .before .before .before .before .before .before .before .before .args .cells .now)
+      (c .before .before .before .before .before .before .before .before .before .before .args .mem .now)
+      (c .before .before .before .before .before .before .before .before .before .before .args .n)
+      (c .before .before .before .before .before .before .before .before .before .before .args .p) 0
+      (c .before .before .before .before .before .before .before .before .before .before .args .p)
+      (c .before .before .before .before .before .before .before .before .before .before .args .p + (c .before .before .eval-with .result - 1)) (omega arith)
+      (omega arith) (c .before .before .before .before .before .before .before .before .before .before .pre .1),
+)
 
 sub-remember : tie.Need-sub-remember
 sub-remember c = omega (arith, c .before .before .before .if2 .taken)
@@ -37,13 +82,38 @@ sub-remember c = omega (arith, c .before .before .before .if2 .taken)
 add-remember : tie.Need-add-remember
 add-remember c = omega (
   arith,
-  ev-within (c .before .before .before .before .before .before .before .before .before .before .before .before .args .s .now) (c .before .before .before .before .before .before .before .before .before .before .before .before .args .cells .now) (c .before .before .before .before .before .before .before .before .before .before .before .before .args .n) (treeOf (c .before .before .before .before .before .before .before .before .before .before .before .before .args .t .now) (c .before .before .before .before .before .before .before .before .before .before .before .before .args .y)) (c .before .before .before .before .before .before .before .before .before .before .before .before .args .p) (omega (arith, c .before .before .before .before .before .before .before .before .before .before .before .before .pre .0)),
+  ev-within (c .before .before .before .before .before .before .before .before .before .before .before .before .args .s .now)
+      (c .before .before .before .before .before .before .before .before .before .before .before .before .args .cells .now)
+      (c .before .before .before .before .before .before .before .before .before .before .before .before .args .n) (treeOf
+      (c .before .before .before .before .before .before .before .before .before .before .before .before .args .t .now)
+      (c .before .before .before .before .before .before .before .before .before .before .before .before .args .y))
+      (c .before .before .before .before .before .before .before .before .before .before .before .before .args .p) (omega
+      (arith, c .before .before .before .before .before .before .before .before .before .before .before .before .pre .0)),
   c .before .before .before .before .eval-with .ensures,
   c .before .many .ensures,
   c .before .before .before .before .before .before .before .before .before .before .before .before .pre .0,
   c .before .before .before .if2 .taken,
-  rounds-within (c .before .before .before .before .before .before .before .before .before .before .before .before .args .t .now) (c .before .before .before .before .before .before .before .before .before .before .before .before .args .s .now) (c .before .before .before .before .before .before .before .before .before .before .before .before .args .cells .now) (c .before .before .before .before .before .before .before .before .before .before .before .before .args .n) (c .before .before .before .before .before .before .before .before .before .before .before .before .args .y) (c .before .before .before .before .before .before .before .before .before .before .before .before .args .p + (c .before .before .before .before .eval-with .result - 1))
-      (omega (arith, ev-within (c .before .before .before .before .before .before .before .before .before .before .before .before .args .s .now) (c .before .before .before .before .before .before .before .before .before .before .before .before .args .cells .now) (c .before .before .before .before .before .before .before .before .before .before .before .before .args .n) (treeOf (c .before .before .before .before .before .before .before .before .before .before .before .before .args .t .now) (c .before .before .before .before .before .before .before .before .before .before .before .before .args .y)) (c .before .before .before .before .before .before .before .before .before .before .before .before .args .p) (omega (arith, c .before .before .before .before .before .before .before .before .before .before .before .before .pre .0)), c .before .before .before .before .eval-with .ensures, c .before .before .before .before .before .before .before .before .before .before .before .before .pre .0, c .before .before .before .if2 .taken)),
+  rounds-within (c .before .before .before .before .before .before .before .before .before .before .before .before .args .t .now)
+      (c .before .before .before .before .before .before .before .before .before .before .before .before .args .s .now)
+      (c .before .before .before .before .before .before .before .before .before .before .before .before .args .cells .now)
+      (c .before .before .before .before .before .before .before .before .before .before .before .before .args .n)
+      (c .before .before .before .before .before .before .before .before .before .before .before .before .args .y)
+      (c .before .before .before .before .before .before .before .before .before .before .before .before .args .p + (c .before .before .before .before .eval-with .result - 1))
+      (omega (
+        arith,
+        ev-within (c .before .before .before .before .before .before .before .before .before .before .before .before .args .s .now)
+            (c .before .before .before .before .before .before .before .before .before .before .before .before .args .cells .now)
+            (c .before .before .before .before .before .before .before .before .before .before .before .before .args .n) (treeOf
+            (c .before .before .before .before .before .before .before .before .before .before .before .before .args .t .now)
+            (c .before .before .before .before .before .before .before .before .before .before .before .before .args .y))
+            (c .before .before .before .before .before .before .before .before .before .before .before .before .args .p) (omega
+            (arith, c .before .before .before .before .before .before .before .before .before .before .before .before .pre .0)),
+        c .before .before .before
+            .before .eval-with .ensures,
+        c .before .before .before .before .before .before .before .before .before .before .before .before .pre .0,
+        c .before
+            .before .before .if2 .taken,
+      )),
 )
 
 remember-requires : tie.Need-remember-requires
@@ -51,20 +121,63 @@ remember-requires c κs = omega (
   arith,
   c .before .before .before .before .before .before .before .key .ensures .1,
   c .before .before .before .before .before .before .if1 .taken,
-  ev-within (c .before .before .before .before .before .before .before .before .before .before .before .before .args .s .now) (c .before .before .before .before .before .before .before .before .before .before .before .before .args .cells .now) (c .before .before .before .before .before .before .before .before .before .before .before .before .args .n) (treeOf (c .before .before .before .before .before .before .before .before .before .before .before .before .args .t .now) (c .before .before .before .before .before .before .before .before .before .before .before .before .args .y)) (c .before .before .before .before .before .before .before .before .before .before .before .before .args .p) (omega (arith, c .before .before .before .before .before .before .before .before .before .before .before .before .pre .0)),
+  ev-within (c .before .before .before .before .before .before .before .before .before .before .before .before .args .s .now)
+      (c .before .before .before .before .before .before .before .before .before .before .before .before .args .cells .now)
+      (c .before .before .before .before .before .before .before .before .before .before .before .before .args .n) (treeOf
+      (c .before .before .before .before .before .before .before .before .before .before .before .before .args .t .now)
+      (c .before .before .before .before .before .before .before .before .before .before .before .before .args .y))
+      (c .before .before .before .before .before .before .before .before .before .before .before .before .args .p) (omega
+      (arith, c .before .before .before .before .before .before .before .before .before .before .before .before .pre .0)),
   c .before .before .before .before .eval-with .ensures,
   c .before .many .ensures,
   c .before .before .before .before .before .before .before .before .before .before .before .before .pre .0,
   c .before .before .before .if2 .taken,
-  rounds-within (c .before .before .before .before .before .before .before .before .before .before .before .before .args .t .now) (c .before .before .before .before .before .before .before .before .before .before .before .before .args .s .now) (c .before .before .before .before .before .before .before .before .before .before .before .before .args .cells .now) (c .before .before .before .before .before .before .before .before .before .before .before .before .args .n) (c .before .before .before .before .before .before .before .before .before .before .before .before .args .y) (c .before .before .before .before .before .before .before .before .before .before .before .before .args .p + (c .before .before .before .before .eval-with .result - 1))
-      (omega (arith, ev-within (c .before .before .before .before .before .before .before .before .before .before .before .before .args .s .now) (c .before .before .before .before .before .before .before .before .before .before .before .before .args .cells .now) (c .before .before .before .before .before .before .before .before .before .before .before .before .args .n) (treeOf (c .before .before .before .before .before .before .before .before .before .before .before .before .args .t .now) (c .before .before .before .before .before .before .before .before .before .before .before .before .args .y)) (c .before .before .before .before .before .before .before .before .before .before .before .before .args .p) (omega (arith, c .before .before .before .before .before .before .before .before .before .before .before .before .pre .0)), c .before .before .before .before .eval-with .ensures, c .before .before .before .before .before .before .before .before .before .before .before .before .pre .0, c .before .before .before .if2 .taken)),
+  rounds-within (c .before .before .before .before .before .before .before .before .before .before .before .before .args .t .now)
+      (c .before .before .before .before .before .before .before .before .before .before .before .before .args .s .now)
+      (c .before .before .before .before .before .before .before .before .before .before .before .before .args .cells .now)
+      (c .before .before .before .before .before .before .before .before .before .before .before .before .args .n)
+      (c .before .before .before .before .before .before .before .before .before .before .before .before .args .y)
+      (c .before .before .before .before .before .before .before .before .before .before .before .before .args .p + (c .before .before .before .before .eval-with .result - 1))
+      (omega (
+        arith,
+        ev-within (c .before .before .before .before .before .before .before .before .before .before .before .before .args .s .now)
+            (c .before .before .before .before .before .before .before .before .before .before .before .before .args .cells .now)
+            (c .before .before .before .before .before .before .before .before .before .before .before .before .args .n) (treeOf
+            (c .before .before .before .before .before .before .before .before .before .before .before .before .args .t .now)
+            (c .before .before .before .before .before .before .before .before .before .before .before .before .args .y))
+            (c .before .before .before .before .before .before .before .before .before .before .before .before .args .p) (omega
+            (arith, c .before .before .before .before .before .before .before .before .before .before .before .before .pre .0)),
+        c .before .before .before
+            .before .eval-with .ensures,
+        c .before .before .before .before .before .before .before .before .before .before .before .before .pre .0,
+        c .before
+            .before .before .if2 .taken,
+      )),
 )
 
 returns : tie.Need-returns
-returns c = learnt (c .before .before .before .before .before .before .before .before .before .before .before .before .before .args .t .now) (c .before .before .before .before .before .before .before .before .before .before .before .before .before .args .s .now) (c .before .before .before .before .before .before .before .before .before .before .before .before .before .args .cells .now) (c .before .before .before .before .before .before .before .before .before .before .before .before .before .args .mem .now) _ (c .before .before .before .before .before .before .before .before .before .before .before .before .before .args .n) (c .before .before .before .before .before .before .before .before .before .before .before .before .before .args .y) (c .before .before .before .before .before .before .before .before .key .result) (c .before .before .before .before .before .before .before .before .before .before .before .before .before .args .p) _ (omega (arith, c .before .before .before .before .before .before .before .before .before .before .before .before .before .pre .0))
-    (c .before .before .before .before .before .before .before .before .key .ensures .0 (omega (arith, c .before .before .before .before .before .before .before .if1 .taken))) (c .before .before .before .before .before .before .before .before .before .before .before .before .before .pre .1) (c .remember .ensures)
+returns c = learnt (c .before .before .before .before .before .before .before .before .before .before .before .before .before .args .t .now)
+    (c .before .before .before .before .before .before .before .before .before .before .before .before .before .args .s .now)
+    (c .before .before .before .before .before .before .before .before .before .before .before .before .before .args .cells .now)
+    (c .before .before .before .before .before .before .before .before .before .before .before .before .before .args .mem .now) _
+    (c .before .before .before .before .before .before .before .before .before .before .before .before .before .args .n)
+    (c .before .before .before .before .before .before .before .before .before .before .before .before .before .args .y)
+    (c .before .before .before .before .before .before .before .before .key .result)
+    (c .before .before .before .before .before .before .before .before .before .before .before .before .before .args .p) _ (omega
+    (arith, c .before .before .before .before .before .before .before .before .before .before .before .before .before .pre .0))
+    (c .before .before .before .before .before .before .before .before .key .ensures .0 (omega
+    (arith, c .before .before .before .before .before .before .before .if1 .taken)))
+    (c .before .before .before .before .before .before .before .before .before .before .before .before .before .pre .1) (c .remember .ensures)
     (ap (λ (v : ℕ). c .before .before .before .before .before .eval-with .result - 1 + v) (c .before .before .many .ensures)
-    ∙ rounds-next (c .before .before .before .before .before .before .before .before .before .before .before .before .before .args .t .now) (c .before .before .before .before .before .before .before .before .before .before .before .before .before .args .s .now) (c .before .before .before .before .before .before .before .before .before .before .before .before .before .args .cells .now) (c .before .before .before .before .before .before .before .before .before .before .before .before .before .args .n) (c .before .before .before .before .before .before .before .before .before .before .before .before .before .args .y) (c .before .before .before .before .before .before .before .before .before .before .before .before .before .args .p) (c .before .before .before .before .before .eval-with .result) (omega (arith, c .before .before .before .before .before .before .before .before .before .before .before .before .before .pre .0)) (c .before .before .before .before .before .eval-with .ensures) (c .before .before .before .before .if2 .taken))
+    ∙ rounds-next (c .before .before .before .before .before .before .before .before .before .before .before .before .before .args .t .now)
+    (c .before .before .before .before .before .before .before .before .before .before .before .before .before .args .s .now)
+    (c .before .before .before .before .before .before .before .before .before .before .before .before .before .args .cells .now)
+    (c .before .before .before .before .before .before .before .before .before .before .before .before .before .args .n)
+    (c .before .before .before .before .before .before .before .before .before .before .before .before .before .args .y)
+    (c .before .before .before .before .before .before .before .before .before .before .before .before .before .args .p)
+    (c .before .before .before .before .before .eval-with .result) (omega
+    (arith, c .before .before .before .before .before .before .before .before .before .before .before .before .before .pre .0))
+    (c .before .before .before .before .before .eval-with .ensures) (c .before .before .before .before .if2 .taken))
 
 returns-2 : tie.Need-returns-2
 returns-2 c = (c .before .before .before .before .before .before .before .before .before .pre .1, λ j l. refl)

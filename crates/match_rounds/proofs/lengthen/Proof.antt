@@ -29,7 +29,8 @@ put-requires c κs = search needs
 
 returns : tie.Need-returns
 returns c = λ d e. subst (λ (v : List ℕ). Noted (c .before .before .args .k) (c .before .before .args .p) d (c .before .before .args .mem .now) v) (sym (c .put .ensures))
-    (lengthened (c .before .before .args .mem .now) (c .before .before .args .i) (c .before .before .args .k) (c .before .before .args .p) d (omega (arith, c .before .before .pre .0)) (c .before .before .pre .1) e)
+    (lengthened (c .before .before .args .mem .now) (c .before .before .args .i) (c .before .before .args .k) (c .before .before .args .p) d (omega
+    (arith, c .before .before .pre .0)) (c .before .before .pre .1) e)
 
 pub lengthen-spec : {M : Type 1} → statement M
 lengthen-spec = tie.close (tie.spec mul-put add-put mul-put-2 add-put-2 put-requires returns)

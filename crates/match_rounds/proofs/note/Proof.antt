@@ -51,10 +51,18 @@ put-requires-3 : tie.Need-put-requires-3
 put-requires-3 c κs = search needs
 
 returns : tie.Need-returns
-returns c = subst (λ (v : List ℕ). Noted (c .before .before .before .before .before .before .before .args .k) (c .before .before .before .before .before .before .before .args .p) (c .before .before .before .before .before .before .before .args .c) (c .before .before .before .before .before .before .before .args .mem .now) v)
-    (sym (c .put3 .ensures ∙ ap (λ (v : List ℕ). set v (entriesAt + 3 * c .before .before .before .before .before .before .before .args .i + 2) (c .before .before .before .before .before .before .before .args .p + c .before .before .before .before .before .before .before .args .c)) (c .before .before .put2 .ensures
-    ∙ ap (λ (v : List ℕ). set v (entriesAt + 3 * c .before .before .before .before .before .before .before .args .i + 1) (c .before .before .before .before .before .before .before .args .p + 1)) (c .before .before .before .before .put .ensures))))
-    (noted (c .before .before .before .before .before .before .before .args .mem .now) (c .before .before .before .before .before .before .before .args .i) (c .before .before .before .before .before .before .before .args .k) (c .before .before .before .before .before .before .before .args .p) (c .before .before .before .before .before .before .before .args .c) (omega (arith, c .before .before .before .before .before .before .before .pre .2)) (omega (arith, c .before .before .before .before .before .before .if1 .taken, c .before .before .before .before .before .before .before .good)))
+returns c = subst (λ (v : List ℕ). Noted (c .before .before .before .before .before .before .before .args .k)
+    (c .before .before .before .before .before .before .before .args .p) (c .before .before .before .before .before .before .before .args .c)
+    (c .before .before .before .before .before .before .before .args .mem .now) v)
+    (sym (c .put3 .ensures ∙ ap (λ (v : List ℕ). set v (entriesAt + 3 * c .before .before .before .before .before .before .before .args .i + 2)
+    (c .before .before .before .before .before .before .before .args .p + c .before .before .before .before .before .before .before .args .c)) (c .before .before .put2 .ensures
+    ∙ ap (λ (v : List ℕ). set v (entriesAt + 3 * c .before .before .before .before .before .before .before .args .i + 1)
+    (c .before .before .before .before .before .before .before .args .p + 1)) (c .before .before .before .before .put .ensures))))
+    (noted (c .before .before .before .before .before .before .before .args .mem .now) (c .before .before .before .before .before .before .before .args .i)
+    (c .before .before .before .before .before .before .before .args .k) (c .before .before .before .before .before .before .before .args .p)
+    (c .before .before .before .before .before .before .before .args .c) (omega
+    (arith, c .before .before .before .before .before .before .before .pre .2)) (omega
+    (arith, c .before .before .before .before .before .before .if1 .taken, c .before .before .before .before .before .before .before .good)))
 
 returns-2 : tie.Need-returns-2
 returns-2 c = noted-none (c .before .args .k) (c .before .args .p) (c .before .args .c) (c .before .args .mem .now)

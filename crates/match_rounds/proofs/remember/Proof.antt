@@ -17,10 +17,18 @@ note-requires : tie.Need-note-requires
 note-requires c κs = (c .before .slot .ensures, c .before .before .before .before .pre .1, omega (arith, c .before .before .before .before .pre .2), c .before .before .before .before .pre .4)
 
 run-on-requires : tie.Need-run-on-requires
-run-on-requires c κs = (c .before .before .before .before .before .before .pre .1, c .before .before .before .before .before .before .pre .2, c .before .before .before .before .before .before .pre .3, c .before .before .before .before .before .before .pre .4)
+run-on-requires c κs = (
+  c .before .before .before .before .before .before .pre .1,
+  c .before .before .before .before .before .before .pre .2,
+  c .before .before
+      .before .before .before .before .pre .3,
+  c .before .before .before .before .before .before .pre .4,
+)
 
 returns : tie.Need-returns
-returns c = noted-both (c .before .before .before .before .before .before .before .args .k) (c .before .before .before .before .before .before .before .args .p) (c .before .before .before .before .before .before .before .args .c) (c .before .before .before .before .before .before .before .args .mem .now) _ _ (c .before .before .note .ensures) (c .run-on .ensures)
+returns c = noted-both (c .before .before .before .before .before .before .before .args .k)
+    (c .before .before .before .before .before .before .before .args .p) (c .before .before .before .before .before .before .before .args .c)
+    (c .before .before .before .before .before .before .before .args .mem .now) _ _ (c .before .before .note .ensures) (c .run-on .ensures)
 
 pub remember-spec : {M : Type 1} → statement M
 remember-spec = tie.close (tie.spec slot-requires note-requires run-on-requires returns)

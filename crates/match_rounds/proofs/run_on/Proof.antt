@@ -31,7 +31,12 @@ note-requires : tie.Need-note-requires
 note-requires c κs = search needs
 
 returns : tie.Need-returns
-returns c = c .lengthen .ensures (c .before .before .before .before .before .args .c) (omega (arith, c .before .before .before .says .ensures (omega (arith, c .before .before .if1 .taken, c .before .before .before .before .before .pre)) .1, c .before .before .if1 .taken))
+returns c = c .lengthen .ensures (c .before .before .before .before .before .args .c) (omega (
+  arith,
+  c .before .before .before .says .ensures (omega
+      (arith, c .before .before .if1 .taken, c .before .before .before .before .before .pre)) .1,
+  c .before .before .if1 .taken,
+))
 
 returns-2 : tie.Need-returns-2
 returns-2 c = search needs

@@ -75,7 +75,23 @@ returns-3 c = ran-none (c .before .before .before .before .before .before .befor
     (c .before .before .before .before .before .fill .ensures .0) (c .before .word .result) (c .before .word .ensures .0) (c .if3 .taken)
 
 list-requires : tie.Need-list-requires
-list-requires c κs = (ready (c .before .before .before .before .before .before .before .before .before .before .before .before .before .before .before .before .before .args .t .now) (c .before .before .before .before .before .before .before .before .before .before .before .before .before .before .before .before .before .args .input .now) (c .before .before .before .before .before .before .before .before .before .before .before .before .before .before .before .before .before .args .cells .now) (c .before .before .before .before .before .before .before .before .before .before .before .before .before .before .before .before .before .args .nodes .now) (c .before .before .before .before .before .before .before .before .before .before .before .before .symbols .result) _ (c .before .before .before .before .before .before .before .before .before .before .before .before .symbols .ensures) (omega (arith, c .before .before .before .before .before .before .before .before .before .before .before .before .before .if1 .left)) refl (omega (arith, c .before .before .before .before .before .before .before .before .before .before .before .if2 .left)) _ (c .before .before .before .before .before .before .before .before .fill .ensures .0) (c .before .before .before .before .before .before .before .before .before .before .before .before .before .before .before .before .before .pre), knows-count (c .before .before .before .before .before .before .before .before .before .before .before .before .before .before .before .before .before .args .t .now) (c .before .before .before .before .before .before .before .before .before .before .before .before .before .before .before .before .before .args .input .now) _ _ _ _ (sym (c .before .before .before .before .before .before .before .before .before .before .before .before .symbols .ensures)) (c .before .before .before .before .before .before .before .before .fill .ensures .1))
+list-requires c κs = (
+  ready (c .before .before .before .before .before .before .before .before .before .before .before .before .before .before .before .before
+      .before .args .t .now) (c .before .before .before .before .before .before .before .before .before .before .before .before .before .before .before .before
+      .before .args .input .now) (c .before .before .before .before .before .before .before .before .before .before .before .before .before .before .before
+      .before .before .args .cells .now)
+      (c .before .before .before .before .before .before .before .before .before .before .before .before .before .before .before .before .before .args .nodes
+      .now) (c .before .before .before .before .before .before .before .before .before .before .before .before .symbols .result) _
+      (c .before .before .before .before .before .before .before .before .before .before .before .before .symbols .ensures) (omega
+      (arith, c .before .before .before .before .before .before .before .before .before .before .before .before .before .if1 .left)) refl (omega
+      (arith, c .before .before .before .before .before .before .before .before .before .before .before .if2 .left)) _
+      (c .before .before .before .before .before .before .before .before .fill .ensures .0)
+      (c .before .before .before .before .before .before .before .before .before .before .before .before .before .before .before .before .before .pre),
+  knows-count (c .before .before .before .before .before .before .before .before .before .before .before .before .before .before .before .before .before
+      .args .t .now) (c .before .before .before .before .before .before .before .before .before .before .before .before .before .before .before .before .before
+      .args .input .now) _ _ _ _ (sym (c .before .before .before .before .before .before .before .before .before .before .before .before .symbols .ensures))
+      (c .before .before .before .before .before .before .before .before .fill .ensures .1),
+)
 
 sub-listed-match : tie.Need-sub-listed-match
 sub-listed-match c = search needs
@@ -90,7 +106,29 @@ same-length-3 : tie.Need-same-length-3
 same-length-3 c = search needs
 
 returns-4 : tie.Need-returns-4
-returns-4 c = ran-all (c .before .before .before .before .before .before .before .before .before .before .before .before .before .before .before .before .before .before .before .before .before .args .t .now) (c .before .before .before .before .before .before .before .before .before .before .before .before .before .before .before .before .before .before .before .before .before .args .input .now) (c .before .before .before .before .before .before .before .before .before .before .before .before .before .before .before .before .before .before .before .before .before .args .cells .now) (c .before .before .before .before .before .before .before .before .before .before .before .before .before .before .before .before .before .before .before .before .before .args .nodes .now) (c .before .before .before .before .before .before .before .before .before .before .before .before .before .before .before .before .symbols .result) _ (c .before .before .before .before .before .before .before .before .before .before .before .before .before .before .before .before .symbols .ensures) (omega (arith, c .before .before .before .before .before .before .before .before .before .before .before .before .before .before .before .before .before .if1 .left)) refl (omega (arith, c .before .before .before .before .before .before .before .before .before .before .before .before .before .before .before .if2 .left)) _ (c .before .before .before .before .before .before .before .before .before .before .before .before .fill .ensures .0) (c .before .before .before .before .before .before .before .before .word .result) (c .before .before .before .before .before .before .before .before .word .ensures .0) (c .before .before .before .before .before .before .before .if3 .left) (c .before .before .before .list .result) _ (c .listed-match .result) (c .before .before .before .list .ensures .0) (c .before .before .before .list .ensures .1) (c .listed-match .ensures)
+returns-4 c = ran-all (c .before .before .before .before .before .before .before .before .before .before .before .before .before .before .before .before
+    .before .before .before .before .before .args .t .now)
+    (c .before .before .before .before .before .before .before .before .before .before .before .before .before .before .before .before .before .before .before
+    .before .before .args .input .now)
+    (c .before .before .before .before .before .before .before .before .before .before .before .before .before .before .before .before .before .before .before
+    .before .before .args .cells .now)
+    (c .before .before .before .before .before .before .before .before .before .before .before .before .before .before .before .before .before .before .before
+    .before .before .args .nodes .now)
+    (c .before .before .before .before .before .before .before .before .before .before .before .before .before .before .before .before .symbols .result) _
+    (c .before .before .before .before .before .before .before .before .before .before .before .before .before .before .before .before .symbols .ensures)
+    (omega (
+      arith,
+      c .before .before .before .before .before .before .before .before .before .before .before .before .before .before .before .before .before
+          .if1 .left,
+    )) refl (omega (
+      arith,
+      c .before .before .before .before .before .before .before .before .before .before .before .before .before .before .before
+          .if2 .left,
+    )) _ (c .before .before .before .before .before .before .before .before .before .before .before .before .fill .ensures .0)
+    (c .before .before .before .before .before .before .before .before .word .result)
+    (c .before .before .before .before .before .before .before .before .word .ensures .0)
+    (c .before .before .before .before .before .before .before .if3 .left) (c .before .before .before .list .result) _ (c .listed-match .result)
+    (c .before .before .before .list .ensures .0) (c .before .before .before .list .ensures .1) (c .listed-match .ensures)
 
 pub run-spec : {M : Type 1} → statement M
 run-spec =

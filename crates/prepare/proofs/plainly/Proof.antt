@@ -51,7 +51,11 @@ finish-requires : tie.Need-finish-requires
 finish-requires c κs = search needs
 
 returns-3 : tie.Need-returns-3
-returns-3 c = as-plainly (c .before .finish .ensures .ready (c .before .before .before .before .before .before .before .before .before .before .before .before .before .before .before .before .before .args .mode) (c .before .before .before .before .before .before .before .before .before .before .before .before .before .before .before .before .before .args .text .now) _ _ _ _ _ (c .before .before .before .before .before .before .before .before .before .before .before .gather .ensures) (c .before .before .before .before .before .alternatives .ensures .between))
+returns-3 c = as-plainly (c .before .finish .ensures .ready
+    (c .before .before .before .before .before .before .before .before .before .before .before .before .before .before .before .before .before .args .mode)
+    (c .before .before .before .before .before .before .before .before .before .before .before .before .before .before .before .before .before .args .text
+    .now) _ _ _ _ _ (c .before .before .before .before .before .before .before .before .before .before .before .gather .ensures)
+    (c .before .before .before .before .before .alternatives .ensures .between))
 
 pub plainly-spec : {M : Type 1} → statement M
 plainly-spec =

@@ -9,7 +9,8 @@ use lib.ListN.{length}
 use Rattle.read_entries.specs.steps.Entries.{prefixOp}
 use Rattle.read_grammar.specs.steps.Promises.{toksAt}
 use Rattle.read_grammar.specs.laws.Places.{begins-some}
-use Rattle.read_grammar.specs.laws.Glue.{LoopC, loop-c, more-c, end-c, LoopS, loop-s, more-s, end-s, with-pre, without-pre, grouped, kind-there, over-next, long-next, start-in, room, prim-end, prim-bad, prim-name, prim-terminal, prefix-some, not-zero}
+use Rattle.read_grammar.specs.laws.Glue.{LoopC, loop-c, more-c, end-c, LoopS, loop-s, more-s, end-s, with-pre, without-pre, grouped, kind-there, over-next, long-next, start-in, room}
+use Rattle.read_grammar.specs.laws.Glue.{prim-end, prim-bad, prim-name, prim-terminal, prefix-some, not-zero}
 use borrow.Author.Needs.{needs}
 use Prim.Native.Nat.{ℕ, _<_}
 use borrow.Fn.Kinds.{In}

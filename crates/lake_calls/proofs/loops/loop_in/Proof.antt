@@ -32,7 +32,9 @@ returns : tie.Need-returns
 returns c = looped (c .before .before .before .before .before .before .before .before .before .before .before .before .before .before .before .before .before .before .args .t .now)
     (length (c .before .before .before .before .before .before .before .before .before .before .before .before .before .before .before .before .before .before .args .calls .now))
     (length (c .before .before .before .before .before .before .before .before .before .before .before .before .before .before .before .before .before .before .args .marks .now))
-    (c .loop-at .result) _ _ (c .before .before .before .before .before .before .before .before .before .before .before .before .before .before .before .before .before .before .pre .1) (c .before .before .before .before .before .before .before .before .before .before .before .mark-all .ensures) (c .before .before .before .before .calls-of .ensures) (c .loop-at .ensures)
+    (c .loop-at .result) _ _ (c .before .before .before .before .before .before .before .before .before .before .before .before .before .before .before .before
+    .before .before .pre .1) (c .before .before .before .before .before .before .before .before .before .before .before .mark-all .ensures)
+    (c .before .before .before .before .calls-of .ensures) (c .loop-at .ensures)
 
 pub loop-in-spec : {M : Type 1} → statement M
 loop-in-spec =

@@ -56,7 +56,25 @@ same-length : tie.Need-same-length
 same-length c = search needs
 
 returns : tie.Need-returns
-returns c = (fills (c .before .before .before .before .before .before .before .before .before .before .before .before .before .before .before .before .before .before .before .before .before .before .args .t .now) (c .before .before .before .before .before .before .before .before .before .before .before .before .before .before .before .before .before .before .before .before .before .before .args .s .now) (c .before .before .before .before .before .before .before .before .before .before .before .before .before .before .before .before .before .before .before .before .before .before .args .cells .now) _ _ _ (c .before .before .before .before .before .before .before .before .before .before .before .before .before .before .before .before .before .before .symbols .result) (c .before .before .before .before .before .before .before .before .before .before .before .before .before .before .before .before .before .before .symbols .ensures .0) (c .before .before .before .before .before .before .before .before .before .before .before .order-front .ensures) (c .before .before .rows-in .ensures .0), knows-count (c .before .before .before .before .before .before .before .before .before .before .before .before .before .before .before .before .before .before .before .before .before .before .args .t .now) (c .before .before .before .before .before .before .before .before .before .before .before .before .before .before .before .before .before .before .before .before .before .before .args .s .now) _ _ _ _ (c .before .before .before .before .before .before .before .before .before .before .before .before .before .before .before .before .before .before .symbols .ensures .0) (c .before .before .rows-in .ensures .1))
+returns c = (
+  fills (c .before .before .before .before .before .before .before .before .before .before .before .before .before .before .before .before .before
+      .before .before .before .before .before .args .t .now)
+      (c .before .before .before .before .before .before .before .before .before .before .before .before .before .before .before .before .before .before .before
+      .before .before .before .args .s .now)
+      (c .before .before .before .before .before .before .before .before .before .before .before .before .before .before .before .before .before .before .before
+      .before .before .before .args .cells .now) _ _ _
+      (c .before .before .before .before .before .before .before .before .before .before .before .before .before .before .before .before .before .before .symbols
+      .result) (c .before .before .before .before .before .before .before .before .before .before .before .before .before .before .before .before .before .before
+      .symbols .ensures .0) (c .before .before .before .before .before .before .before .before .before .before .before .order-front .ensures)
+      (c .before .before .rows-in .ensures .0),
+  knows-count
+      (c .before .before .before .before .before .before .before .before .before .before .before .before .before .before .before .before .before .before .before
+      .before .before .before .args .t .now)
+      (c .before .before .before .before .before .before .before .before .before .before .before .before .before .before .before .before .before .before .before
+      .before .before .before .args .s .now) _ _ _ _
+      (c .before .before .before .before .before .before .before .before .before .before .before .before .before .before .before .before .before .before .symbols
+      .ensures .0) (c .before .before .rows-in .ensures .1),
+)
 
 pub fill-spec : {M : Type 1} → statement M
 fill-spec =

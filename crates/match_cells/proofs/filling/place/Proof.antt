@@ -99,7 +99,9 @@ store-requires c κs = (
     c .before .before .before .before .before .before .before .before .before .before .before .before .before .before .pre .0 .1,
     subst
         (λ (x : ℕ). x < c .before .before .before .before .before .before .before .before .before .before .before .before .before .before .args .n)
-        (sym (c .before .before .before .word .ensures .0)) (c .before .before .before .before .before .before .before .before .before .before .before .before .before .before .pre .0 .2 (c .before .before .before .before .before .loop .j) (c .before .before .before .before .loop-test .taken)),
+        (sym (c .before .before .before .word .ensures .0))
+        (c .before .before .before .before .before .before .before .before .before .before .before .before .before .before .pre .0 .2
+        (c .before .before .before .before .before .loop .j) (c .before .before .before .before .loop-test .taken)),
     c .before .before .before .before .before .before .before .before .before .before .before .before .before .before .pre .0 .3,
     c .before .before .before .before .before .before .before .before .before .before .before .before .before .before .pre .0 .4,
   ),
@@ -126,7 +128,9 @@ loop-again c =
           (c .before .before .before .before .before .before .before .before .before .before .before .before .before .args .s .now)
           (c .before .before .before .before .before .before .before .before .before .before .before .before .before .args .p)
           (c .before .before .before .before .before .before .before .before .before .before .before .before .before .args .order .now)
-          (c .before .before .before .before .loop .j) (c .before .before .before .before .before .before .before .before .before .before .before .before .before .args .n) (c .before .before .before .before .loop .cells) _ (c .before .before .before .loop-test .taken)
+          (c .before .before .before .before .loop .j)
+          (c .before .before .before .before .before .before .before .before .before .before .before .before .before .args .n)
+          (c .before .before .before .before .loop .cells) _ (c .before .before .before .loop-test .taken)
           (w .5 ∙ w .2 .ensures .0 ∙ ap (λ (x : ℕ). set (c .before .before .before .before .loop .cells)
           (c .before .before .before .before .before .before .before .before .before .before .before .before .before .args .p * length
           (bodiesOf (c .before .before .before .before .before .before .before .before .before .before .before .before .before .args .t .now)) + x)
@@ -149,7 +153,9 @@ loop-again c =
           (c .before .before .before .before .before .before .before .before .before .before .before .before .before .args .s .now)
           (c .before .before .before .before .before .before .before .before .before .before .before .before .before .args .p)
           (c .before .before .before .before .before .before .before .before .before .before .before .before .before .args .order .now)
-          (c .before .before .before .before .loop .j) (c .before .before .before .before .before .before .before .before .before .before .before .before .before .args .n) (c .before .before .before .before .loop .cells) _ (c .before .before .before .loop-test .taken)
+          (c .before .before .before .before .loop .j)
+          (c .before .before .before .before .before .before .before .before .before .before .before .before .before .args .n)
+          (c .before .before .before .before .loop .cells) _ (c .before .before .before .loop-test .taken)
           (w .1 ∙ said-stays (c .before .before .before .before .before .before .before .before .before .before .before .before .before .args .t .now)
           (c .before .before .before .before .before .before .before .before .before .before .before .before .before .args .s .now)
           (c .before .before .before .before .loop .cells)

@@ -96,7 +96,13 @@ loop-again c = (
 )
 
 with-requires : tie.Need-with-requires Inv-loop μ-loop
-with-requires c κs = omega (arith, c .before .before .before .before .before .before .before .before .pre, c .before .before .before .before .before .before .loop .inv .1, c .before .before .before .before .before .loop-test .taken)
+with-requires c κs = omega (
+  arith,
+  c .before .before .before .before .before .before .before .before .pre,
+  c .before .before .before .before .before .before
+      .loop .inv .1,
+  c .before .before .before .before .before .loop-test .taken,
+)
 
 loop-less-2 : tie.Need-loop-less-2 Inv-loop μ-loop
 loop-less-2 c = omega (arith, c .before .before .before .before .before .before .loop-test .taken)

@@ -25,7 +25,14 @@ says-requires c κs = (omega (arith, c .before .key .ensures .1), c .before .key
 
 returns-2 : tie.Need-returns-2
 returns-2 c = λ l.
-    let a = c .before .says .ensures l in (c .before .before .before .key .result, 2048 + c .before .before .before .key .result, c .before .before .before .key .ensures .0 (omega (arith, c .before .before .if1 .left)), a .0, a .1)
+    let a = c .before .says .ensures l in (
+      c .before .before .before .key .result,
+      2048 + c .before .before .before .key .result,
+      c .before .before .before .key .ensures .0 (omega
+          (arith, c .before .before .if1 .left)),
+      a .0,
+      a .1,
+    )
 
 slot-requires : tie.Need-slot-requires
 slot-requires c κs = (omega (arith, c .before .before .before .if1 .left), c .before .before .before .before .key .ensures .1)
@@ -34,10 +41,22 @@ begins-requires : tie.Need-begins-requires
 begins-requires c κs = (c .slot .ensures, c .before .before .before .before .before .key .ensures .1, c .before .before .before .before .before .before .before .pre)
 
 says-requires-2 : tie.Need-says-requires-2
-says-requires-2 c κs = (c .before .before .slot .ensures, c .before .before .before .before .before .before .before .key .ensures .1, c .before .before .before .before .before .before .before .before .before .pre)
+says-requires-2 c κs = (
+  c .before .before .slot .ensures,
+  c .before .before .before .before .before .before .before .key .ensures .1,
+  c .before .before .before
+      .before .before .before .before .before .before .pre,
+)
 
 returns-3 : tie.Need-returns-3
-returns-3 c = λ l. let a = c .says2 .ensures l in (c .before .before .before .before .before .before .before .before .key .result, c .before .before .before .slot .result, c .before .before .before .before .before .before .before .before .key .ensures .0 (omega (arith, c .before .before .before .before .before .before .before .if1 .left)), a .0, a .1)
+returns-3 c = λ l. let a = c .says2 .ensures l in (
+  c .before .before .before .before .before .before .before .before .key .result,
+  c .before .before .before .slot .result,
+  c .before .before .before .before
+      .before .before .before .before .key .ensures .0 (omega (arith, c .before .before .before .before .before .before .before .if1 .left)),
+  a .0,
+  a .1,
+)
 
 returns-4 : tie.Need-returns-4
 returns-4 c = λ l. absurd (omega (arith, l))

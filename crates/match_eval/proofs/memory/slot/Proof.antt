@@ -23,18 +23,21 @@ sub-result : tie.Need-sub-result
 sub-result c = omega (arith, c .before .before .before .before .pre .0)
 
 mul-result : tie.Need-mul-result
-mul-result c = let h : (c .before .before .before .before .args .k - 1) * c .before .before .word .result ≤ 1024 * 2048 = mul-le-mul {n₂ = 1024} {m₂ = 2048} (omega (arith, c .before .before .before .before .pre .1)) (omega (arith, c .if2 .left)) in
+mul-result c = let h : (c .before .before .before .before .args .k - 1) * c .before .before .word .result ≤ 1024 * 2048 = mul-le-mul {n₂ = 1024} {m₂ = 2048}
+    (omega (arith, c .before .before .before .before .pre .1)) (omega (arith, c .if2 .left)) in
     omega (arith, h)
 
 sub-result-2 : tie.Need-sub-result-2
 sub-result-2 c = search needs
 
 add-result : tie.Need-add-result
-add-result c = let h : (c .before .before .before .before .args .k - 1) * c .before .before .word .result ≤ 1024 * 2048 = mul-le-mul {n₂ = 1024} {m₂ = 2048} (omega (arith, c .before .before .before .before .pre .1)) (omega (arith, c .if2 .left)) in
+add-result c = let h : (c .before .before .before .before .args .k - 1) * c .before .before .word .result ≤ 1024 * 2048 = mul-le-mul {n₂ = 1024} {m₂ = 2048}
+    (omega (arith, c .before .before .before .before .pre .1)) (omega (arith, c .if2 .left)) in
     omega (arith, h, and-le-r (c .before .before .before .before .args .q) (c .before .before .word .result - 1), c .if2 .left)
 
 returns-3 : tie.Need-returns-3
-returns-3 c = let h : (c .before .before .before .before .args .k - 1) * c .before .before .word .result ≤ 1024 * 2048 = mul-le-mul {n₂ = 1024} {m₂ = 2048} (omega (arith, c .before .before .before .before .pre .1)) (omega (arith, c .if2 .left)) in
+returns-3 c = let h : (c .before .before .before .before .args .k - 1) * c .before .before .word .result ≤ 1024 * 2048 = mul-le-mul {n₂ = 1024} {m₂ = 2048}
+    (omega (arith, c .before .before .before .before .pre .1)) (omega (arith, c .if2 .left)) in
     omega (arith, h, and-le-r (c .before .before .before .before .args .q) (c .before .before .word .result - 1), c .if2 .left)
 
 pub slot-spec : {M : Type 1} → statement M

@@ -74,7 +74,11 @@ returns-2 c = penned-is (literal-text
     (c .before .before .before .before .before .before .before .before .before .before .before .before .before .if2 .taken)) (on (omega arith)
     (c .before .before .before .before .before .before .before .before .before .before .emit2 .ensures)
     (on (omega arith) (penned-is (ap (λ (i : ℕ). litChars
-    (map low (wordsFrom (c .before .before .before .before .before .before .before .before .before .before .before .before .before .before .before .before .before .before .before .args .t .now) i (c .before .before .before .before .before .before .before .before .before .before .before .before .leaf-length .result)))) (c .before .before .before .before .before .before .before .before .before .before .before .before .before .before .before .before .content-at .ensures)) (c .before .before .before .before .before .before .lit-chars .ensures))
+    (map low (wordsFrom (c .before .before .before .before .before .before .before .before .before .before .before .before .before .before .before .before
+    .before .before .before .args .t .now) i
+    (c .before .before .before .before .before .before .before .before .before .before .before .before .leaf-length .result))))
+    (c .before .before .before .before .before .before .before .before .before .before .before .before .before .before .before .before .content-at
+    .ensures)) (c .before .before .before .before .before .before .lit-chars .ensures))
     (c .before .before .emit3 .ensures)))
 
 emit-requires-4 : tie.Need-emit-requires-4
@@ -105,7 +109,10 @@ returns-3 c = penned-is (class-text (c .before .before .before .before .before .
     (c .before .before .before .before .before .before .before .before .before .before .before .before .if2 .left)) (on (omega arith)
     (c .before .before .before .before .before .before .before .before .before .before .emit4 .ensures)
     (on (omega arith) (penned-is (ap (λ (i : ℕ). runsText
-    (runs none 0 (marksFrom (c .before .before .before .before .before .before .before .before .before .before .before .before .before .before .before .before .before .before .args .t .now) i 256))) (c .before .before .before .before .before .before .before .before .before .before .before .before .before .before .before .content-at .ensures)) (c .before .before .before .before .before .before .class-runs .ensures))
+    (runs none 0 (marksFrom (c .before .before .before .before .before .before .before .before .before .before .before .before .before .before .before .before
+    .before .before .args .t .now) i 256)))
+    (c .before .before .before .before .before .before .before .before .before .before .before .before .before .before .before .content-at .ensures))
+    (c .before .before .before .before .before .before .class-runs .ensures))
     (c .before .before .emit5 .ensures)))
 
 pub leaf-spec : {M : Type 1} → statement M

@@ -82,7 +82,11 @@ returns-2 c = penned-is (plain-text
     (c .before .before .before .before .before .before .before .before .before .before .before .before .if2 .taken)
     (c .before .before .before .before .before .before .before .before .before .before .before .before .before .if1 .left)) (on (omega arith)
     (c .before .before .before .before .before .before .before .before .before .before .emit4 .ensures) (on (omega arith) (c .before .before .before .before .before .before .emit2 .ensures)
-    (penned-is (ap (λ (i : ℕ). map low (wordsFrom (c .before .before .before .before .before .before .before .before .before .before .before .before .before .before .before .before .before .before .before .args .t .now) i (c .before .before .before .before .before .before .before .before .before .before .before .before .before .before .name-length .result))) (c .before .before .before .before .before .before .before .before .before .before .before .before .before .before .before .before .name-at .ensures)) (c .before .before .name-bytes2 .ensures))))
+    (penned-is (ap (λ (i : ℕ). map low (wordsFrom
+    (c .before .before .before .before .before .before .before .before .before .before .before .before .before .before .before .before .before .before
+    .before .args .t .now) i (c .before .before .before .before .before .before .before .before .before .before .before .before .before .before
+    .name-length .result))) (c .before .before .before .before .before .before .before .before .before .before .before .before .before .before .before
+    .before .name-at .ensures)) (c .before .before .name-bytes2 .ensures))))
 
 emit-requires : tie.Need-emit-requires
 emit-requires c κs = search needs
@@ -105,7 +109,8 @@ same-length-3 : tie.Need-same-length-3
 same-length-3 c = search needs
 
 returns-3 : tie.Need-returns-3
-returns-3 c = penned-is (lake-text (c .before .before .before .before .before .before .before .before .before .before .before .before .before .before .before .before .before .before .before .args .t .now)
+returns-3 c = penned-is (lake-text
+    (c .before .before .before .before .before .before .before .before .before .before .before .before .before .before .before .before .before .before .before .args .t .now)
     (c .before .before .before .before .before .before .before .before .before .before .before .before .before .before .before .before .before .before .before .args .r)
     (c .before .before .before .before .before .before .before .before .before .before .before .before .before .before .before .kind .result)
     (c .before .before .before .before .before .before .before .before .before .before .before .before .before .before .name-length .result)

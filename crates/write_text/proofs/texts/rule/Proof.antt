@@ -28,7 +28,10 @@ same-length : tie.Need-same-length
 same-length c = search needs
 
 returns : tie.Need-returns
-returns c = penned-is (rule-text _ _) (on (omega arith) (c .before .before .before .before .before .before .before .before .before .before .before .before .before .before .symbol .ensures) (on (omega arith) (c .before .before .before .before .before .before .before .before .before .before .emit4 .ensures) (on (omega arith) (c .before .before .before .before .before .before .exp .ensures) (c .before .before .emit .ensures))))
+returns c = penned-is (rule-text _ _) (on (omega arith)
+    (c .before .before .before .before .before .before .before .before .before .before .before .before .before .before .symbol .ensures) (on (omega arith)
+    (c .before .before .before .before .before .before .before .before .before .before .emit4 .ensures) (on (omega arith)
+    (c .before .before .before .before .before .before .exp .ensures) (c .before .before .emit .ensures))))
 
 pub rule-spec : {M : Type 1} → statement M
 rule-spec =
