@@ -2,7 +2,8 @@
 // (01, Meaning of a match). Repeated parts with the same tree share what is remembered: each of them has a key, the same for all. The memory is one run of
 // words: how many places of each key it keeps, how many keys there are, the key of each part (0: none), a part of each key, which bytes have been seen, what
 // bytes decide, then entries. An entry is about a run of places from which rounds end at one place. Each key has one entry for its newest run, so that a run
-// of single bytes needs no other, and some for places of their own, where a round of more than a byte may begin.
+// of single bytes needs no other; some for places of their own, where a round of more than a byte may begin; and as many for blocks of places that lie in one
+// run, so that runs of any text are found again when its nodes are listed.
 ghost use Prim.Native.Nat.{_+_, _*_, _^_, _<_, _≤_};
 ghost use mathlib.Core.Path.{_≡_};
 ghost use mathlib.Core.Bool.{true};
@@ -47,8 +48,12 @@ pub const ENDS: usize = 2;
 
 pub const TEXT: usize = 65536;
 
-// Entries for places of their own: no key has more. Behind them the entry for the newest run of each key.
-pub const ENTRIES: usize = 2048;
+// Entries for places of their own: no key has more. Behind them as many for blocks of places, then one for the newest run of each key.
+pub const ENTRIES: usize = 1024;
+
+pub const BLOCKS: usize = 1024;
+
+pub const RUNS: usize = 2048;
 
 pub const WORDS: usize = 27931;
 
@@ -137,6 +142,18 @@ pub fn slot(mem: &[u32], k: usize, q: usize) -> usize
     (k - 1) * w + (q & (w - 1))
 }
 
+// The number of the entry for the block of place q: a text has as many blocks as a key has places. Any answer would do here too.
+pub fn block(mem: &[u32], k: usize, q: usize) -> usize
+    requires { ⌜ (0 < k) × (k ≤ 1025) × (q ≤ 65535) ⌝ }
+    ensures { λ r. ⌜ r < 4294967296 ⌝ }
+{
+    let w = word(mem, PLACES);
+    if ENTRIES < w {
+        return 0;
+    }
+    BLOCKS + (k - 1) * w + q * w / TEXT
+}
+
 // The bytes that rounds of key k take from q on if entry i is about them, else more than a text has.
 pub fn says(mem: &Memory, i: usize, k: usize, q: usize) -> usize
     requires { ⌜ (i < 4294967296) × (k ≤ 1025) × (q ≤ 65535) ⌝ }
@@ -175,7 +192,7 @@ pub fn begins(mem: &Memory, i: usize, k: usize, q: usize) -> bool
     q < past
 }
 
-// The bytes that rounds of part x take from q on if an entry is about them, else more than a text has.
+// The bytes that rounds of part x take from q on if an entry is about them, else more than a text has. What lies before a key's newest run is not known yet.
 pub fn known(mem: &Memory, x: usize, q: usize) -> usize
     requires { ⌜ q ≤ 65535 ⌝ }
     ensures { λ r. ⌜ (r < 65536 → Told (now (mem .entry)) x q r) ⌝ }
@@ -184,7 +201,11 @@ pub fn known(mem: &Memory, x: usize, q: usize) -> usize
     if k == 0 {
         return UNKNOWN;
     }
-    let c = says(mem, ENTRIES + k, k, q);
+    let a = word(mem, ENTRIES_AT + ENTRY_WORDS * (RUNS + k));
+    if k * TEXT + q < a {
+        return UNKNOWN;
+    }
+    let c = says(mem, RUNS + k, k, q);
     if c < UNKNOWN {
         return c;
     }
@@ -192,5 +213,6 @@ pub fn known(mem: &Memory, x: usize, q: usize) -> usize
     if begins(mem, i, k, q) {
         return says(mem, i, k, q);
     }
-    UNKNOWN
+    let m = block(mem, k, q);
+    says(mem, m, k, q)
 }

@@ -11,14 +11,16 @@ use base_words::word;
 use grammar_table::Table;
 use match_eval::memory::COUNT;
 use match_eval::memory::ENDS;
-use match_eval::memory::ENTRIES;
 use match_eval::memory::ENTRIES_AT;
 use match_eval::memory::ENTRY_WORDS;
 use match_eval::memory::Memory;
 use match_eval::memory::PARTS_AT;
 use match_eval::memory::PAST;
+use match_eval::memory::PLACES;
+use match_eval::memory::RUNS;
 use match_eval::memory::TEXT;
 use match_eval::memory::begins;
+use match_eval::memory::block;
 use match_eval::memory::key;
 use match_eval::memory::said;
 use match_eval::memory::says;
@@ -48,12 +50,41 @@ fn lengthen(mem: &mut Memory, i: usize, k: usize, p: usize)
     put(mem, ENTRIES_AT + ENTRY_WORDS * i, k * TEXT + p);
 }
 
+// Entry m says what entry i says.
+fn copy(mem: &mut Memory, m: usize, i: usize)
+    requires { ⌜ (m < 4294967296) × (i < 4294967296) ⌝ }
+    ensures { λ _. ⌜ ((k p c : ℕ) → Noted k p c (now (mem .entry)) (now (mem .exit))) ⌝ }
+{
+    let j = ENTRIES_AT + ENTRY_WORDS * i;
+    let first = word(mem, j);
+    let past = word(mem, j + PAST);
+    let end = word(mem, j + ENDS);
+    let at = ENTRIES_AT + ENTRY_WORDS * m;
+    if at + ENDS < mem.len() {
+        put(mem, at, first);
+        put(mem, at + PAST, past);
+        put(mem, at + ENDS, end);
+    }
+}
+
+// The newest run of key k has come to p: where a block begins there, the block's entry says what the run's says.
+fn keep_block(mem: &mut Memory, k: usize, p: usize)
+    requires { ⌜ (0 < k) × (k ≤ 1025) × (p ≤ 65535) ⌝ }
+    ensures { λ _. ⌜ ((i q c : ℕ) → Noted i q c (now (mem .entry)) (now (mem .exit))) ⌝ }
+{
+    let w = word(mem, PLACES);
+    if p * w % TEXT == 0 {
+        let m = block(mem, k, p);
+        copy(mem, m, RUNS + k);
+    }
+}
+
 // The newest run of key k goes on to p, from where rounds take c bytes, or a new one begins there.
 fn run_on(mem: &mut Memory, k: usize, p: usize, c: usize)
     requires { ⌜ (k ≤ 1025) × (p < 65535) × (0 < c) × (c ≤ 65535) ⌝ }
     ensures { λ _. ⌜ Noted k p c (now (mem .entry)) (now (mem .exit)) ⌝ }
 {
-    let i = ENTRIES + k;
+    let i = RUNS + k;
     let d = says(mem, i, k, p + 1);
     if d == c - 1 {
         lengthen(mem, i, k, p);
@@ -95,9 +126,10 @@ fn learn_byte(t: &Table, s: &[u8], cells: &[u32], mem: &mut Memory, n: usize, y:
 {
     let k = key(mem, y);
     if k != 0 {
-        let i = ENTRIES + k;
+        let i = RUNS + k;
         if begins(mem, i, k, p + 1) {
             lengthen(mem, i, k, p);
+            keep_block(mem, k, p);
         } else {
             let c = match_eval::many(t, s, cells, mem, n, y, p + 1);
             note(mem, i, k, p, c + 1);

@@ -5,7 +5,7 @@ use Prim.Native.Nat.{_+_}
 use mathlib.Core.Path.{refl, sym}
 use Rattle.match_eval.specs.steps.Memory.{roundsOf}
 use Rattle.match_eval.specs.laws.Memory.{knows-from, rounds-within, rounds-next}
-use Rattle.match_rounds.specs.laws.Noted.{run-goes-on, learnt}
+use Rattle.match_rounds.specs.laws.Noted.{noted-both, run-goes-on, learnt}
 use Rattle.match_rounds.proofs.learn_byte.Statement.{statement}
 use Rattle.match_rounds.proofs.learn_byte.Tie as tie
 use Rattle.match_rounds.proofs.learn_byte.Reads as reads
@@ -39,14 +39,22 @@ lengthen-requires c κs = (
   c .before .before .begins .ensures (c .before .if2 .taken),
 )
 
+keep-block-requires : tie.Need-keep-block-requires
+keep-block-requires c κs = (
+  omega
+      (arith, c .before .before .before .before .before .before .if1 .taken),
+  c .before .before .before .before .before .before .before .key .ensures .1,
+  omega
+      (arith, c .before .before .before .before .before .before .before .before .before .before .before .before .pre .0),
+)
+
 add-many : tie.Need-add-many
 add-many c = search needs
 
 many-requires : tie.Need-many-requires
 many-requires c κs = (
   omega (arith, c .before .before .before .before .before .before .before .before .before .before .pre .0),
-  knows-from
-      (c .before .before .before .before .before .before .before .before .before .before .args .t .now)
+  knows-from (c .before .before .before .before .before .before .before .before .before .before .args .t .now)
       (c .before .before .before .before .before .before .before .before .before .before .args .s .now)
       (c .before .before .before .before .before .before .before .before .before .before .args .cells .now)
       (c .before .before .before .before .before .before .before .before .before .before .args .mem .now)
@@ -61,16 +69,14 @@ add-note : tie.Need-add-note
 add-note c = omega (
   arith,
   c .before .many .ensures,
-  rounds-within
-      (c .before .before .before .before .before .before .before .before .before .before .before .before .args .t .now)
+  rounds-within (c .before .before .before .before .before .before .before .before .before .before .before .before .args .t .now)
       (c .before .before .before .before .before .before .before .before .before .before .before .before .args .s .now)
       (c .before .before .before .before .before .before .before .before .before .before .before .before .args .cells .now)
       (c .before .before .before .before .before .before .before .before .before .before .before .before .args .n)
       (c .before .before .before .before .before .before .before .before .before .before .before .before .args .y)
       (c .before .before .before .before .before .before .before .before .before .before .before .before .args .p + 1) (omega
       (arith, c .before .before .before .before .before .before .before .before .before .before .before .before .pre .0)),
-  c .before .before .before .before
-      .before .before .before .before .before .before .before .before .pre .0,
+  c .before .before .before .before .before .before .before .before .before .before .before .before .pre .0,
 )
 
 note-requires : tie.Need-note-requires
@@ -78,50 +84,74 @@ note-requires c κs = omega (
   arith,
   c .before .before .before .before .before .before .before .key .ensures .1,
   c .before .many .ensures,
-  rounds-within
-      (c .before .before .before .before .before .before .before .before .before .before .before .before .args .t .now)
+  rounds-within (c .before .before .before .before .before .before .before .before .before .before .before .before .args .t .now)
       (c .before .before .before .before .before .before .before .before .before .before .before .before .args .s .now)
       (c .before .before .before .before .before .before .before .before .before .before .before .before .args .cells .now)
       (c .before .before .before .before .before .before .before .before .before .before .before .before .args .n)
       (c .before .before .before .before .before .before .before .before .before .before .before .before .args .y)
       (c .before .before .before .before .before .before .before .before .before .before .before .before .args .p + 1) (omega
       (arith, c .before .before .before .before .before .before .before .before .before .before .before .before .pre .0)),
-  c .before .before .before .before
-      .before .before .before .before .before .before .before .before .pre .0,
+  c .before .before .before .before .before .before .before .before .before .before .before .before .pre .0,
 )
 
 returns : tie.Need-returns
-returns c = learnt (c .before .before .before .before .before .before .before .before .before .before .before .args .t .now)
-    (c .before .before .before .before .before .before .before .before .before .before .before .args .s .now)
-    (c .before .before .before .before .before .before .before .before .before .before .before .args .cells .now)
-    (c .before .before .before .before .before .before .before .before .before .before .before .args .mem .now) _
-    (c .before .before .before .before .before .before .before .before .before .before .before .args .n)
-    (c .before .before .before .before .before .before .before .before .before .before .before .args .y)
-    (c .before .before .before .before .before .before .key .result)
-    (c .before .before .before .before .before .before .before .before .before .before .before .args .p) _ (omega
-    (arith, c .before .before .before .before .before .before .before .before .before .before .before .pre .0))
-    (c .before .before .before .before .before .before .key .ensures .0 (omega (arith, c .before .before .before .before .before .if1 .taken)))
-    (c .before .before .before .before .before .before .before .before .before .before .before .pre .1)
-    (c .lengthen .ensures (roundsOf (c .before .before .before .before .before .before .before .before .before .before .before .args .t .now)
-    (c .before .before .before .before .before .before .before .before .before .before .before .args .s .now)
-    (c .before .before .before .before .before .before .before .before .before .before .before .args .cells .now)
-    (c .before .before .before .before .before .before .before .before .before .before .before .args .n)
-    (c .before .before .before .before .before .before .before .before .before .before .before .args .y)
-    (c .before .before .before .before .before .before .before .before .before .before .before .args .p))
-    (run-goes-on (c .before .before .before .before .before .before .before .before .before .before .before .args .t .now)
-    (c .before .before .before .before .before .before .before .before .before .before .before .args .s .now)
-    (c .before .before .before .before .before .before .before .before .before .before .before .args .cells .now)
-    (c .before .before .before .before .before .before .before .before .before .before .before .args .mem .now)
-    (c .before .before .before .before .before .before .before .before .before .before .before .args .n)
-    (c .before .before .before .before .before .before .before .before .before .before .before .args .y)
-    (c .before .before .before .before .before .before .key .result) (2048 + c .before .before .before .before .before .before .key .result)
-    (c .before .before .before .before .before .before .before .before .before .before .before .args .p) (omega
-    (arith, c .before .before .before .before .before .before .before .before .before .before .before .pre .0))
-    (omega (arith, c .before .before .before .before .before .before .before .before .before .before .before .pre .0))
-    (c .before .before .before .before .before .before .before .before .before .before .before .pre .1)
-    (c .before .before .before .before .before .before .key .ensures .0 (omega (arith, c .before .before .before .before .before .if1 .taken)))
-    (c .before .before .before .begins .ensures (c .before .before .if2 .taken))
-    (c .before .before .before .before .before .before .before .before .before .before .before .pre .0 .4))) refl
+returns c = learnt (c .before .before .before .before .before .before .before .before .before .before .before .before .before .args .t .now)
+    (c .before .before .before .before .before .before .before .before .before .before .before .before .before .args .s .now)
+    (c .before .before .before .before .before .before .before .before .before .before .before .before .before .args .cells .now)
+    (c .before .before .before .before .before .before .before .before .before .before .before .before .before .args .mem .now) _
+    (c .before .before .before .before .before .before .before .before .before .before .before .before .before .args .n)
+    (c .before .before .before .before .before .before .before .before .before .before .before .before .before .args .y)
+    (c .before .before .before .before .before .before .before .before .key .result)
+    (c .before .before .before .before .before .before .before .before .before .before .before .before .before .args .p)
+    (roundsOf (c .before .before .before .before .before .before .before .before .before .before .before .before .before .args .t .now)
+    (c .before .before .before .before .before .before .before .before .before .before .before .before .before .args .s .now)
+    (c .before .before .before .before .before .before .before .before .before .before .before .before .before .args .cells .now)
+    (c .before .before .before .before .before .before .before .before .before .before .before .before .before .args .n)
+    (c .before .before .before .before .before .before .before .before .before .before .before .before .before .args .y)
+    (c .before .before .before .before .before .before .before .before .before .before .before .before .before .args .p)) (omega
+    (arith, c .before .before .before .before .before .before .before .before .before .before .before .before .before .pre .0))
+    (c .before .before .before .before .before .before .before .before .key .ensures .0 (omega
+    (arith, c .before .before .before .before .before .before .before .if1 .taken)))
+    (c .before .before .before .before .before .before .before .before .before .before .before .before .before .pre .1)
+    (noted-both (c .before .before .before .before .before .before .before .before .key .result)
+    (c .before .before .before .before .before .before .before .before .before .before .before .before .before .args .p) (roundsOf
+    (c .before .before .before .before .before .before .before .before .before .before .before .before .before .args .t .now)
+    (c .before .before .before .before .before .before .before .before .before .before .before .before .before .args .s .now)
+    (c .before .before .before .before .before .before .before .before .before .before .before .before .before .args .cells .now)
+    (c .before .before .before .before .before .before .before .before .before .before .before .before .before .args .n)
+    (c .before .before .before .before .before .before .before .before .before .before .before .before .before .args .y)
+    (c .before .before .before .before .before .before .before .before .before .before .before .before .before .args .p))
+    (c .before .before .before .before .before .before .before .before .before .before .before .before .before .args .mem .now) _ _
+    (c .before .before .lengthen .ensures (roundsOf
+    (c .before .before .before .before .before .before .before .before .before .before .before .before .before .args .t .now)
+    (c .before .before .before .before .before .before .before .before .before .before .before .before .before .args .s .now)
+    (c .before .before .before .before .before .before .before .before .before .before .before .before .before .args .cells .now)
+    (c .before .before .before .before .before .before .before .before .before .before .before .before .before .args .n)
+    (c .before .before .before .before .before .before .before .before .before .before .before .before .before .args .y)
+    (c .before .before .before .before .before .before .before .before .before .before .before .before .before .args .p))
+    (run-goes-on (c .before .before .before .before .before .before .before .before .before .before .before .before .before .args .t .now)
+    (c .before .before .before .before .before .before .before .before .before .before .before .before .before .args .s .now)
+    (c .before .before .before .before .before .before .before .before .before .before .before .before .before .args .cells .now)
+    (c .before .before .before .before .before .before .before .before .before .before .before .before .before .args .mem .now)
+    (c .before .before .before .before .before .before .before .before .before .before .before .before .before .args .n)
+    (c .before .before .before .before .before .before .before .before .before .before .before .before .before .args .y)
+    (c .before .before .before .before .before .before .before .before .key .result)
+    (2048 + c .before .before .before .before .before .before .before .before .key .result)
+    (c .before .before .before .before .before .before .before .before .before .before .before .before .before .args .p) (omega
+    (arith, c .before .before .before .before .before .before .before .before .before .before .before .before .before .pre .0))
+    (omega (arith, c .before .before .before .before .before .before .before .before .before .before .before .before .before .pre .0))
+    (c .before .before .before .before .before .before .before .before .before .before .before .before .before .pre .1)
+    (c .before .before .before .before .before .before .before .before .key .ensures .0 (omega
+    (arith, c .before .before .before .before .before .before .before .if1 .taken))) (c .before .before .before .before .before .begins .ensures
+    (c .before .before .before .before .if2 .taken)) (c .before .before .before .before .before .before .before .before .before .before .before .before .before .pre .0 .4)))
+    (c .keep-block .ensures (c .before .before .before .before .before .before .before .before .key .result)
+    (c .before .before .before .before .before .before .before .before .before .before .before .before .before .args .p) (roundsOf
+    (c .before .before .before .before .before .before .before .before .before .before .before .before .before .args .t .now)
+    (c .before .before .before .before .before .before .before .before .before .before .before .before .before .args .s .now)
+    (c .before .before .before .before .before .before .before .before .before .before .before .before .before .args .cells .now)
+    (c .before .before .before .before .before .before .before .before .before .before .before .before .before .args .n)
+    (c .before .before .before .before .before .before .before .before .before .before .before .before .before .args .y)
+    (c .before .before .before .before .before .before .before .before .before .before .before .before .before .args .p)))) refl
 
 returns-2 : tie.Need-returns-2
 returns-2 c = learnt (c .before .before .before .before .before .before .before .before .before .before .before .before .before .args .t .now)
@@ -139,8 +169,7 @@ returns-2 c = learnt (c .before .before .before .before .before .before .before 
     (omega (
       arith,
       c .before .before .many .ensures,
-      rounds-next
-          (c .before .before .before .before .before .before .before .before .before .before .before .before .before .args .t .now)
+      rounds-next (c .before .before .before .before .before .before .before .before .before .before .before .before .before .args .t .now)
           (c .before .before .before .before .before .before .before .before .before .before .before .before .before .args .s .now)
           (c .before .before .before .before .before .before .before .before .before .before .before .before .before .args .cells .now)
           (c .before .before .before .before .before .before .before .before .before .before .before .before .before .args .n)
@@ -162,6 +191,7 @@ learn-byte-spec =
     add-begins
     begins-requires
     lengthen-requires
+    keep-block-requires
     add-many
     many-requires
     add-note

@@ -5,8 +5,9 @@ use mathlib.Core.List.{List}
 use mathlib.Core.Logic.{_⊎_}
 use Rattle.match_eval.specs.steps.Memory.{About, endOf, Front}
 
--- what stands before the entries is as it was, and an entry is about what it was about and says the same of it, or says that rounds of parts with key k take c
--- bytes from p on
+-- what stands before the entries is as it was; what an entry is about some entry was about, and it says the same of it, or it says that rounds of parts with
+-- key k take c bytes from p on
 pub record Noted (k p c : ℕ) (old new : List ℕ) : Type 0 where
   pub front : Front old new
-  pub at : (i j q : ℕ) → q < 65536 → About new i j q → (About old i j q × (endOf new i ≡ endOf old i)) ⊎ ((j ≡ k) × (q ≡ p) × (endOf new i ≡ p + c))
+  pub at : (i j q : ℕ) → q < 65536 → About new i j q
+      → ((z : ℕ) × About old z j q × (endOf new i ≡ endOf old z)) ⊎ ((j ≡ k) × (q ≡ p) × (endOf new i ≡ p + c))
