@@ -32,7 +32,7 @@ HERE = os.path.join(TOP, "tests", "library")
 ARM = platform.machine() == "aarch64"
 RANDOM_COUNT, RANDOM_SEED = 10000, 12
 NODE_QUESTIONS, NAME_QUESTIONS = 1000, 1000
-STACK_KIB = {True: 544, False: 512}  # whether on x86-64: what the header asks for, and the harness gives its threads
+STACK_KIB = 512  # what the header asks for, and the harness gives its threads
 WRAPPER_COUNT = 300
 # the commands that the tests call, and Debian's packages that have them
 PACKAGES = {"gcc": ["gcc", "libc6-dev"], "node": ["nodejs"], "chromium": ["chromium"]}
@@ -211,8 +211,8 @@ def worst_questions():
     for _, grammar, text, expected in stack.cases():
         rules, given = known.field(grammar.encode()), known.field(text.encode())
         cells = min(64 * (len(text) + 1), 16384)
-        questions += [f"match lake {rules} {given} {cells} 4096", f"lake lake {rules} {given} {cells} 1 0", f"sets lake {rules} 1", f"skip lake {rules}",
-                      f"read lake {rules}", f"own lake {rules} 100000", f"plain lake {rules} 200000", f"plain plain {rules} 200000",
+        questions += [f"match lake {rules} {given} {cells} 4096", f"lake lake {rules} {given} {cells} 1 0", f"lake lake {rules} {given} {cells} 2 0",
+                      f"sets lake {rules} 1", f"skip lake {rules}", f"read lake {rules}", f"own lake {rules} 100000", f"plain lake {rules} 200000", f"plain plain {rules} 200000",
                       f"name lake {rules} 1 34", f"name plain {rules} 0 38"]
         firsts.append(expected[0])
     return questions, firsts
@@ -230,7 +230,7 @@ def check_worst(target, got, others):
     bad += sum(mine != theirs or mine in ("broken", "unreadable") for mine, theirs in zip(got, others)) + abs(len(got) - len(questions))
     if bad:
         wrong(f"{target.name}: {bad} answers on the worst grammars are broken or others than expected")
-    used = f", stack {int(target.said):,} bytes" if "Node" in target.name else f", two threads at once, {STACK_KIB['x86-64' in target.name]} KiB of stack each"
+    used = f", stack {int(target.said):,} bytes" if "Node" in target.name else f", two threads at once, {STACK_KIB} KiB of stack each"
     print(f"library: {target.name}: {len(questions)} questions on the worst grammars, {bad} wrong{used}")
 
 

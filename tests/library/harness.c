@@ -10,12 +10,7 @@
 #include <string.h>
 #include "gurkenmond.h"
 
-#ifdef __x86_64__
-enum { STACK = 544 << 10 };
-#else
-enum { STACK = 512 << 10 };
-#endif
-enum { GUARD = 32, GUARD_BYTE = 0xA5, ROOM_BYTE = 0xEE, FIELDS = 8 };
+enum { STACK = 512 << 10, GUARD = 32, GUARD_BYTE = 0xA5, ROOM_BYTE = 0xEE, FIELDS = 8 };
 static const uint32_t FRESH = 3735928559u;
 
 /* ── what is printed ── */
