@@ -93,13 +93,16 @@ fn run_on(mem: &mut Memory, k: usize, p: usize, c: usize)
     }
 }
 
-// Rounds of key k take c bytes from p on, the first of them perhaps more than one: that is kept for p itself too.
+// Rounds of key k take c bytes from p on, the first of them perhaps more than one: that is kept for p itself too, and for its block, so that the list, which
+// comes back when the places in between are forgotten, walks no further than to a block that it passes this way.
 fn remember(mem: &mut Memory, k: usize, p: usize, c: usize)
     requires { ⌜ (0 < k) × (k ≤ 1025) × (p < 65535) × (0 < c) × (c ≤ 65535) ⌝ }
     ensures { λ _. ⌜ Noted k p c (now (mem .entry)) (now (mem .exit)) ⌝ }
 {
     let i = slot(mem, k, p);
     note(mem, i, k, p, c);
+    let m = block(mem, k, p);
+    note(mem, m, k, p, c);
     run_on(mem, k, p, c);
 }
 
