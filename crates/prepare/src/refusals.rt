@@ -16,7 +16,7 @@ fn text_bound(mode: Mode) -> usize
     }
 }
 
-// Refusals 1 to 5 in order of check; number 0 where there is none. Where there is no refusal 4 one order of the names serves 4 and 5.
+// Refusals 1 to 5 in order of check; number 0 where there is none.
 pub fn refused(mode: Mode, text: &[u8]) -> Found
     ensures { λ r. ⌜ r ≡ found (scanned mode (now (text .entry))) ⌝ }
 {
@@ -28,20 +28,14 @@ pub fn refused(mode: Mode, text: &[u8]) -> Found
     if f.number != 0 {
         return f;
     }
-    let q = read_names::lefts::unruled_use(mode, text);
-    if q == read_names::lefts::GIVEN_UP {
-        let p = read_names::lefts::second_left(mode, text);
-        if p != 0 {
-            return syntax::refuse(4, p - 1);
-        }
-        let u = read_walks::unruled_walked(mode, text);
-        if u != 0 {
-            return syntax::refuse(5, u - 1);
-        }
-        return syntax::refuse(0, 0);
+    let names = read_names::lefts::refused(mode, text);
+    let p = names.second;
+    if p != 0 {
+        return syntax::refuse(4, p - 1);
     }
-    if q != 0 {
-        return syntax::refuse(5, q - 1);
+    let u = names.unruled;
+    if u != 0 {
+        return syntax::refuse(5, u - 1);
     }
     syntax::refuse(0, 0)
 }

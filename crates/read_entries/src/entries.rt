@@ -18,7 +18,7 @@ use grammar_table::note;
 use grammar_table::records::symbols;
 use read_tokens::Mode;
 use read_tokens::chars::char_at;
-use read_tokens::classes::class_at;
+use read_tokens::classes::class_end;
 
 // The byte at a place; 0 behind the text's end.
 fn byte(text: &[u8], at: usize) -> usize
@@ -124,8 +124,9 @@ fn bit_of(x: bool) -> usize
 }
 
 // The record of a class by its 256 marks.
-fn class_row(marks: [bool; 256]) -> [u32; TERMINAL_WORDS]
-    ensures { λ r. ⌜ r ≡ leafRow 2 256 (map bitOf marks) ⌝ }
+fn class_row(marks: &[bool; 256]) -> [u32; TERMINAL_WORDS]
+    requires { ⌜ length (now marks) ≡ 256 ⌝ }
+    ensures { λ r. ⌜ r ≡ leafRow 2 256 (map bitOf (now (marks .entry))) ⌝ }
 {
     let mut row = [0; TERMINAL_WORDS];
     put(&mut row, 0, 2);
@@ -148,9 +149,13 @@ fn leaf_row(mode: Mode, text: &[u8], kind: u8, start: usize, size: usize) -> [u3
         return literal_row(text, start + 1, size);
     }
     if kind == read_tokens::CLASS {
-        let c = class_at(mode, text, start);
-        let m = c.marks;
-        return class_row(m);
+        let mut marks = [false; 256];
+        let next = class_end(mode, text, start, &mut marks);
+        if next == 0 {
+            let none = [false; 256];
+            return class_row(&none);
+        }
+        return class_row(&marks);
     }
     [0; TERMINAL_WORDS]
 }

@@ -32,6 +32,9 @@ pub struct Counts {
     pub expressions: usize,
 }
 
+// The count of symbols that says so.
+const TOO_MANY: usize = 65;
+
 // The place behind the token at a place; at the text's end the place itself.
 fn over(mode: Mode, text: &[u8], at: usize) -> usize
     requires { ⌜ at ≤ length (now text) ⌝ }
@@ -75,7 +78,8 @@ fn begins_at(mode: Mode, text: &[u8], at: usize) -> bool
 }
 
 // ── symbols ──
-// Notes the symbol of a token, if an arrow follows it or every one is asked for.
+// Notes the symbol of a token, if an arrow follows it or every one is asked for. Where there are too many already nothing would change, so that it is not
+// looked for: a text of 1 MiB can have 175,000 of them.
 fn mark(mode: Mode, text: &[u8], every: bool, at: usize, t: &mut [u32]) -> usize
     requires { ⌜ (at ≤ length (now text)) × (length (now text) ≤ 1048576) ⌝ }
     ensures { λ r. ⌜ Marked every mode (now (text .entry)) at r (now (t .entry)) (now (t .exit)) ⌝ }
@@ -89,6 +93,9 @@ fn mark(mode: Mode, text: &[u8], every: bool, at: usize, t: &mut [u32]) -> usize
         return at;
     }
     if read_tokens::LAKE < kind {
+        return next;
+    }
+    if symbols(t) == TOO_MANY {
         return next;
     }
     if every {

@@ -6,11 +6,11 @@ ghost use mathlib.Core.List.{[]};
 ghost use Prim.Native.Nat.{_≤_, _<_};
 ghost use lib.ListN.{length, set};
 ghost use Rattle.read_tokens.specs.Tokens.{tokenAt, lexemes};
-ghost use Rattle.read_syntax.specs.Reading.{leftsIn, second, unruled};
+ghost use Rattle.read_syntax.specs.Reading.{second};
 ghost use Rattle.read_walks.specs.steps.Names.{placed};
 ghost use Rattle.read_order.specs.steps.Order.{symbolIn, inText, Fits, TokenOf};
 ghost use Rattle.read_names.specs.steps.Lefts.{markedName, Finds, Ranged, Entered, MetAll, UsedAll, placeBy};
-ghost use Rattle.read_names.specs.steps.Lefts.{Walked, Swept4, Swept5, Whole, Held, Answer};
+ghost use Rattle.read_names.specs.steps.Lefts.{Walked, Swept4, Swept5, Whole, Held, Answer, second4, Upto, Told};
 use base_words::word;
 use read_order::NONE;
 use read_order::Range;
@@ -26,6 +26,7 @@ use read_walks::is_left;
 use read_walks::name_start;
 use read_walks::reserved_name;
 use read_walks::second_walked;
+use read_walks::unruled_walked;
 
 // Which names of a range have been passed.
 pub type Marks = [bool; 19456];
@@ -41,7 +42,7 @@ const LOST: usize = 2;
 const RANGES: usize = 64;
 
 // Nothing is found, and a slower way has to be gone.
-pub const GIVEN_UP: usize = 4294967296;
+const GIVEN_UP: usize = 4294967296;
 
 fn set_mark(marks: &mut [bool], j: usize)
     requires { ⌜ j < length (now marks) ⌝ }
@@ -240,18 +241,18 @@ fn place_of(mode: Mode, text: &[u8], at: usize) -> usize
     t.start + 1
 }
 
-// Refusal 4: 1 + the place of the leftmost second left side or reserved name; 0 where there is none.
-pub fn second_left(mode: Mode, text: &[u8]) -> usize
-    requires { ⌜ length (now text) < 4294967296 ⌝ }
+// Refusal 4 where no name up to `from` is refused so: 1 + the place of the leftmost second left side or reserved name; 0 where there is none.
+fn second_from(mode: Mode, text: &[u8], from: usize, a: &mut Room) -> usize
+    requires { ⌜ (length (now text) < 4294967296) × Fits (now text) (now a) × inText (now text) from
+        × Upto mode (now text) (second4 mode (now text)) from (length (now text)) ⌝ }
     ensures { λ r. ⌜ r ≡ placed (second mode [] (lexemes mode (now (text .entry)))) ⌝ }
 {
-    let mut a: Room = [0; 19456];
-    let mut low: usize = 0;
+    let mut low = from;
     let mut limit = text.len();
     let mut passed: usize = 0;
     while passed < RANGES {
-        let c = gather(mode, text, low, &mut a);
-        limit = second_in(mode, text, &a, c, limit);
+        let c = gather(mode, text, low, a);
+        limit = second_in(mode, text, a, c, limit);
         if limit == GIVEN_UP {
             return second_walked(mode, text);
         }
@@ -264,13 +265,34 @@ pub fn second_left(mode: Mode, text: &[u8]) -> usize
     second_walked(mode, text)
 }
 
-// Refusal 5 where there is no refusal 4: 1 + the place of the first use of a nonterminal without a rule; 0 where there is none. One order of the names serves
-// both; given up where there is refusal 4.
-pub fn unruled_use(mode: Mode, text: &[u8]) -> usize
+// 1 + the places of refusals 4 and 5; 0 where there is none. That of 5 is told only where there is no 4.
+pub struct Places {
+    pub second: usize,
+    pub unruled: usize,
+}
+
+// Both where that of 4 is known and the names are not in order.
+fn walked(mode: Mode, text: &[u8], p: usize) -> Places
+    requires { ⌜ (length (now text) < 4294967296) × (p ≡ placed (second mode [] (lexemes mode (now text)))) ⌝ }
+    ensures { λ r. ⌜ Told mode (now (text .entry)) r ⌝ }
+{
+    if p != 0 {
+        return Places {
+            second: p,
+            unruled: 0,
+        };
+    }
+    let u = unruled_walked(mode, text);
+    Places {
+        second: 0,
+        unruled: u,
+    }
+}
+
+// One order of the names serves both refusals. Where a range shows that there is refusal 4, the leftmost place is sought in this range and those behind it.
+pub fn refused(mode: Mode, text: &[u8]) -> Places
     requires { ⌜ length (now text) < 4294967296 ⌝ }
-    ensures { λ r. ⌜ ((r ≡ 4294967296 → ⊥)
-        → (0 ≡ placed (second mode [] (lexemes mode (now (text .entry)))))
-        × (r ≡ placed (unruled (leftsIn (lexemes mode (now (text .entry)))) (lexemes mode (now (text .entry)))))) ⌝ }
+    ensures { λ r. ⌜ Told mode (now (text .entry)) r ⌝ }
 {
     let mut a: Room = [0; 19456];
     let mut low: usize = 0;
@@ -280,13 +302,19 @@ pub fn unruled_use(mode: Mode, text: &[u8]) -> usize
         let c = gather(mode, text, low, &mut a);
         limit = unruled_in(mode, text, &a, c, limit);
         if limit == GIVEN_UP {
-            return GIVEN_UP;
+            let p = second_from(mode, text, low, &mut a);
+            return walked(mode, text, p);
         }
         low = c.high;
         if low == 0 {
-            return place_of(mode, text, limit);
+            let u = place_of(mode, text, limit);
+            return Places {
+                second: 0,
+                unruled: u,
+            };
         }
         passed += 1;
     }
-    GIVEN_UP
+    let p = second_walked(mode, text);
+    walked(mode, text, p)
 }

@@ -12,17 +12,17 @@ use borrow.Author.Tests.{eq-eqb, ne-eqb, le-leb, lt-leb, eqb-true}
 use Rattle.read_tokens.specs.declared.Mode.{Mode}
 use Rattle.read_tokens.specs.declared.Mode.the-variants.{Lake, Plain}
 use Rattle.read_tokens.specs.declared.classes.Item as declared
-use Rattle.read_tokens.specs.declared.classes.Class.{Class}
 use Rattle.read_tokens.specs.Token as spec
 use Rattle.read_tokens.specs.Token.{leaf, class}
 use Rattle.read_tokens.specs.Chars.{char, Range, range, Item, item, ranged, dashed, started, listed, Body, shut, broken, also, byWidth, shutBy, body}
-use Rattle.read_tokens.specs.Tokens.{tok, badAt, among, turned, someTrue, classMarks, classToken, classBy, bracket}
+use Rattle.read_tokens.specs.Tokens.{tok, badAt, someTrue, classMarks, classToken, classBy, bracket}
 use Rattle.read_tokens.specs.laws.Tests.{by-test}
-use Rattle.read_tokens.specs.laws.Marks.{paint, paintAll, turnAll, painted, painted-turned, paints-length, table-length}
+use Rattle.read_tokens.specs.laws.Marks.{paint, paintAll, turnAll, painted, painted-turned, paints-length}
+use Rattle.read_tokens.specs.laws.Classes.{marks-length}
 use Rattle.read_tokens.specs.laws.Turning.{turnFrom, turns, someFrom, somes}
 use Rattle.read_tokens.specs.laws.Passing.{from, passed}
 use Rattle.read_tokens.specs.laws.Forward.{Ended, body-ended}
-use Rattle.read_tokens.specs.steps.Code.{itemIs, itemOf, Painted, caretAt, noClass, classIs, classAt, coded, made}
+use Rattle.read_tokens.specs.steps.Code.{itemIs, itemOf, Painted, caretAt, noClass, Class, classIs, classAt, Filled, coded, made}
 use Rattle.read_tokens.proofs.CharSteps.{suffix, first-at, inside}
 
 -- ── an item ──
@@ -169,6 +169,18 @@ unfolding someFrom
 mark-end i l h = let e : 256 - i ≡ 0 = omega arith in sym (ap (λ (n : ℕ). someFrom i n l) e)
 
 -- ── the class ──
+pub filled-none : (c : Class) (new : List Bool) → noClass ≡ c → Filled c new 0
+filled-none c new e = record { ends = ap (λ (x : Class). x .next) e; marks = λ z. absurd (z refl) }
+
+pub filled-is : (c : Class) (new : List Bool) (r : ℕ) → (let d : Class = record { marks = new; next = r } in d) ≡ c → Filled c new r
+filled-is c new r e = record { ends = ap (λ (x : Class). x .next) e; marks = λ z. ap (λ (x : Class). x .marks) e }
+
+pub filled-as : {c d : Class} (new : List Bool) (r : ℕ) → c ≡ d → Filled c new r → Filled d new r
+filled-as new r e f = subst (λ (x : Class). Filled x new r) e f
+
+pub unmarked : (o : Body) (old new : List Bool) (r : ℕ) → old ≡ replicate 256 false → Painted o old new r → Painted o (replicate 256 false) new r
+unmarked o old new r e p = subst (λ (l : List Bool). Painted o l new r) e p
+
 pub settled-yes : (l : List Bool) (e : ℕ) → someFrom 0 256 l ≡ true → (let c : Class = record { marks = l; next = e } in c) ≡ classIs (classToken (someFrom 0 256 l) l 0 e)
 settled-yes l e h = sym (ap (λ (x : Bool). classIs (classToken x l 0 e)) h)
 
@@ -212,10 +224,6 @@ turned-all l e = ap (λ (n : ℕ). turnFrom 0 n l) (sym e) ∙ turns l
 painted-length : (new : List Bool) (rs : List Range) → new ≡ paintAll rs (replicate 256 false) → length new ≡ 256
 painted-length new rs e = ap length e ∙ paints-length rs (replicate 256 false) ∙ length-replicate 256 false
 
-marks-length : (c : Bool) (rs : List Range) → length (classMarks c rs) ≡ 256
-unfolding classMarks
-marks-length c rs = table-length (λ b. turned c (among b rs)) 0 256
-
 settled-same : {a b : List Bool} {d e : ℕ} → length a ≡ 256 → a ≡ b → d ≡ e → classIs (classToken (someFrom 0 256 a) a 0 d) ≡ classIs (classToken (someTrue b) b 0 e)
 settled-same {a} {b} {d} {e} h x y =
     ap (λ (z : Bool). classIs (classToken z a 0 d)) (ap (λ (n : ℕ). someFrom 0 n a) (sym h) ∙ somes a) ∙ same x y
@@ -242,8 +250,8 @@ module _ (new : List Bool) (r : ℕ) where
       (classToken (someFrom 0 256 new) new 0 r) ≡ classIs (classBy false 0 (rest s i))
   plain-is s i f = plain-go (rest s i) (some-listed s i f)
 
-  turned-go : (o : Body) → Some o → Painted o (replicate 256 false) new r → (r ≡ 0 → ⊥) → classIs (classToken (someFrom 0 256 (turnFrom 0 256 new))
-      (turnFrom 0 256 new) 0 r) ≡ classIs (classBy true 0 o)
+  turned-go : (o : Body) → Some o → Painted o (replicate 256 false) new r → (r ≡ 0 → ⊥)
+      → classIs (classToken (someFrom 0 256 (turnFrom 0 256 new)) (turnFrom 0 256 new) 0 r) ≡ classIs (classBy true 0 o)
   unfolding classBy
   turned-go (shut [] e) u p z = absurd u
   turned-go (shut (x ∷ rs) e) u p z =
@@ -317,13 +325,16 @@ caret-inside Lake s i e = inside s i 94 (eqb-true (getD s i 256) 94 e) (omega ar
 
 -- ── the token ──
 abbrev Plainly : ℕ → spec.Token → Type 0
-Plainly i t = (classIs t .next ≡ 0 → coded (badAt i) ≡ coded t) × ((classIs t .next ≡ 0 → ⊥) → made 5 i (classIs t .next) 0 ≡ coded t)
+Plainly i t =
+    (classIs t .next ≡ 0 → coded (badAt i) ≡ coded t)
+    × ((classIs t .next ≡ 0 → ⊥) → made 5 i (classIs t .next) 0 ≡ coded t)
+    × (classIs t .next ≡ 0 → noClass ≡ classIs t)
 
 bad-plainly : (i : ℕ) → Plainly i (badAt i)
-bad-plainly i = ((λ z. refl), (λ z. absurd (z refl)))
+bad-plainly i = ((λ z. refl), (λ z. absurd (z refl)), (λ z. refl))
 
 marked-plainly : (x : Bool) (l : List Bool) (i e : ℕ) → 0 < e → Plainly i (classToken x l i e)
-marked-plainly true l i e h = ((λ z. absurd (omega arith)), (λ z. refl))
+marked-plainly true l i e h = ((λ z. absurd (omega arith)), (λ z. refl), (λ z. absurd (omega arith)))
 marked-plainly false l i e h = bad-plainly i
 
 class-plainly : (c : Bool) (i : ℕ) (o : Body) (a n : ℕ) → Ended o a n → Plainly i (classBy c i o)
@@ -343,13 +354,15 @@ bracket-plainly Lake i (b ∷ l) =
     (λ _. class-plainly true i (body 93 listed 0 (suc (suc i)) l) (suc (suc i)) (suc (suc i) + length l) (body-ended 93 listed 0 (suc (suc i)) l (suc (suc i) + length l) (omega arith)))
     (class-plainly false i (body 93 listed 0 (suc i) (b ∷ l)) (suc i) (suc i + length (b ∷ l)) (body-ended 93 listed 0 (suc i) (b ∷ l) (suc i + length (b ∷ l)) (omega arith)))
 
-module _ (m : Mode) (s : List ℕ) (i : ℕ) (c : Class) (e : c ≡ classAt m s i) where
-  pub token-bad : c .next ≡ 0 → coded (badAt i) ≡ coded (bracket m i (drop (suc i) s))
+module _ (m : Mode) (s : List ℕ) (i : ℕ) (new : List Bool) (r : ℕ) (f : Filled (classAt m s i) new r) where
+  pub class-ended : Filled (classAt m s i) new r × (r ≡ 0 → noClass ≡ classAt m s i)
   unfolding classAt
-  token-bad z = bracket-plainly m i (drop (suc i) s) .0 (sym (ap (λ (x : Class). x .next) e) ∙ z)
+  class-ended = (f, (λ z. bracket-plainly m i (drop (suc i) s) .2 (sym (f .ends) ∙ z)))
 
-  pub token-class : (c .next ≡ 0 → ⊥) → made 5 i (c .next) 0 ≡ coded (bracket m i (drop (suc i) s))
+  pub token-bad : r ≡ 0 → coded (badAt i) ≡ coded (bracket m i (drop (suc i) s))
   unfolding classAt
-  token-class z =
-      ap (λ (x : Class). made 5 i (x .next) 0) e
-      ∙ bracket-plainly m i (drop (suc i) s) .1 (λ x. z (ap (λ (x : Class). x .next) e ∙ x))
+  token-bad z = bracket-plainly m i (drop (suc i) s) .0 (sym (f .ends) ∙ z)
+
+  pub token-class : (r ≡ 0 → ⊥) → made 5 i r 0 ≡ coded (bracket m i (drop (suc i) s))
+  unfolding classAt
+  token-class z = ap (λ (x : ℕ). made 5 i x 0) (f .ends) ∙ bracket-plainly m i (drop (suc i) s) .1 (λ x. z (f .ends ∙ x))

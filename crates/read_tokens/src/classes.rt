@@ -1,12 +1,13 @@
 // A class, read into 256 marks (01, Notation, and "Required forms by place").
 ghost use Prim.Native.Nat.{suc, _≤_, _<_, _+_, _-_};
 ghost use mathlib.Core.Path.{_≡_};
-ghost use lib.ListN.{length, drop, getD};
+ghost use mathlib.Core.Bool.{false};
+ghost use lib.ListN.{length, drop, getD, replicate};
 ghost use Rattle.read_tokens.specs.Chars.{listed, body};
 ghost use Rattle.read_tokens.specs.Tokens.{classToken, classBy};
 ghost use Rattle.read_tokens.specs.laws.Marks.{paint};
 ghost use Rattle.read_tokens.specs.laws.Turning.{turnFrom, someFrom};
-ghost use Rattle.read_tokens.specs.steps.Code.{itemIs, itemOf, Painted, caretAt, noClass, classIs, classAt};
+ghost use Rattle.read_tokens.specs.steps.Code.{itemIs, itemOf, Painted, caretAt, noClass, classIs, classAt, Filled};
 use super::Mode;
 use super::chars::byte_at;
 use super::chars::char_at;
@@ -125,50 +126,31 @@ fn some_set(marks: &[bool; 256], hint: usize) -> bool
     any_set(marks)
 }
 
-// The marks of a class, and the place behind it. A bad one: no mark, and 0.
-pub struct Class {
-    pub marks: [bool; 256],
-    pub next: usize,
-}
-
-fn no_class() -> Class
-    ensures { λ r. ⌜ r ≡ noClass ⌝ }
+// "A class without bytes" is bad: the place behind it, or 0. `hint`: a byte that it may have.
+fn settled(marks: &[bool; 256], next: usize, hint: usize) -> usize
+    ensures { λ r. ⌜ Filled (classIs (classToken (someFrom 0 256 (now (marks .entry))) (now (marks .entry)) 0 next)) (now (marks .entry)) r ⌝ }
 {
-    Class {
-        marks: [false; 256],
-        next: 0,
+    if some_set(marks, hint) {
+        return next;
     }
+    0
 }
 
-// "A class without bytes" is bad. `hint`: a byte that it may have.
-fn settled(marks: [bool; 256], next: usize, hint: usize) -> Class
-    ensures { λ r. ⌜ r ≡ classIs (classToken (someFrom 0 256 marks) marks 0 next) ⌝ }
-{
-    if some_set(&marks, hint) {
-        return Class {
-            marks: marks,
-            next: next,
-        };
-    }
-    no_class()
-}
-
-// The class of what is listed from `at` on, or its complement. "A class with nothing listed" is bad.
-fn class_from(text: &[u8], at: usize, complement: bool) -> Class
-    requires { ⌜ at ≤ length (now text) ⌝ }
-    ensures { λ r. ⌜ r ≡ classIs (classBy complement 0 (body 93 listed 0 at (drop at (now (text .entry))))) ⌝ }
+// The class of what is listed from `at` on, or its complement, into marks of which none is set. "A class with nothing listed" is bad.
+fn class_from(text: &[u8], at: usize, complement: bool, marks: &mut [bool; 256]) -> usize
+    requires { ⌜ (at ≤ length (now text)) × (now marks ≡ replicate 256 false) ⌝ }
+    ensures { λ r. ⌜ Filled (classIs (classBy complement 0 (body 93 listed 0 at (drop at (now (text .entry)))))) (now (marks .exit)) r ⌝ }
 {
     let b = byte_at(text, at);
     if b == 93 {
-        return no_class();
+        return 0;
     }
-    let mut marks = [false; 256];
-    let next = set_items(text, at, &mut marks);
+    let next = set_items(text, at, marks);
     if next == 0 {
-        return no_class();
+        return 0;
     }
     if complement {
-        turn(&mut marks);
+        turn(marks);
         return settled(marks, next, 0);
     }
     settled(marks, next, b as usize)
@@ -184,17 +166,19 @@ fn is_caret(mode: Mode, b: u32) -> bool
     }
 }
 
-// The class whose `[` stands at `at`.
-pub fn class_at(mode: Mode, text: &[u8], at: usize) -> Class
-    ensures { λ r. ⌜ r ≡ classAt mode (now (text .entry)) at ⌝ }
+// The place behind the class whose `[` stands at `at`, and its bytes into marks of which none is set; a bad one: 0. The marks are lent, since a class is
+// passed over more often than it is kept.
+pub fn class_end(mode: Mode, text: &[u8], at: usize, marks: &mut [bool; 256]) -> usize
+    requires { ⌜ now marks ≡ replicate 256 false ⌝ }
+    ensures { λ r. ⌜ Filled (classAt mode (now (text .entry)) at) (now (marks .exit)) r × (r ≡ 0 → noClass ≡ classAt mode (now (text .entry)) at) ⌝ }
 {
     if text.len() <= at {
-        return no_class();
+        return 0;
     }
     let from = at + 1;
     let b = byte_at(text, from);
     if is_caret(mode, b) {
-        return class_from(text, from + 1, true);
+        return class_from(text, from + 1, true, marks);
     }
-    class_from(text, from, false)
+    class_from(text, from, false, marks)
 }

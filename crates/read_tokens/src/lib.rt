@@ -15,7 +15,7 @@ pub mod names;
 
 use chars::byte_at;
 use chars::literal_at;
-use classes::class_at;
+use classes::class_end;
 use kinds::kind_of;
 use names::blanks;
 use names::name_end;
@@ -169,8 +169,8 @@ fn class_token(mode: Mode, text: &[u8], at: usize) -> Token
     requires { ⌜ at < length (now text) ⌝ }
     ensures { λ r. ⌜ r ≡ coded (bracket mode at (drop (suc at) (now (text .entry)))) ⌝ }
 {
-    let c = class_at(mode, text, at);
-    let next = c.next;
+    let mut marks = [false; 256];
+    let next = class_end(mode, text, at, &mut marks);
     if next == 0 {
         return plain(BAD, at, at + 1);
     }

@@ -11,10 +11,9 @@ use lib.Dec.{eqb}
 use lib.ListN.{length, getD, take, drop, replicate}
 use lib.Seq.{getD-take, getD-drop}
 use Rattle.read_tokens.specs.declared.Mode.{Mode}
-use Rattle.read_tokens.specs.declared.classes.Class.{Class}
 use Rattle.read_tokens.specs.Token.{Symbol, name, lake, Leaf, any, literal, class, Tok, symbol, leaf}
 use Rattle.read_tokens.specs.Tokens.{tokenAt}
-use Rattle.read_tokens.specs.steps.Code.{kindOf, sizeOf, coded, literalFrom, classAt}
+use Rattle.read_tokens.specs.steps.Code.{kindOf, sizeOf, coded, literalFrom, classAt, Class}
 use Rattle.read_tokens.specs.laws.Again.{name-again, lake-again, literal-again, class-again}
 use Rattle.grammar.specs.Exp.{sym as symb, ter}
 use Rattle.grammar_table.specs.Table.{terminalsAt, terminalWords, symbolsAt, symbolWords, symbolKey, terminalKey, wordsFrom}
@@ -51,7 +50,8 @@ module _ (m : Mode) (s : List ℕ) (at kind start size : ℕ) (h : Symbol) (e : 
       by : (k k′ i i′ n n′ : ℕ) → k ≡ k′ → i ≡ i′ → n ≡ n′ → symbolAt s k i n ≡ symbolAt s k′ i′ n′
       by k k′ i i′ n n′ p q r = rw (p, q, r) refl
 
-pub occurs : {s : List ℕ} {kind start size r : ℕ} {old new : List ℕ} → r ≡ seek old (symbolAt s kind start size) symbolKey symbolWords symbolsAt (kept old 0) → new ≡ pushed 1 r 0 old → Occurs s kind start size old new
+pub occurs : {s : List ℕ} {kind start size r : ℕ} {old new : List ℕ} → r ≡ seek old (symbolAt s kind start size) symbolKey symbolWords symbolsAt (kept old 0) → new ≡
+    pushed 1 r 0 old → Occurs s kind start size old new
 occurs {s} {kind} {start} {size} {r} {old} {new} q p = record {
   same = λ m at h e a b c u i.
       subst (λ (x : List ℕ). Rel x (lay (symb h) u)) (sym p)
@@ -79,7 +79,8 @@ module _ (m : Mode) (s : List ℕ) (at kind start size : ℕ) (x : Leaf) (e : to
       by : (k k′ i i′ n n′ : ℕ) → k ≡ k′ → i ≡ i′ → n ≡ n′ → leafAt m s k i n ≡ leafAt m s k′ i′ n′
       by k k′ i i′ n n′ p q r = rw (p, q, r) refl
 
-pub matches : {m : Mode} {s : List ℕ} {kind start size r : ℕ} {old t₁ new : List ℕ} → Noted old t₁ (leafAt m s kind start size) 1 terminalKey terminalWords terminalsAt r → new ≡ pushed 0 r 0 t₁ → Matches m s kind start size old new
+pub matches : {m : Mode} {s : List ℕ} {kind start size r : ℕ} {old t₁ new : List ℕ} → Noted old t₁ (leafAt m s kind start size) 1 terminalKey terminalWords terminalsAt r
+    → new ≡ pushed 0 r 0 t₁ → Matches m s kind start size old new
 matches {m} {s} {kind} {start} {size} {r} {old} {t₁} {new} q p = record {
   same = λ at x e a b c u i.
       subst (λ (y : List ℕ). Rel y (lay (ter x) u)) (sym p)

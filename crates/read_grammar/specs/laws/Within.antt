@@ -5,18 +5,17 @@ use mathlib.Core.Bool.{Bool, true, false, cond, false≢true, true≢false}
 use mathlib.Core.List.{List, [], _∷_, _++_}
 use mathlib.Core.Option.{Option, none, some}
 use native.Mathlib.Omega.{arith}
-use lib.Dec.{eqb, ltb}
-use lib.ListN.{length, replicate, length-replicate, drop}
+use lib.Dec.{ltb}
+use lib.ListN.{length}
 use borrow.Author.Tests.{ltb-false}
 use Rattle.read_tokens.specs.declared.Mode.{Mode}
 use Rattle.read_tokens.specs.declared.Mode.the-variants.{Lake, Plain}
-use Rattle.read_tokens.specs.declared.classes.Class.{Class}
 use Rattle.read_tokens.specs.Token.{Symbol, name, lake, Leaf, any, literal, class, Tok, symbol, leaf, pre, suf, arrow, slash, opens, closes, bad, Lexeme}
 use Rattle.read_tokens.specs.Bounds.{nameBound, literalBound}
-use Rattle.read_tokens.specs.Chars.{Range, Body, shut, broken, listed, body}
-use Rattle.read_tokens.specs.Tokens.{tokenAt, toksOf, toks, lexemes, lexemesFrom, byEnd, table, someTrue, classMarks, classToken, classBy, bracket}
-use Rattle.read_tokens.specs.steps.Code.{classIs, classAt}
+use Rattle.read_tokens.specs.Tokens.{tokenAt, toksOf, toks, lexemes, lexemesFrom, byEnd}
+use Rattle.read_tokens.specs.steps.Code.{Class}
 use Rattle.read_tokens.specs.laws.Again.{class-again}
+use Rattle.read_tokens.specs.laws.Classes.{at-256}
 use Rattle.grammar.specs.Same.{isIn}
 use Rattle.read_syntax.specs.Machine.{State, Judged, fine, syntax, wide, step, over, longLeaf, openIn, judgeBy, judge}
 use Rattle.grammar_table.specs.laws.Rows.{also, adds, also-in, also-new, All}
@@ -27,43 +26,6 @@ use Rattle.read_syntax.specs.Reader.{isArrow}
 use mathlib.Core.Bool.{_||_}
 
 -- ── a class has 256 marks ──
-table-length : (f : ℕ → Bool) (i n : ℕ) → length (table f i n) ≡ n
-unfolding table
-table-length f i zero = refl
-table-length f i (suc n) = ap suc (table-length f (suc i) n)
-
-marks-length : (c : Bool) (rs : List Range) → length (classMarks c rs) ≡ 256
-unfolding classMarks
-marks-length c rs = table-length _ 0 256
-
-none-length : length {A = Bool} (replicate 256 false) ≡ 256
-none-length = length-replicate 256 false
-
-marked-256 : (x : Bool) (l : List Bool) (i e : ℕ) → length l ≡ 256 → length (classIs (classToken x l i e) .marks) ≡ 256
-marked-256 true l i e h = h
-marked-256 false l i e h = none-length
-
-class-256 : (c : Bool) (i : ℕ) (o : Body) → length (classIs (classBy c i o) .marks) ≡ 256
-unfolding classBy
-class-256 c i broken = none-length
-class-256 c i (shut [] e) = none-length
-class-256 c i (shut (r ∷ rs) e) = marked-256 (someTrue (classMarks c (r ∷ rs))) (classMarks c (r ∷ rs)) i e (marks-length c (r ∷ rs))
-
-bracket-256 : (m : Mode) (i : ℕ) (l : List ℕ) → length (classIs (bracket m i l) .marks) ≡ 256
-unfolding bracket
-bracket-256 Plain i [] = none-length
-bracket-256 Lake i [] = none-length
-bracket-256 Plain i (b ∷ l) = class-256 false i (body 93 listed 0 (suc i) (b ∷ l))
-bracket-256 Lake i (b ∷ l) = by (eqb b 94)
-  where
-    by : (x : Bool) → length (classIs (elim x [ true ↦ classBy true i (body 93 listed 0 (suc (suc i)) l) | false ↦ classBy false i (body 93 listed 0 (suc i) (b ∷ l)) ]) .marks) ≡ 256
-    by true = class-256 true i (body 93 listed 0 (suc (suc i)) l)
-    by false = class-256 false i (body 93 listed 0 (suc i) (b ∷ l))
-
-at-256 : (m : Mode) (s : List ℕ) (at : ℕ) → length (classAt m s at .marks) ≡ 256
-unfolding classAt
-at-256 m s at = bracket-256 m at (drop (suc at) s)
-
 abbrev Marked256 : Tok → Type 0
 Marked256 (symbol h) = Unit {0}
 Marked256 (leaf any) = Unit {0}

@@ -24,7 +24,7 @@ use Rattle.read_tokens.specs.laws.Here.{is-end, is-token}
 use Rattle.read_walks.specs.laws.Hits.{all-none, all-next}
 use Rattle.read_walks.specs.laws.Offences.{walked, at-token, walked-into, none-lacks, this-lacks, later-lacks}
 use Rattle.read_order.specs.steps.Order.{above, notAbove, within}
-use Rattle.read_names.specs.steps.Lefts.{Finds, leftAt, Met, MetAll, UsedAll, placeBy, second4, lacks5, Clear, Struck, Swept, Whole, Answer}
+use Rattle.read_names.specs.steps.Lefts.{Finds, leftAt, Met, MetAll, UsedAll, placeBy, second4, lacks5, Clear, Struck, Swept, Upto, Whole, Answer}
 use Rattle.read_order.specs.laws.Order.{above-none, above-or, up-none}
 
 -- ── all left sides ──
@@ -227,20 +227,14 @@ module _ (m : Mode) (s a : List ℕ) (low high n : ℕ) where
 
 -- ── all ranges ──
 module _ (m : Mode) (s : List ℕ) (bad : ℕ → Tok → Bool) where
-  -- no symbol up to `low` is bad before the limit
-  pub record Upto (low limit : ℕ) : Type 0 where
-    pub less : limit ≤ length s
-    pub clear : Clear m s bad (λ x. not (above s low x)) limit
-    pub why : (limit ≡ length s) ⊎ Struck m s bad limit
-
-  pub upto-none : Upto 0 (length s)
+  pub upto-none : Upto m s bad 0 (length s)
   upto-none = record { less = omega arith; clear = λ j h l q w. absurd (false≢true (ap not (above-none s 0 h refl) ∙ w)); why = inl refl }
 
   -- the range of the names above a bound
   pub swept-low : (b low high limit r : ℕ) → b ≡ low → Swept m s bad (within s b high) limit r → Swept m s bad (within s low high) limit r
   swept-low b low high limit r e p = subst (λ (x : ℕ). Swept m s bad (within s x high) limit r) e p
 
-  module _ {low limit : ℕ} (g : Upto low limit) (high r : ℕ) (p : Swept m s bad (within s low high) limit r) where
+  module _ {low limit : ℕ} (g : Upto m s bad low limit) (high r : ℕ) (p : Swept m s bad (within s low high) limit r) where
     within-limit : r ≤ length s
     within-limit = omega (arith, p .less, g .less)
 
@@ -257,7 +251,7 @@ module _ (m : Mode) (s : List ℕ) (bad : ℕ → Tok → Bool) where
         go true e = p .clear j h l q (ap₂ (λ (x y : Bool). x && y) e (f h w))
         go false e = g .clear j h (omega (arith, l, p .less)) q (ap not e)
 
-    pub upto-next : (high ≡ 0 → ⊥) → Upto high r
+    pub upto-next : (high ≡ 0 → ⊥) → Upto m s bad high r
     upto-next f =
         record {
           less = within-limit;
@@ -362,7 +356,8 @@ module _ (m : Mode) (s : List ℕ) where
           let d : k - suc j + suc j ≡ k = omega arith in
           ⊎-elim
           (λ (y : walkTo m s (k - suc j + suc j) ≡ walkTo m s (suc j)).
-          let z : walkTo m s k .at ≡ walkTo m s (suc j) .at = ap (λ (i : ℕ). walkTo m s i .at) (sym d) ∙ ap (λ (w : Walk). w .at) y in omega (arith, z, ap (λ (w : Walk). w .at) p, n, f .behind, f .long))
+          let z : walkTo m s k .at ≡ walkTo m s (suc j) .at = ap (λ (i : ℕ). walkTo m s i .at) (sym d) ∙ ap (λ (w : Walk). w .at) y in
+          omega (arith, z, ap (λ (w : Walk). w .at) p, n, f .behind, f .long))
           (λ (y : walkTo m s (suc j) .at < walkTo m s (k - suc j + suc j) .at).
           let z : walkTo m s (suc j) .at < walkTo m s k .at = subst (λ (i : ℕ). walkTo m s (suc j) .at < walkTo m s i .at) d y in omega (arith, z, ap (λ (w : Walk). w .at) p, n, f .behind, f .long))
           (moves m s (suc j) (k - suc j))

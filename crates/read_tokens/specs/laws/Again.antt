@@ -12,13 +12,32 @@ use lib.Seq.{drop-drop}
 use Rattle.read_tokens.specs.Kinds.{kindAt}
 use Rattle.read_tokens.specs.declared.Mode.{Mode}
 use Rattle.read_tokens.specs.declared.Mode.the-variants.{Lake, Plain}
-use Rattle.read_tokens.specs.declared.classes.Class.{Class}
 use Rattle.read_tokens.specs.Token.{Symbol, name, lake, Leaf, any, literal, class, Tok, symbol, leaf, pre, suf, arrow, slash, opens, closes, bad, Token}
 use Rattle.read_tokens.specs.Chars.{Char, char, Range, range, Item, single, listed, Body, shut, broken, also, byWidth, shutBy, body}
-use Rattle.read_tokens.specs.Tokens.{tok, badAt, skip, nameByte, nameSpan, lakeBy, angle, lowOf, literalBy, someTrue, classMarks, classToken, classBy, bracket, preOf, sufOf, byKind, tokenFrom, tokenAt}
+use Rattle.read_tokens.specs.Tokens.{
+  tok,
+  badAt,
+  skip,
+  nameByte,
+  nameSpan,
+  lakeBy,
+  angle,
+  lowOf,
+  literalBy,
+  someTrue,
+  classMarks,
+  classToken,
+  classBy,
+  bracket,
+  preOf,
+  sufOf,
+  byKind,
+  tokenFrom,
+  tokenAt,
+}
 use Rattle.read_tokens.specs.laws.Tests.{by-test, by-cond}
 use Rattle.read_tokens.specs.laws.Passing.{from, passed}
-use Rattle.read_tokens.specs.steps.Code.{literalFrom, classIs, classAt}
+use Rattle.read_tokens.specs.steps.Code.{literalFrom, classIs, classAt, Class}
 
 -- ── a literal ──
 -- one turn, from its end
@@ -142,7 +161,8 @@ module _ (m : Mode) (s : List ℕ) where
   less-held Plain i (b ∷ l) h = by-cond Holds (eqb b 45) _ _ tt tt
   less-held Lake i (b ∷ l) h =
       by-test Holds (eqb b 45) _ _ (λ _. tt) (
-      by-test Holds (eqb (kindAt b) 2) _ _ (λ _. lake-held i (nameSpan (b ∷ l)) (drop (length (nameSpan (b ∷ l))) (b ∷ l)) (ap (λ (x : List ℕ). take (length (nameSpan (b ∷ l))) x) h ∙ span-take (b ∷ l))) tt)
+      by-test Holds (eqb (kindAt b) 2) _ _ (λ _. lake-held i (nameSpan (b ∷ l)) (drop (length (nameSpan (b ∷ l))) (b ∷ l))
+      (ap (λ (x : List ℕ). take (length (nameSpan (b ∷ l))) x) h ∙ span-take (b ∷ l))) tt)
 
   class-here : (i : ℕ) (l : List ℕ) → drop (suc i) s ≡ l → classAt m s i ≡ classIs (bracket m i l)
   unfolding classAt
@@ -188,7 +208,7 @@ module _ (m : Mode) (s : List ℕ) (at : ℕ) where
   pub literal-again : (l : List ℕ) → tokenAt m s at .is ≡ some (leaf (literal l)) → literalFrom (length l) s (suc (tokenAt m s at .start)) ≡ l
   literal-again l e = known e
 
-  -- what `class_at` gives at the token's place
+  -- what `class_end` gives at the token's place
   pub class-again : (l : List Bool) → tokenAt m s at .is ≡ some (leaf (class l))
       → classAt m s (tokenAt m s at .start) ≡ (let c : Class = record { marks = l; next = tokenAt m s at .next } in c)
   class-again l e = known e

@@ -14,7 +14,6 @@ use Rattle.read_tokens.specs.declared.Token.{Token}
 use Rattle.read_tokens.specs.declared.chars.Char.{Char}
 use Rattle.read_tokens.specs.declared.chars.Count.{Count}
 use Rattle.read_tokens.specs.declared.classes.Item.{Item}
-use Rattle.read_tokens.specs.declared.classes.Class.{Class}
 use Rattle.read_tokens.specs.Token as spec
 use Rattle.read_tokens.specs.Token.{Tok, name, lake, any, literal, class, amp, bang, query, asterisk, cross, symbol, leaf, pre, suf, arrow}
 use Rattle.read_tokens.specs.Token.{slash, opens, closes, bad}
@@ -104,6 +103,11 @@ abbrev pub caretAt : Mode → ℕ → Bool
 caretAt Lake b = eqb b 94
 caretAt Plain b = false
 
+-- the marks of a class, and the place behind it
+pub record Class : Type 0 where
+  pub marks : List Bool
+  pub next : ℕ
+
 -- a bad class: no mark, and 0
 abbrev pub noClass : Class
 noClass = record { marks = replicate 256 false; next = 0 }
@@ -135,3 +139,8 @@ classIs t = classOf (t .is) (t .next)
 -- the class whose `[` stands at a place
 unfoldable pub classAt : Mode → List ℕ → ℕ → Class
 classAt m s at = classIs (bracket m at (drop (suc at) s))
+
+-- what is promised of marks that a class is read into: they are the class's; of a bad one only that it is one
+pub record Filled (c : Class) (new : List Bool) (r : ℕ) : Type 0 where
+  pub ends : r ≡ c .next
+  pub marks : (r ≡ 0 → ⊥) → new ≡ c .marks

@@ -1,8 +1,7 @@
 -- `prepare::refusals::refused` meets its contract. Assumes nothing.
-use Prim.Native.Nat.{ℕ, _≤_, _<_}
-use mathlib.Core.Path.{_≡_, refl, sym, ap, _∙_}
+use Prim.Native.Nat.{_≤_}
+use mathlib.Core.Path.{_∙_}
 use native.Mathlib.Omega.{arith}
-use lib.ListN.{length}
 use Rattle.read_tokens.specs.declared.Mode.{Mode}
 use Rattle.read_tokens.specs.declared.Mode.the-variants.{Lake, Plain}
 use Rattle.read_tokens.specs.Bounds.{textBound}
@@ -10,14 +9,6 @@ use Rattle.prepare.specs.laws.Chain.{too-long, syntax-refuses, second-re
 use borrow.Author.Needs.{needs}
 use Rattle.prepare.proofs.refusals.refused.Statement.{statement}
 use Rattle.prepare.proofs.refusals.refused.Tie as tie
-use Rattle.prepare.proofs.refusals.refused.Reads as reads
-use Rattle.prepare.proofs.refusals.refused.Lts as lts
-use Rattle.prepare.proofs.refusals.text_bound.Reads as text-bound-reads
-use Rattle.read_names.proofs.lefts.second_left.Reads as second-left-reads
-use Rattle.read_names.proofs.lefts.unruled_use.Reads as unruled-use-reads
-use Rattle.read_syntax.proofs.syntax.offending.Reads as offending-reads
-use Rattle.read_syntax.proofs.syntax.refuse.Reads as refuse-reads
-use Rattle.read_walks.proofs.unruled_walked.Reads as unruled-walked-reads
 
 bound-small : (m : Mode) → textBound m ≤ 1048576
 unfolding textBound
@@ -42,20 +33,12 @@ returns-2 c = syntax-refuses (c .before .before .before .before .before .before 
     (c .before .before .before .before .text-bound .result) (c .before .before .before .before .text-bound .ensures) (omega (arith, c .before .before .before .if1 .left))
     (c .before .before .offending .result) (c .before .before .offending .ensures) (c .if2 .taken)
 
-unruled-use-requires : tie.Need-unruled-use-requires
-unruled-use-requires c κs = omega (
+refused-requires : tie.Need-refused-requires
+refused-requires c κs = omega (
   arith,
   bound-small (c .before .before .before .before .before .before .args .mode),
   c .before .before .before .before .text-bound .ensures,
   c .before .before .before .if1 .left,
-)
-
-second-left-requires : tie.Need-second-left-requires
-second-left-requires c κs = omega (
-  arith,
-  bound-small (c .before .before .before .before .before .before .before .before .args .mode),
-  c .before .before .before .before .before .before .text-bound .ensures,
-  c .before .before .before .before .before .if1 .left,
 )
 
 sub-refuse : tie.Need-sub-refuse
@@ -65,21 +48,12 @@ refuse-requires-2 : tie.Need-refuse-requires-2
 refuse-requires-2 c κs = search needs
 
 returns-3 : tie.Need-returns-3
-returns-3 c = c .refuse2 .ensures ∙ second-refuses (c .before .before .before .before .before .before .before .before .before .before .before .args .mode)
-    (c .before .before .before .before .before .before .before .before .before .before .before .args .text .now)
-    (c .before .before .before .before .before .before .before .before .before .text-bound .result)
-    (c .before .before .before .before .before .before .before .before .before .text-bound .ensures)
-    (omega (arith, c .before .before .before .before .before .before .before .before .if1 .left)) (c .before .before .before .before .before .before .before .offending .result)
-    (c .before .before .before .before .before .before .before .offending .ensures) (c .before .before .before .before .before .if2 .left) (c .before .before .second-left .result)
-    (c .before .before .second-left .ensures) (c .before .if4 .taken)
-
-unruled-walked-requires : tie.Need-unruled-walked-requires
-unruled-walked-requires c κs = omega (
-  arith,
-  bound-small (c .before .before .before .before .before .before .before .before .before .before .args .mode),
-  c .before .before .before .before .before .before .before .before .text-bound .ensures,
-  c .before .before .before .before .before .before .before .if1 .left,
-)
+returns-3 c = c .refuse2 .ensures ∙ second-refuses (c .before .before .before .before .before .before .before .before .before .args .mode)
+    (c .before .before .before .before .before .before .before .before .before .args .text .now)
+    (c .before .before .before .before .before .before .before .text-bound .result) (c .before .before .before .before .before .before .before .text-bound .ensures)
+    (omega (arith, c .before .before .before .before .before .before .if1 .left))
+    (c .before .before .before .before .before .offending .result) (c .before .before .before .before .before .offending .ensures) (c .before .before .before .if2 .left)
+    (c .before .before .refused .result .second) (c .before .before .refused .ensures .four) (c .before .if3 .taken)
 
 sub-refuse-2 : tie.Need-sub-refuse-2
 sub-refuse-2 c = search needs
@@ -88,56 +62,25 @@ refuse-requires-3 : tie.Need-refuse-requires-3
 refuse-requires-3 c κs = search needs
 
 returns-4 : tie.Need-returns-4
-returns-4 c = c .refuse3 .ensures ∙ unruled-refuses (c .before .before .before .before .before .before .before .before .before .before .before .before .before .args .mode)
-    (c .before .before .before .before .before .before .before .before .before .before .before .before .before .args .text .now)
-    (c .before .before .before .before .before .before .before .before .before .before .before .text-bound .result)
-    (c .before .before .before .before .before .before .before .before .before .before .before .text-bound .ensures)
-    (omega (arith, c .before .before .before .before .before .before .before .before .before .before .if1 .left))
-    (c .before .before .before .before .before .before .before .before .before .offending .result)
-    (c .before .before .before .before .before .before .before .before .before .offending .ensures) (c .before .before .before .before .before .before .before .if2 .left)
-    (c .before .before .before .before .second-left .result) (c .before .before .before .before .second-left .ensures) (c .before .before .before .if4 .left)
-    (c .before .before .unruled-walked .result) (c .before .before .unruled-walked .ensures) (c .before .if5 .taken)
+returns-4 c = c .refuse3 .ensures ∙ unruled-refuses (c .before .before .before .before .before .before .before .before .before .before .args .mode)
+    (c .before .before .before .before .before .before .before .before .before .before .args .text .now)
+    (c .before .before .before .before .before .before .before .before .text-bound .result)
+    (c .before .before .before .before .before .before .before .before .text-bound .ensures) (omega (arith, c .before .before .before .before .before .before .before .if1 .left))
+    (c .before .before .before .before .before .before .offending .result) (c .before .before .before .before .before .before .offending .ensures)
+    (c .before .before .before .before .if2 .left) (c .before .before .before .refused .result .second) (c .before .before .before .refused .ensures .four) (c .before .before .if3 .left)
+    (c .before .before .before .refused .result .unruled) (c .before .before .before .refused .ensures .five (c .before .before .if3 .left)) (c .before .if4 .taken)
 
 refuse-requires-4 : tie.Need-refuse-requires-4
 refuse-requires-4 c κs = search needs
 
 returns-5 : tie.Need-returns-5
-returns-5 c = c .refuse4 .ensures ∙ none-refuses (c .before .before .before .before .before .before .before .before .before .before .before .before .before .args .mode)
-    (c .before .before .before .before .before .before .before .before .before .before .before .before .before .args .text .now)
-    (c .before .before .before .before .before .before .before .before .before .before .before .text-bound .result)
-    (c .before .before .before .before .before .before .before .before .before .before .before .text-bound .ensures)
-    (omega (arith, c .before .before .before .before .before .before .before .before .before .before .if1 .left))
-    (c .before .before .before .before .before .before .before .before .before .offending .result)
-    (c .before .before .before .before .before .before .before .before .before .offending .ensures) (c .before .before .before .before .before .before .before .if2 .left)
-    (c .before .before .before .before .second-left .result) (c .before .before .before .before .second-left .ensures) (c .before .before .before .if4 .left)
-    (c .before .before .unruled-walked .result) (c .before .before .unruled-walked .ensures) (c .before .if5 .left)
-
-sub-refuse-3 : tie.Need-sub-refuse-3
-sub-refuse-3 c = search needs
-
-refuse-requires-5 : tie.Need-refuse-requires-5
-refuse-requires-5 c κs = search needs
-
-returns-6 : tie.Need-returns-6
-returns-6 c = c .refuse5 .ensures ∙ unruled-refuses (c .before .before .before .before .before .before .before .before .before .before .args .mode)
+returns-5 c = c .refuse4 .ensures ∙ none-refuses (c .before .before .before .before .before .before .before .before .before .before .args .mode)
     (c .before .before .before .before .before .before .before .before .before .before .args .text .now)
-    (c .before .before .before .before .before .before .before .before .text-bound .result) (c .before .before .before .before .before .before .before .before .text-bound .ensures)
-    (omega (arith, c .before .before .before .before .before .before .before .if1 .left)) (c .before .before .before .before .before .before .offending .result)
-    (c .before .before .before .before .before .before .offending .ensures) (c .before .before .before .before .if2 .left) 0
-    (c .before .before .before .unruled-use .ensures (c .before .before .if3 .left) .0) refl (c .before .before .before .unruled-use .result)
-    (c .before .before .before .unruled-use .ensures (c .before .before .if3 .left) .1) (c .before .if6 .taken)
-
-refuse-requires-6 : tie.Need-refuse-requires-6
-refuse-requires-6 c κs = search needs
-
-returns-7 : tie.Need-returns-7
-returns-7 c = c .refuse6 .ensures ∙ none-refuses (c .before .before .before .before .before .before .before .before .before .before .args .mode)
-    (c .before .before .before .before .before .before .before .before .before .before .args .text .now)
-    (c .before .before .before .before .before .before .before .before .text-bound .result) (c .before .before .before .before .before .before .before .before .text-bound .ensures)
-    (omega (arith, c .before .before .before .before .before .before .before .if1 .left)) (c .before .before .before .before .before .before .offending .result)
-    (c .before .before .before .before .before .before .offending .ensures) (c .before .before .before .before .if2 .left) 0
-    (c .before .before .before .unruled-use .ensures (c .before .before .if3 .left) .0) refl (c .before .before .before .unruled-use .result)
-    (c .before .before .before .unruled-use .ensures (c .before .before .if3 .left) .1) (c .before .if6 .left)
+    (c .before .before .before .before .before .before .before .before .text-bound .result)
+    (c .before .before .before .before .before .before .before .before .text-bound .ensures) (omega (arith, c .before .before .before .before .before .before .before .if1 .left))
+    (c .before .before .before .before .before .before .offending .result) (c .before .before .before .before .before .before .offending .ensures)
+    (c .before .before .before .before .if2 .left) (c .before .before .before .refused .result .second) (c .before .before .before .refused .ensures .four) (c .before .before .if3 .left)
+    (c .before .before .before .refused .result .unruled) (c .before .before .before .refused .ensures .five (c .before .before .if3 .left)) (c .before .if4 .left)
 
 pub refused-spec : {M : Type 1} → statement M
 refused-spec =
@@ -148,19 +91,12 @@ refused-spec =
     returns
     offending-requires
     returns-2
-    unruled-use-requires
-    second-left-requires
+    refused-requires
     sub-refuse
     refuse-requires-2
     returns-3
-    unruled-walked-requires
     sub-refuse-2
     refuse-requires-3
     returns-4
     refuse-requires-4
-    returns-5
-    sub-refuse-3
-    refuse-requires-5
-    returns-6
-    refuse-requires-6
-    returns-7)
+    returns-5)

@@ -40,17 +40,17 @@ loop-holds c = (
       (c .before .put2 .ensures ∙ ap (λ (l : List ℕ). set l 1 256) (c .before .before .before .before .put .ensures))
       (grown (replicate terminalWords 0) (set (replicate terminalWords 0) 0 2) 0 2 258 refl refl),
   store-whole (c .before .put2 .last .0) 2
-      (map bitOf (c .before .before .before .before .before .before .args .t1)) (map bitOf (c .before .before .before .before .before .before .args .t1)) refl,
+      (map bitOf (c .before .before .before .before .before .before .args .marks .now)) (map bitOf (c .before .before .before .before .before .before .args .marks .now)) refl,
 )
 
-array-read-bit-of : tie.Need-array-read-bit-of Inv-loop μ-loop
-array-read-bit-of c = search needs
+element-copy-out-bit-of : tie.Need-element-copy-out-bit-of Inv-loop μ-loop
+element-copy-out-bit-of c = search needs
 
 bit-of-requires : tie.Need-bit-of-requires Inv-loop μ-loop
 bit-of-requires c κs = search needs
 
 slice-aggregate-put-3 : tie.Need-slice-aggregate-put-3 Inv-loop μ-loop
-slice-aggregate-put-3 c = sym (c .before .before .before .loop .inv .0)
+slice-aggregate-put-3 c = sym (c .before .before .before .before .loop .inv .0)
 
 add-put : tie.Need-add-put Inv-loop μ-loop
 add-put c = search needs
@@ -66,23 +66,23 @@ loop-less c = search needs
 
 loop-again : tie.Need-loop-again Inv-loop μ-loop
 loop-again c = (
-  grown (c .before .before .before .before .before .loop .row) (c .before .put3 .last .0) (2 + c .before .before .before .before .before .loop .i)
+  grown (c .before .before .before .before .before .before .loop .row) (c .before .put3 .last .0) (2 + c .before .before .before .before .before .before .loop .i)
       (c .before .before .before .bit-of .result) 258 (c .before .put3 .ensures)
-      (c .before .before .before .before .before .loop .inv .0),
-  c .before .before .before .before .before .loop .inv .1 ∙ marks-on
-      (c .before .before .before .before .before .before .before .before .before .before .before .before .args .t1) (c .before .before .before .before .before .loop .row)
-      (c .before .put3 .last .0) (c .before .before .before .before .before .loop .i) (c .before .before .before .bit-of .result)
-      (omega (arith, c .before .before .before .before .before .before .before .before .before .before .before .before .good, c .before .before .before .before .loop-test .taken))
+      (c .before .before .before .before .before .before .loop .inv .0),
+  c .before .before .before .before .before .before .loop .inv .1 ∙ marks-on
+      (c .before .before .before .before .before .before .before .before .before .before .before .before .before .args .marks .now) (c .before .before .before .before .before .before .loop .row)
+      (c .before .put3 .last .0) (c .before .before .before .before .before .before .loop .i) (c .before .before .before .bit-of .result)
+      (omega (arith, c .before .before .before .before .before .before .before .before .before .before .before .before .before .pre, c .before .before .before .before .before .loop-test .taken))
       (c .before .before .before .bit-of .ensures .0) (c .before .put3 .ensures),
 )
 
 returns : tie.Need-returns Inv-loop μ-loop
-returns c = sym (sym (class-row-is (c .before .before .before .before .before .before .before .before .args .t1) (c .before .before .before .put2 .last .0)
+returns c = sym (sym (class-row-is (c .before .before .before .before .before .before .before .before .args .marks .now) (c .before .before .before .put2 .last .0)
     (c .before .before .before .put2 .ensures ∙ ap (λ (l : List ℕ). set l 1 256)
     (c .before .before .before .before .before .before .put .ensures))) ∙ c .before .loop .inv .1 ∙ store-none (c .before .loop .row) (2 + c .before .loop .i)
-    (map bitOf (drop (c .before .loop .i) (c .before .before .before .before .before .before .before .before .args .t1)))
-    (marks-none (c .before .before .before .before .before .before .before .before .args .t1) (c .before .loop .i)
-    (omega (arith, c .before .before .before .before .before .before .before .before .good))))
+    (map bitOf (drop (c .before .loop .i) (c .before .before .before .before .before .before .before .before .args .marks .now)))
+    (marks-none (c .before .before .before .before .before .before .before .before .args .marks .now) (c .before .loop .i)
+    (omega (arith, c .before .before .before .before .before .before .before .before .pre))))
 
 pub class-row-spec : {M : Type 1} → statement M
 class-row-spec =
@@ -95,7 +95,7 @@ class-row-spec =
     slice-aggregate-put-2
     put-requires-2
     loop-holds
-    array-read-bit-of
+    element-copy-out-bit-of
     bit-of-requires
     slice-aggregate-put-3
     add-put

@@ -1,41 +1,35 @@
--- `lefts::second_left` meets its contract. Assumes nothing.
-use Prim.Native.Nat.{ℕ, _+_, _-_, _/_, _≤_, _<_}
-use mathlib.Core.Path.{_≡_, refl, sym, ap, _∙_, subst}
+-- `lefts::second_from` meets its contract. Assumes nothing.
+use Prim.Native.Nat.{_-_}
+use mathlib.Core.Path.{sym, subst}
 use native.Mathlib.Omega.{arith}
 use Rattle.read_order.specs.steps.Order.{inText, Fits}
-use Rattle.read_names.specs.steps.Lefts.{second4}
-use Rattle.read_order.specs.laws.Order.{fits-none, fits-new}
-use Rattle.read_names.specs.laws.Sweeps.{Upto, upto-none, upto-next, upto-all, swept-low, second-says}
+use Rattle.read_names.specs.steps.Lefts.{second4, Upto}
+use Rattle.read_names.specs.laws.Sweeps.{upto-next, upto-all, swept-low, second-says}
 use borrow.Author.Needs.{needs}
-use Rattle.read_names.proofs.lefts.second_left.Statement.{statement}
-use Rattle.read_names.proofs.lefts.second_left.Tie as tie
-use Rattle.read_names.proofs.lefts.second_left.Reads as reads
-use Rattle.read_names.proofs.lefts.second_left.Lts as lts
+use Rattle.read_names.proofs.lefts.second_from.Statement.{statement}
+use Rattle.read_names.proofs.lefts.second_from.Tie as tie
+use Rattle.read_names.proofs.lefts.second_from.Reads as reads
+use Rattle.read_names.proofs.lefts.second_from.Lts as lts
 use Rattle.read_order.proofs.gather.Reads as gather-reads
 use Rattle.read_names.proofs.lefts.place_of.Reads as place-of-reads
 use Rattle.read_names.proofs.lefts.second_in.Reads as second-in-reads
 use Rattle.read_walks.proofs.second_walked.Reads as second-walked-reads
 
 abbrev Inv-loop : tie.InvT-loop
-Inv-loop mode text a₀ low₀ limit₀ passed₀ a low limit passed = Fits text a × inText text low × Upto mode text (second4 mode text) low limit
+Inv-loop mode text from a₀ low₀ limit₀ passed₀ a low limit passed = Fits text a × inText text low × Upto mode text (second4 mode text) low limit
 
 abbrev μ-loop : tie.MeasureT-loop
-μ-loop mode text a₀ low₀ limit₀ passed₀ a low limit passed = 64 - passed
+μ-loop mode text from a₀ low₀ limit₀ passed₀ a low limit passed = 64 - passed
 
 loop-holds : tie.Need-loop-holds Inv-loop μ-loop
-loop-holds c = (
-  fits-new (c .before .args .text .now) 19456,
-  fits-none (c .before .args .text .now),
-  upto-none (c .before .args .mode) (c .before .args .text .now)
-      (second4 (c .before .args .mode) (c .before .args .text .now)),
-)
+loop-holds c = (c .before .pre .1, c .before .pre .2, c .before .pre .3)
 
 gather-requires : tie.Need-gather-requires Inv-loop μ-loop
-gather-requires c κs = (c .before .before .before .before .pre, c .before .before .loop .inv .0, c .before .before .loop .inv .1)
+gather-requires c κs = (c .before .before .before .before .pre .0, c .before .before .loop .inv .0, c .before .before .loop .inv .1)
 
 second-in-requires : tie.Need-second-in-requires Inv-loop μ-loop
 second-in-requires c κs = (
-  c .before .before .before .before .before .before .pre,
+  c .before .before .before .before .before .before .pre .0,
   record {
     fits = c .before .gather .ensures .fits;
     from = subst
@@ -103,8 +97,8 @@ second-walked-requires-2 c κs = search needs
 returns-3 : tie.Need-returns-3 Inv-loop μ-loop
 returns-3 c = search needs
 
-pub second-left-spec : {M : Type 1} → statement M
-second-left-spec =
+pub second-from-spec : {M : Type 1} → statement M
+second-from-spec =
     tie.close
     (tie.spec
     Inv-loop
