@@ -18,6 +18,7 @@ CASES = [
     ("a body that looks far ahead", "s <- t*\nt <- 'x'* 'y' / .\n"),
     ("a guard that looks far ahead", "s <- t*\nt <- !('x'* 'y') .\n"),
     ("an option that looks far ahead", "s <- t*\nt <- ('x'* 'y')? .\n"),
+    ("a run that is asked for beside a symbol", "s <- ('x'* 'y' / t)*\nt <- .\n"),
 ]
 
 
