@@ -240,7 +240,7 @@ def worst_cases():
         ("two_runs_then_y", "s <- ('a'* 'b'* 'y' / .)*\n", lambda n: "a" * (n // 2) + "b" * (n - n // 2)),
         ("symbol_run_then_y", "s <- t*\nt <- 'x'* 'y' / .\n", lambda n: "x" * n),
         ("run_then_y_or_symbol", "s <- ('a'* 'y' / b)*\nb <- .\n", lambda n: "a" * n),
-        ("runs_then_y_or_symbol", "s <- ('a'* 'y' / b)*\nb <- .\n", lambda n: ("a" * (n // 3) + "b") * 3),
+        ("runs_then_y_or_symbol", "s <- ('a'* 'y' / b)*\nb <- .\n", lambda n: ("a" * (n // 3 - 1) + "b") * 3),
         ("rest_ahead_of_symbol", "s <- (&(.*) b)*\nb <- .\n", lambda n: "a" * n),
         ("rounds_of_640", f"s <- b*\nb <- {long}\n", lambda n: "0123456789abcdef" * (n // 16)),
         ("rest_behind_16", "s <- (b &(.*))*\nb <- '0123456789abcdef'\n", lambda n: "0123456789abcdef" * (n // 16)),
