@@ -49,13 +49,13 @@ pub const ENDS: usize = 2;
 pub const TEXT: usize = 65536;
 
 // Entries for places of their own: no key has more. Behind them as many for blocks of places, then one for the newest run of each key.
-pub const ENTRIES: usize = 1024;
+pub const ENTRIES: usize = 2048;
 
-pub const BLOCKS: usize = 1024;
+pub const BLOCKS: usize = 2048;
 
-pub const RUNS: usize = 2048;
+pub const RUNS: usize = 4096;
 
-pub const WORDS: usize = 27931;
+pub const WORDS: usize = 34075;
 
 pub type Memory = [u32; WORDS];
 

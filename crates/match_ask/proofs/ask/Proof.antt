@@ -78,7 +78,7 @@ fill-requires c κs = (
     omega
         (arith, c .before .before .before .before .before .before .before .if1 .left),
   ),
-  fresh-none (c .before .before .before .before .before .before .before .before .before .before .args .plain .now) 27931 (omega arith),
+  fresh-none (c .before .before .before .before .before .before .before .before .before .before .args .plain .now) 34075 (omega arith),
 )
 
 way-requires : tie.Need-way-requires
@@ -93,7 +93,7 @@ way-requires c κs =
         omega (arith, c .before .before .before .before .before .before .before .before .before .before .before .before .before .if1 .left),
         omega (arith, c .before .before .before .before .before .before .before .before .if4 .left),
       ),
-      knows-nothing _ _ _ _ _ _ 27931,
+      knows-nothing _ _ _ _ _ _ 34075,
     )
 
 way-of-requires : tie.Need-way-of-requires

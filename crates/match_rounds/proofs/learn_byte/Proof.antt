@@ -136,7 +136,7 @@ returns c = learnt (c .before .before .before .before .before .before .before .b
     (c .before .before .before .before .before .before .before .before .before .before .before .before .before .args .n)
     (c .before .before .before .before .before .before .before .before .before .before .before .before .before .args .y)
     (c .before .before .before .before .before .before .before .before .key .result)
-    (2048 + c .before .before .before .before .before .before .before .before .key .result)
+    (4096 + c .before .before .before .before .before .before .before .before .key .result)
     (c .before .before .before .before .before .before .before .before .before .before .before .before .before .args .p) (omega
     (arith, c .before .before .before .before .before .before .before .before .before .before .before .before .before .pre .0))
     (omega (arith, c .before .before .before .before .before .before .before .before .before .before .before .before .before .pre .0))

@@ -54,7 +54,7 @@ fill-requires c κs = (
     omega
         (arith, c .before .before .before .before .if1 .left),
   ),
-  fresh-none (c .before .before .before .before .before .before .before .before .args .t .now) 27931 (omega arith),
+  fresh-none (c .before .before .before .before .before .before .before .before .args .t .now) 34075 (omega arith),
 )
 
 word-requires : tie.Need-word-requires

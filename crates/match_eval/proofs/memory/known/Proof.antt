@@ -50,7 +50,7 @@ returns-3 : tie.Need-returns-3
 returns-3 c = λ l.
     let a = c .before .says .ensures l in (
       c .before .before .before .before .before .before .key .result,
-      2048 + c .before .before .before .before .before .before .key .result,
+      4096 + c .before .before .before .before .before .before .key .result,
       c .before
           .before .before .before .before .before .key .ensures .0 (omega (arith, c .before .before .before .before .before .if1 .left)),
       a .0,
