@@ -3,11 +3,13 @@
      differs NAME SIZE WHAT                  they did not
      time NAME SIZE PEER SECONDS             the least CPU time of one call
      read NAME SIZE ANSWER PLACE             what gm_read answered
+     tree NAME SIZE BYTES                    the nodes as JSON text, ours and stdio's alike; else differs. Times of both follow, of NAME:tree
      over NAME SIZE                          not run: the sizes before it say that it would take longer than the case may
    LIST has lines `match NAME SIZE MODE GRAMMAR TEXT PEERS` and `read NAME SIZE MODE TEXT - o`, sizes of a name in ascending order. PEERS are of the letters
    o, t, l, f: ours, C table, LPeg with a tree of nodes, LPeg with a flat list. The time of ours is the whole call, reading and translating the grammar
    included; LPeg's pattern and the C table's grammar are made before. */
 #include "gurkenmond.h"
+#include "print.h"
 #include "table.h"
 #include <lauxlib.h>
 #include <lua-lpeg.h>
@@ -248,6 +250,61 @@ static double run(Case *c, const int *runs, const char *name, const char *size, 
     return least[OURS];
 }
 
+/* ---- the nodes of a match as JSON text */
+
+enum { SYMBOLS = 64, TREE_TURNS = 20 };
+
+static uint8_t *tree_room;
+static size_t tree_bytes;
+
+static double ours_writes(const Case *c)
+{
+    uint64_t out[4];
+    double start = now();
+    gm_write_json(c->mode, c->grammar.at, c->grammar.len, c->text.at, c->text.len, c->nodes[OURS], 4 * c->count[OURS], tree_room, tree_bytes, out);
+    return now() - start;
+}
+
+static double stdio_prints(const Case *c, FILE *to, char (*names)[GM_NAME_MOST + 1])
+{
+    double start = now();
+    print_tree(to, names, c->text.at, c->nodes[OURS], c->count[OURS]);
+    fflush(to);
+    return now() - start;
+}
+
+/* Ours writes to memory and stdio to nowhere, by turns; before that what stdio writes is compared with ours. */
+static void tree(Case *c, const char *name, const char *size)
+{
+    static char names[SYMBOLS][GM_NAME_MOST + 1];
+    uint64_t out[4];
+    memset(names, 0, sizeof names);
+    for (size_t r = 0; r < SYMBOLS; r++) gm_symbol_name(c->mode, c->grammar.at, c->grammar.len, r, (uint8_t *)names[r], GM_NAME_MOST, out);
+    gm_write_json(c->mode, c->grammar.at, c->grammar.len, c->text.at, c->text.len, c->nodes[OURS], 4 * c->count[OURS], (uint8_t *)names, 0, out);
+    tree_bytes = out[1];
+    tree_room = malloc(tree_bytes + 1);
+    char *printed = NULL;
+    size_t length = 0;
+    FILE *memory = open_memstream(&printed, &length), *nowhere = fopen("/dev/null", "w");
+    if (!tree_room || !memory || !nowhere) die("no room for the tree of", name);
+    print_tree(memory, names, c->text.at, c->nodes[OURS], c->count[OURS]);
+    fclose(memory);
+    double least[2] = {ours_writes(c), stdio_prints(c, nowhere, names)};
+    if (length != tree_bytes || memcmp(printed, tree_room, length))
+        printf("differs %s %s stdio: the tree as text\n", name, size);
+    else
+        printf("tree %s %s %zu\n", name, size, length);
+    for (int turn = 1; turn < TREE_TURNS; turn++) {
+        double taken[2] = {ours_writes(c), stdio_prints(c, nowhere, names)};
+        for (int who = 0; who < 2; who++)
+            if (taken[who] < least[who]) least[who] = taken[who];
+    }
+    printf("time %s:tree %s ours %.9f\ntime %s:tree %s stdio %.9f\n", name, size, least[0], name, size, least[1]);
+    fclose(nowhere);
+    free(printed);
+    free(tree_room);
+}
+
 int main(int argc, char **argv)
 {
     if (argc != 4) die("usage:", "measure LIST LUA SECONDS");
@@ -289,6 +346,7 @@ int main(int argc, char **argv)
             prepare(&c, runs, name);
         }
         double taken = run(&c, runs, name, size, seconds);
+        if (runs[FLAT] && !c.answer[OURS]) tree(&c, name, size);
         times = before > 0 ? taken / before : 16;
         before = taken;
         release(&c);

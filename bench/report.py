@@ -9,6 +9,7 @@ GROWTH = 4.4
 TABLE = 1.2
 LPEG = {"g": 0.15, "java": 1, "sums": 0.5, "calls": 0.6, "json": 0.4, "seldom": 2}
 READING = 5
+PRINTING = 3
 TITLES = {"g": "G", "java": "Java", "sums": "sums", "calls": "calls between water", "json": "JSON", "seldom": "57 rules that seldom begin"}
 BYTES = {"16K": 16384, "64K": 65536, "256K": 262144, "1M": 1048576}
 NEXT = {"1K": "4K", "4K": "16K", "16K": "64K"}
@@ -16,7 +17,7 @@ NEXT = {"1K": "4K", "4K": "16K", "16K": "64K"}
 
 class Measured:
     def __init__(self, path):
-        self.times, self.over, self.same, self.differs, self.reads = {}, set(), [], [], {}
+        self.times, self.over, self.same, self.differs, self.reads, self.trees = {}, set(), [], [], {}, {}
         with open(path, encoding="utf-8") as file:
             for line in file:
                 kind, name, size, *rest = line.split()
@@ -28,6 +29,8 @@ class Measured:
                     self.reads[name, size] = rest
                 elif kind == "same":
                     self.same.append((name, size))
+                elif kind == "tree":
+                    self.trees[name, size] = int(rest[0])
                 else:
                     self.differs.append(line.strip())
 
@@ -92,6 +95,15 @@ def on_worst(measured, aims):
         print(line + plain(measured.growth(name, "table", "16K")).rjust(11) + "|" + plain(measured.ratio(name, "16K", "table")).rstrip())
 
 
+def on_trees(measured, aims):
+    print(f"\nThe nodes as JSON text: our time over that of a C program that prints the same text with stdio; aim {PRINTING} at 64K. Behind it bytes a byte of text.\n")
+    print(f"{'':27}|{'4K':>9} {'16K':>9} {'64K':>9} |{'text':>9}")
+    for name, title in TITLES.items():
+        here = [measured.ratio(name + ":tree", size, "stdio") for size in ("4K", "16K", "64K")]
+        much = measured.trees.get((name, "64K"))
+        print(f"{title:27}|" + plain(here[0]) + plain(here[1]) + aims.judged(here[2], PRINTING) + "|" + plain(much and much / BYTES["64K"]).rstrip())
+
+
 def on_reading(measured, aims):
     assert measured.reads["lake", "16K"][0] == "0", "the lake text is refused"
     base = measured.times["lake", "16K", "ours"] / BYTES["16K"]
@@ -110,6 +122,7 @@ def main():
     print(f"answers: {len(measured.same)} texts alike, {len(measured.differs)} not: bytes taken, number of nodes, nodes; with the C table cells too\n")
     on_texts(measured, aims)
     on_worst(measured, aims)
+    on_trees(measured, aims)
     on_reading(measured, aims)
     print(f"\n{aims.met} aims met, {aims.missed} missed")
     if "--times" in sys.argv:

@@ -26,6 +26,7 @@ text { font-family: system-ui, -apple-system, 'Segoe UI', 'DejaVu Sans', sans-se
 .lake { fill: #dafbe1; stroke: #4ac26b; }
 .match { fill: #fff8c5; stroke: #d4a72c; }
 .write { fill: #fbefff; stroke: #c297ff; }
+.tree { fill: #fff1e5; stroke: #fb8f44; }
 .frame { fill: none; stroke: #8c959f; stroke-dasharray: 5 4; }
 .way { fill: none; stroke: #59636e; stroke-width: 1.6; }
 .tip { fill: #59636e; }
@@ -38,6 +39,7 @@ text { fill: #f0f6fc; }
 .lake { fill: #04260f; stroke: #2ea043; }
 .match { fill: #341a00; stroke: #bb8009; }
 .write { fill: #3c1e70; stroke: #8957e5; }
+.tree { fill: #3d1300; stroke: #db6d28; }
 .frame { stroke: #656c76; }
 .way { stroke: #9198a1; }
 .tip { fill: #9198a1; }
@@ -78,6 +80,7 @@ STAGES = {
     "lake": ("lakes made plain", ["lake_step_one", "lake_rules", "lake_sets", "lake_analysis", "lake_plain", "lake_step_two", "lake_calls"]),
     "match": ("a text into spans", ["match_meaning", "match_eval", "match_firsts", "match_keys", "match_rounds", "match_cells", "match_list", "match_derived", "match_desk", "match_walks", "match_nodes", "match_lake", "match_run", "match_ask"]),
     "write": ("a table into a text", ["write_rules", "write_leaves", "write_exp", "write_text", "write_put", "write_back"]),
+    "tree": ("spans as JSON and back", ["tree_list", "tree_json", "tree_write", "tree_read"]),
 }
 BELOW = ["grammar", "grammar_table", "base_facts", "base_words", "base_rounds"]
 
@@ -106,15 +109,17 @@ def stages():
     left, match_high, write_high = 75 + max(rows["read"], rows["lake"]), 58 + rows["match"], 63 + rows["write"]
     below = 146 + left
     write = 102 + match_high + 4
-    under = max(write + write_high, below + 60) + 8
-    picture = Picture(960, under + 42, "The stages: a grammar's text is read, its lakes are made plain; then a text is matched, or the grammar is written")
-    picture.text(480, 34, "programs: spans, plain_text, replay", "mono small soft", "middle")
+    tree, tree_high = write + write_high + 4, 58 + rows["tree"]
+    under = max(tree + tree_high, below + 60) + 8
+    picture = Picture(960, under + 42, "The stages: a grammar's text is read, its lakes are made plain; then a text is matched, its spans become JSON, or the grammar is written")
+    picture.text(480, 34, "programs: spans, blocks, plain_text, replay", "mono small soft", "middle")
     picture.way((480, 42), (480, 58))
     picture.box(20, 60, 920, 36, "box")
     picture.text(480, 83, "gurkenmond: the public calls", "head", "middle")
     picture.box(110, 116, 440, left + 42, "frame")
     picture.text(330, 134, "prepare: what every call does first, refusals 1 to 8", "small soft", "middle")
-    for name, x, y, height in (("read", 130, 146, left), ("lake", 360, 146, left), ("match", 610, 102, match_high), ("write", 610, write, write_high)):
+    for name, x, y, height in (("read", 130, 146, left), ("lake", 360, 146, left), ("match", 610, 102, match_high), ("write", 610, write, write_high),
+                               ("tree", 610, tree, tree_high)):
         stage(picture, name, x, y, height)
     picture.text(62, 220, "grammar", "small", "middle")
     picture.text(62, 236, "as text", "small", "middle")
@@ -135,6 +140,9 @@ def stages():
     picture.way((780, write + 45), (826, write + 45))
     picture.text(880, write + 42, "plain PEG,", "small", "middle")
     picture.text(880, write + 58, "or its own text", "small", "middle")
+    picture.way((912, 205), (946, 205), (946, tree + 30), (782, tree + 30))
+    picture.way((780, tree + 70), (826, tree + 70))
+    picture.text(880, tree + 74, "JSON", "small", "middle")
     picture.box(20, under, 920, 30, "box")
     picture.text(480, under + 20, "under all: " + ", ".join(BELOW), "mono small", "middle")
     return picture.svg()

@@ -8,7 +8,7 @@
    No proof covers either: the compiler's back end, the change of target for aarch64 and wasm32, the wrappers. They are tested.
 
    No call allocates, keeps anything, reads a clock or a file, or fails in another way; calls from several threads at once are fine.
-   Each fills `out` and returns out[0]: 0; a refusal's number 1 to 14, with its place in out[1]; or GM_NO_MATCH. Numbers not named here are 0.
+   Each fills `out` and returns out[0]: 0; a refusal's number 1 to 16, with its place in out[1]; or GM_NO_MATCH. Numbers not named here are 0.
    mode: GM_LAKE, every other byte is plain. A place is a byte's number, from 0. */
 #ifndef GURKENMOND_H
 #define GURKENMOND_H
@@ -52,6 +52,15 @@ uint64_t gm_node_text(const uint8_t *input, size_t input_len, const uint32_t *no
 /* out: 0, bytes written; or 13, bytes needed (room_len 0 asks for them). The grammar's own text, and its plain text. Refusals 1 to 8, 13 */
 uint64_t gm_write_own(uint8_t mode, const uint8_t *text, size_t text_len, uint8_t *room, size_t room_len, uint64_t out[4]);
 uint64_t gm_write_plain(uint8_t mode, const uint8_t *text, size_t text_len, uint8_t *room, size_t room_len, uint64_t out[4]);
+
+/* out: 0, bytes written; or 13, bytes needed. A node list as JSON text; nodes are all words of the list, 4 for each node. Refusals 1 to 9, 15, 13 */
+uint64_t gm_write_json(uint8_t mode, const uint8_t *text, size_t text_len, const uint8_t *input, size_t input_len,
+                       const uint32_t *nodes, size_t nodes_len, uint8_t *room, size_t room_len, uint64_t out[4]);
+
+/* out: 0, nodes; or 12, the nodes that there is room for. The node list that a JSON text says, of this grammar and input; all of it is written or
+   nothing. Refusals 1 to 9, 16, 12 */
+uint64_t gm_read_json(uint8_t mode, const uint8_t *text, size_t text_len, const uint8_t *input, size_t input_len,
+                      const uint8_t *json, size_t json_len, uint32_t *nodes, size_t nodes_len, uint64_t out[4]);
 
 /* out: 0, bytes written; or 13, bytes needed. The name of a symbol as it stands in the grammar, a lake's with its brackets. Refusals 1 to 8, 14, 13 */
 uint64_t gm_symbol_name(uint8_t mode, const uint8_t *text, size_t text_len, size_t symbol, uint8_t *room, size_t room_len, uint64_t out[4]);

@@ -13,6 +13,7 @@ export interface Written { kind: 'text'; text: string }
 export interface Names { kind: 'names'; names: string[] }
 export interface Node { symbol: number; name: string; start: number; end: number; depth: number }
 export interface Match { kind: 'match'; taken: number; nodes: Node[] }
+export interface Nodes { kind: 'nodes'; nodes: Node[] }
 export interface None { kind: 'none' }
 export interface Way { kind: 'way'; way: 'not' | 'rule' | 'water' | 'skip' }
 
@@ -29,6 +30,10 @@ export class Gurkenmond {
   /** Every symbol's name, by its number. */
   names(grammar: Text, mode?: Mode): Names | Refused;
   match(grammar: Text, input: Text, mode?: Mode): Match | None | Refused;
+  /** The tree of a match as JSON text; places in it are bytes of the input. */
+  json(grammar: Text, input: Text, mode?: Mode): Written | None | Refused;
+  /** The node list that such a text says, of the same grammar and input; any other text is refused 16. */
+  readJson(grammar: Text, input: Text, json: Text, mode?: Mode): Nodes | Refused;
   lakeAt(grammar: Text, input: Text, lake: number, place: number, mode?: Mode): Way | Refused;
 }
 

@@ -6,7 +6,7 @@
 
 const WHAT = ['', 'grammar text too long', 'syntax', 'name, literal or parentheses over their bound', 'name given twice, or reserved', 'name without a rule',
   'too many symbols, terminals or expressions', 'translation too large', 'loop', 'input too long', 'too few work cells', 'too deep', 'too many nodes',
-  'room too small', 'no such expression, symbol, lake or position'];
+  'room too small', 'no such expression, symbol, lake or position', 'not a list of nodes', 'not the JSON text of a list of nodes'];
 const LAST_IN_TEXT = 5; // refusals 1 to 5 have their place in the grammar's text
 const WAYS = ['not', 'rule', 'water', 'skip'], NO_MATCH = 100n, NODE_WORDS = 4, NODES_FIRST = 1 << 12, NODES_MOST = 1 << 18, ROOM_FIRST = 1 << 12;
 const GRAMMAR_MOST = 1048577, INPUT_MOST = 65536; // one byte more than any call takes: what is cut is refused as the whole is, 1 and 9
@@ -55,6 +55,12 @@ export class Gurkenmond {
     new Uint8Array(this.#calls.memory.buffer).set(text.bytes, start);
     return [start, BigInt(text.bytes.length)];
   }
+  #lendWords(words) {
+    const start = this.#room(4 * words.length);
+    new Uint32Array(this.#calls.memory.buffer, start, words.length).set(words);
+    return [start, BigInt(words.length)];
+  }
+  #words(start, count) { return new Uint32Array(this.#calls.memory.buffer, start, count).slice(); }
   #ask(call, ...given) {
     this.#calls[call](...given, this.#out);
     return Array.from(new BigUint64Array(this.#calls.memory.buffer, this.#out, 9));
@@ -82,11 +88,11 @@ export class Gurkenmond {
     }
   }
   // a call that writes: where the room is too small it says how many bytes it needs
-  #write(grammar, mode, call, ...more) {
+  #write(grammar, mode, call, more = () => []) {
     const text = new Text(grammar, GRAMMAR_MOST);
     for (let length = ROOM_FIRST; ;) {
       this.#start();
-      const lent = this.#lend(text), room = this.#room(length), out = this.#ask(call, number(mode), ...lent, ...more, room, BigInt(length));
+      const lent = [...this.#lend(text), ...more()], room = this.#room(length), out = this.#ask(call, number(mode), ...lent, room, BigInt(length));
       if (out[0] === 0n) return { kind: 'text', text: new TextDecoder().decode(new Uint8Array(this.#calls.memory.buffer, room, Number(out[1]))) };
       if (out[0] !== 13n) return this.#refused(text, out);
       length = Number(out[1]);
@@ -104,26 +110,50 @@ export class Gurkenmond {
   cannotSkip(grammar, mode = 'lake') { return this.#on(grammar, mode, 'gm_cannot_skip', [], out => ({ kind: 'lakes', lakes: bits(out[1]) })); }
   writeOwn(grammar, mode = 'lake') { return this.#write(grammar, mode, 'gm_write_own'); }
   writePlain(grammar, mode = 'lake') { return this.#write(grammar, mode, 'gm_write_plain'); }
-  symbolName(grammar, symbol, mode = 'lake') { return this.#write(grammar, mode, 'gm_symbol_name', count(symbol)); }
+  symbolName(grammar, symbol, mode = 'lake') { return this.#write(grammar, mode, 'gm_symbol_name', () => [count(symbol)]); }
   names(grammar, mode = 'lake') {
     const read = this.read(grammar, mode);
     return read.kind === 'refused' ? read : { kind: 'names', names: Array.from({ length: read.symbols }, (_, i) => this.symbolName(grammar, i, mode).text) };
   }
-  match(grammar, input, mode = 'lake') {
-    const text = new Text(grammar, GRAMMAR_MOST), given = new Text(input, INPUT_MOST);
-    let most = NODES_FIRST, nodes, out;
-    do {
-      out = this.#onInput(text, given, mode, 'gm_match', () => [nodes = this.#room(4 * NODE_WORDS * most), BigInt(NODE_WORDS * most)]);
-    } while (out[0] === 12n && (most *= 8) <= NODES_MOST);
-    if (out[0] === NO_MATCH) return { kind: 'none' };
-    if (out[0] !== 0n) return this.#refused(text, out);
-    const words = new Uint32Array(this.#calls.memory.buffer, nodes, NODE_WORDS * Number(out[2])).slice(), list = [], names = [];
+  // a match's numbers and node words
+  #matched(text, given, mode) {
+    for (let most = NODES_FIRST, nodes; ; most *= 8) {
+      const out = this.#onInput(text, given, mode, 'gm_match', () => [nodes = this.#room(4 * NODE_WORDS * most), BigInt(NODE_WORDS * most)]);
+      if (out[0] !== 12n || 8 * most > NODES_MOST) return { out, words: out[0] === 0n ? this.#words(nodes, NODE_WORDS * Number(out[2])) : [] };
+    }
+  }
+  #listed(grammar, given, words, mode) {
+    const list = [], names = [];
     for (let i = 0; i < words.length; i += NODE_WORDS) {
       const [symbol, start, end, depth] = words.subarray(i, i + NODE_WORDS);
       names[symbol] ??= this.symbolName(grammar, symbol, mode).text;
       list.push({ symbol, name: names[symbol], start: given.place(start), end: given.place(end), depth });
     }
-    return { kind: 'match', taken: given.place(Number(out[1])), nodes: list };
+    return list;
+  }
+  match(grammar, input, mode = 'lake') {
+    const text = new Text(grammar, GRAMMAR_MOST), given = new Text(input, INPUT_MOST), { out, words } = this.#matched(text, given, mode);
+    if (out[0] === NO_MATCH) return { kind: 'none' };
+    if (out[0] !== 0n) return this.#refused(text, out);
+    return { kind: 'match', taken: given.place(Number(out[1])), nodes: this.#listed(grammar, given, words, mode) };
+  }
+  // the tree of a match as JSON text; places in it are bytes of the input
+  json(grammar, input, mode = 'lake') {
+    const text = new Text(grammar, GRAMMAR_MOST), given = new Text(input, INPUT_MOST), { out, words } = this.#matched(text, given, mode);
+    if (out[0] === NO_MATCH) return { kind: 'none' };
+    if (out[0] !== 0n) return this.#refused(text, out);
+    return this.#write(grammar, mode, 'gm_write_json', () => [...this.#lend(given), ...this.#lendWords(words)]);
+  }
+  // the node list that such a text says, of the same grammar and input
+  readJson(grammar, input, json, mode = 'lake') {
+    const text = new Text(grammar, GRAMMAR_MOST), given = new Text(input, INPUT_MOST), said = new Text(json, Infinity);
+    for (let most = NODES_FIRST; ; most *= 8) {
+      this.#start();
+      const lent = [text, given, said].flatMap(part => this.#lend(part)), nodes = this.#room(4 * NODE_WORDS * most);
+      const out = this.#ask('gm_read_json', number(mode), ...lent, nodes, BigInt(NODE_WORDS * most));
+      if (out[0] === 0n) return { kind: 'nodes', nodes: this.#listed(grammar, given, this.#words(nodes, NODE_WORDS * Number(out[1])), mode) };
+      if (out[0] !== 12n || 8 * most > NODES_MOST) return this.#refused(text, out);
+    }
   }
   // how a lake, by its symbol number, matches at a place of the input
   lakeAt(grammar, input, lake, place, mode = 'lake') {

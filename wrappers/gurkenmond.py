@@ -20,7 +20,7 @@ LAST_IN_TEXT = 5
 NODE_WORDS, NODES_FIRST, NODES_MOST, ROOM_FIRST = 4, 1 << 12, 1 << 18, 1 << 12
 WHAT = ("", "grammar text too long", "syntax", "name, literal or parentheses over their bound", "name given twice, or reserved", "name without a rule",
         "too many symbols, terminals or expressions", "translation too large", "loop", "input too long", "too few work cells", "too deep", "too many nodes",
-        "room too small", "no such expression, symbol, lake or position")
+        "room too small", "no such expression, symbol, lake or position", "not a list of nodes", "not the JSON text of a list of nodes")
 WAYS = ("not", "rule", "water", "skip")
 
 # document 01's number and place; line and column, from 1, where the place is one of the grammar's text
@@ -127,19 +127,45 @@ class Gurkenmond:
                 return out
             cells = out[1]
 
-    def match(self, grammar: Text, text: Text, mode: int = LAKE) -> Union[Match, None, Refused]:
-        rules, given, most = _Given(grammar), _Given(text), NODES_FIRST
+    def _matched(self, rules: _Given, given: _Given, mode: int) -> tuple:
+        """A match's numbers, and the words that were lent for its nodes."""
+        most = NODES_FIRST
         while True:
             words = (ctypes.c_uint32 * (NODE_WORDS * most))()
             out = self._on_input("gm_match", rules, given, mode, words, ctypes.c_size_t(len(words)))
             if out[0] != NO_ROOM_FOR_NODE or most >= NODES_MOST:
-                break
+                return out, words
             most *= 8
+
+    def _listed(self, grammar: Text, given: _Given, words, count: int, mode: int) -> list[Node]:
+        nodes = [words[i:i + NODE_WORDS] for i in range(0, NODE_WORDS * count, NODE_WORDS)]
+        names = {symbol: self.symbol_name(grammar, symbol, mode) for symbol in {node[0] for node in nodes}}
+        return [Node(symbol, names[symbol], given.place(start), given.place(end), depth) for symbol, start, end, depth in nodes]
+
+    def match(self, grammar: Text, text: Text, mode: int = LAKE) -> Union[Match, None, Refused]:
+        rules, given = _Given(grammar), _Given(text)
+        out, words = self._matched(rules, given, mode)
         if out[0]:
             return None if out[0] == NO_MATCH else self._refused(rules, out)
-        nodes = [words[i:i + NODE_WORDS] for i in range(0, NODE_WORDS * out[2], NODE_WORDS)]
-        names = {symbol: self.symbol_name(grammar, symbol, mode) for symbol in {node[0] for node in nodes}}
-        return Match(given.place(out[1]), [Node(symbol, names[symbol], given.place(start), given.place(end), depth) for symbol, start, end, depth in nodes])
+        return Match(given.place(out[1]), self._listed(grammar, given, words, out[2], mode))
+
+    def json(self, grammar: Text, text: Text, mode: int = LAKE) -> Union[bytes, None, Refused]:
+        """The tree of a match as JSON text; places in it are bytes of the text."""
+        rules, given = _Given(grammar), _Given(text)
+        out, words = self._matched(rules, given, mode)
+        if out[0]:
+            return None if out[0] == NO_MATCH else self._refused(rules, out)
+        return self._write("gm_write_json", grammar, mode, *given.lent(), words, ctypes.c_size_t(NODE_WORDS * out[2]))
+
+    def read_json(self, grammar: Text, text: Text, json: Text, mode: int = LAKE) -> Union[list[Node], Refused]:
+        """The node list that such a text says, of the same grammar and text; any other text is refused 16."""
+        rules, given, said, most = _Given(grammar), _Given(text), _Given(json), NODES_FIRST
+        while True:
+            words = (ctypes.c_uint32 * (NODE_WORDS * most))()
+            out = self._ask("gm_read_json", mode, *rules.lent(), *given.lent(), *said.lent(), words, ctypes.c_size_t(len(words)))
+            if out[0] != NO_ROOM_FOR_NODE or most >= NODES_MOST:
+                return self._refused(rules, out) if out[0] else self._listed(grammar, given, words, out[1], mode)
+            most *= 8
 
     def lake_at(self, grammar: Text, text: Text, lake: int, place: int, mode: int = LAKE) -> Union[str, Refused]:
         """How a lake, by its symbol number, matches at a place of the text."""

@@ -124,7 +124,7 @@ static void say_bytes(Text *t, const uint8_t *bytes, size_t n) {
     for (size_t i = 0; i < n; i++) { char s[3]; sprintf(s, "%02x", bytes[i]), put(t, s, 2); }
 }
 static bool written(Text *t, Question *q, uint64_t code) {
-    Lent room = q->lent[1];
+    Lent room = q->lent[q->lents - 1];
     size_t n = code ? 0 : q->out[1];
     for (size_t i = n; i < room.bytes; i++) if (room.at[i] != ROOM_BYTE) return false;
     if (code) refused(t, q->out); else say_bytes(t, room.at, n);
@@ -160,6 +160,13 @@ static bool ask(Text *t, Question *q, bool *same) {
     } else if (!strcmp(kind, "name") && fields(q, "mbnr")) {
         code = gm_symbol_name(q->mode, BYTES(0), q->number[0], BYTES(1), out);
         if (!written(t, q, code)) *same = false;
+    } else if (!strcmp(kind, "json") && fields(q, "mbbwr")) {
+        code = gm_write_json(q->mode, BYTES(0), BYTES(1), WORDS(2), BYTES(3), out);
+        if (!written(t, q, code)) *same = false;
+    } else if (!strcmp(kind, "unjson") && fields(q, "mbbbc")) {
+        code = gm_read_json(q->mode, BYTES(0), BYTES(1), BYTES(2), WORDS(3), out);
+        if (code) refused(t, out); else say(t, "nodes"), number(t, out[1]);
+        say_words(t, " ; nodes", q->lent[3]);
     } else if (!strcmp(kind, "sound") && fields(q, "wnn")) {
         code = gm_node_sound(WORDS(0), q->number[0], q->number[1], out);
         say(t, "sound"), number(t, out[1]);

@@ -73,6 +73,8 @@ const kinds = {
   own: ['mbr', 'gm_write_own', written],
   plain: ['mbr', 'gm_write_plain', written],
   name: ['mbnr', 'gm_symbol_name', written],
+  json: ['mbbwr', 'gm_write_json', written],
+  unjson: ['mbbbc', 'gm_read_json', (out, v) => (out[0] ? refused(out) : `nodes ${out[1]}`) + listed('nodes', v[4])],
   sound: ['wnn', 'gm_node_sound', out => `sound ${out[1]}`],
   text: ['bwn', 'gm_node_text', (out, v) => `text ${Buffer.from(view(v[0]).subarray(Number(out[1]), Number(out[1] + out[2]))).toString('hex') || '-'}`],
   span: ['bwn', 'gm_node_text', out => `span ${out[1]} ${out[2]}`],

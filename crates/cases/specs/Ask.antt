@@ -15,6 +15,7 @@ use Rattle.gurkenmond.specs.declared.SetsOf.{SetsOf}
 use Rattle.gurkenmond.specs.declared.Lakes.{Lakes}
 use Rattle.gurkenmond.specs.Answers.{Says, refused, value, verdictSays}
 use Rattle.gurkenmond.specs.Calls.{Matching, matchOf, LakeAnswer, lakeOf, setsOf, cannotSkipOf, Writing, writeOwnOf, writePlainOf}
+use Rattle.gurkenmond.specs.Calls.{writeJsonOf, Parsing, readJsonOf}
 
 -- a quoted text as bytes; all of them are ASCII
 unfoldable pub bytes : String → List ℕ
@@ -28,6 +29,9 @@ pub data Asked : Type 0 where
   matches : Mode → String → String → ℕ → ℕ → Asked
   -- how lake symbol l matches at a position
   lakes : Mode → String → String → ℕ → ℕ → Asked
+  -- node words as JSON text, with room; a JSON text as node words, so many of them lent
+  texts : Mode → String → String → List ℕ → ℕ → Asked
+  lists : Mode → String → String → List ℕ → ℕ → Asked
 
 pub data Said : Type 0 where
   says : Says → Said
@@ -69,6 +73,9 @@ matchedBy x = listed (x .answer .outcome) (x .answer .nodes) (take (nodeWords * 
 abbrev pub lakeSaid : LakeAnswer → Said
 lakeSaid x = unless (x .verdict) (says (value (x .way)))
 
+abbrev pub listSaid : Parsing → Said
+listSaid x = unless (x .verdict) (words (take (nodeWords * x .nodes) (x .words)))
+
 -- room for the longest text of the table
 abbrev pub room : List ℕ
 room = replicate 128 0
@@ -83,6 +90,8 @@ answered (alt m t e) = altBy (setsOf m (bytes t) e)
 answered (sets m t e) = threeBy (setsOf m (bytes t) e)
 answered (matches m t s c w) = matchedBy (matchOf m (bytes t) (bytes s) (replicate c 0) (replicate w 0))
 answered (lakes m t s l q) = lakeSaid (lakeOf m (bytes t) (bytes s) (replicate 256 0) l q)
+answered (texts m t s ws n) = textBy (writeJsonOf m (bytes t) (bytes s) ws (replicate n 0))
+answered (lists m t s js n) = listSaid (readJsonOf m (bytes t) (bytes s) js (replicate n 0))
 
 pub record Case : Type 0 where
   pub asked : Asked

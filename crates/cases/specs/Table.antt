@@ -1,4 +1,4 @@
--- Document 01's cases ("Cases (P = proved)") and the worked examples of the readings, in one table. Assumes nothing: these are definitions.
+-- The cases of document 01 ("Cases (P = proved)") and of 02, and the worked examples of the readings, in one table. Assumes nothing: these are definitions.
 use Prim.Native.Nat.{ℕ}
 use Prim.Native.String.{String}
 use mathlib.Core.Bool.{true, false}
@@ -6,7 +6,7 @@ use mathlib.Core.List.{List, [], _∷_, _++_}
 use Rattle.read_tokens.specs.declared.Mode.the-variants.{Lake, Plain}
 use Rattle.gurkenmond.specs.Answers.{Says, refused, nomatch, value}
 use Rattle.cases.specs.Ask.{Asked, Said, Case, bytes, reads, rounds, skips, own, plain, alt, sets, matches, lakes, says, counted, words}
-use Rattle.cases.specs.Ask.{three, written, listed}
+use Rattle.cases.specs.Ask.{texts, lists, three, written, listed}
 
 abbrev pub is : Asked → Said → Case
 is a s = record { asked = a; said = s }
@@ -18,6 +18,26 @@ G = "block <- '{' stmt* '}'\nstmt <- expr_stmt / block\nexpr_stmt <- <elake>* ';
 -- symbols a, c, <d>, <b>, <c>
 abbrev loose : String
 loose = "a <- <b> <c> 'x' <b> c <- 'y' <d> <- 'z'"
+
+-- the nodes of G's match, and their text
+abbrev blocks : List ℕ
+blocks = 0 ∷ 0 ∷ 4 ∷ 0 ∷ 1 ∷ 1 ∷ 3 ∷ 1 ∷ 2 ∷ 1 ∷ 3 ∷ 2 ∷ 3 ∷ 1 ∷ 2 ∷ 3 ∷ []
+
+abbrev blocksText : List ℕ
+blocksText =
+    bytes "{\"name\":\"block\",\"start\":0,\"end\":4,\"text\":\"{a;}\",\"children\":[" ++
+    (bytes "{\"name\":\"stmt\",\"start\":1,\"end\":3,\"text\":\"a;\",\"children\":[" ++
+    (bytes "{\"name\":\"expr_stmt\",\"start\":1,\"end\":3,\"text\":\"a;\",\"children\":[" ++
+    (bytes "{\"name\":\"<elake>\",\"start\":1,\"end\":2,\"text\":\"a\",\"children\":[]}]}]}]}")))
+
+abbrev pair : String
+pair = "a <- b b b <- 'x'"
+
+abbrev pairText : List ℕ
+pairText =
+    bytes "{\"name\":\"a\",\"start\":0,\"end\":2,\"text\":\"xx\",\"children\":[" ++
+    (bytes "{\"name\":\"b\",\"start\":0,\"end\":1,\"text\":\"x\",\"children\":[]}," ++
+    (bytes "{\"name\":\"b\",\"start\":1,\"end\":2,\"text\":\"x\",\"children\":[]}]}"))
 
 -- read and written the same
 abbrev kept : String → Case
@@ -163,4 +183,20 @@ cases =
     is (lakes Lake "a <- <x>* 'y' <x> <- 'q'" "qy" 0 0) (bad 14 0) ∷
     is (lakes Lake "a <- <x>* 'y' <x> <- 'q'" "qy" 1 3) (bad 14 0) ∷
     is (sets Lake G 16) (bad 14 0) ∷
+    -- the tree as JSON (02, par. 1): a match of G there and back
+    is (texts Lake G "{a;}" blocks 246) (written blocksText) ∷
+    is (lists Lake G "{a;}" blocksText 16) (words blocks) ∷
+    -- two children; a byte too few; siblings that overlap; a part of a node; no words
+    is (texts Lake pair "xx" (0 ∷ 0 ∷ 2 ∷ 0 ∷ 1 ∷ 0 ∷ 1 ∷ 1 ∷ 1 ∷ 1 ∷ 2 ∷ 1 ∷ []) 167) (written pairText) ∷
+    is (texts Lake pair "xx" (0 ∷ 0 ∷ 2 ∷ 0 ∷ 1 ∷ 0 ∷ 1 ∷ 1 ∷ 1 ∷ 1 ∷ 2 ∷ 1 ∷ []) 166) (bad 13 167) ∷
+    is (texts Lake pair "xx" (0 ∷ 0 ∷ 2 ∷ 0 ∷ 1 ∷ 0 ∷ 2 ∷ 1 ∷ 1 ∷ 1 ∷ 2 ∷ 1 ∷ []) 166) (bad 15 2) ∷
+    is (texts Lake pair "xx" (0 ∷ 0 ∷ 2 ∷ 0 ∷ 1 ∷ []) 167) (bad 15 1) ∷
+    is (texts Lake pair "xx" [] 167) (bad 15 0) ∷
+    -- escapes
+    is (texts Lake "a <- .*" "\"\\\n /" (0 ∷ 0 ∷ 5 ∷ 0 ∷ []) 128)
+    (written (bytes "{\"name\":\"a\",\"start\":0,\"end\":5,\"text\":\"\\\"\\\\\\u000A /\",\"children\":[]}")) ∷
+    -- a root that no match makes; a leading zero; no room
+    is (lists Lake pair "xx" (bytes "{\"name\":\"b\",\"start\":1,\"end\":1,\"text\":\"\",\"children\":[]}") 5) (words (1 ∷ 1 ∷ 1 ∷ 0 ∷ [])) ∷
+    is (lists Lake pair "xx" (bytes "{\"name\":\"b\",\"start\":1,\"end\":01,\"text\":\"\",\"children\":[]}") 5) (bad 16 0) ∷
+    is (lists Lake pair "xx" (bytes "{\"name\":\"b\",\"start\":1,\"end\":1,\"text\":\"\",\"children\":[]}") 3) (bad 12 0) ∷
     lexical

@@ -11,8 +11,11 @@ use Rattle.lake_rules.specs.Analysis.{isExpression}
 use Rattle.lake_plain.specs.Plain.{plainRules}
 use Rattle.write_rules.specs.Writing.{symbolText, text}
 use Rattle.prepare.specs.Prepare.{prepared}
+use Rattle.match_list.specs.Nodes.{nodesAt, roomOf}
+use Rattle.tree_json.specs.Json.{jsonText}
 use Rattle.gurkenmond.specs.Calls.{isLakeAt}
 use Rattle.demands.specs.Rows.{Row, Row1, Row2, Row3, Row4, Row5, Row6, Row7, Row8, Row9, Row10, Row11, Row12, Row13, Row14}
+use Rattle.demands.specs.Rows.{Row13Counted, Row15, Row16, Row12Read, symbolOf}
 
 -- the row holds nowhere
 abbrev pub Never : Row → Type 0
@@ -71,3 +74,13 @@ module _ (m : Mode) (t : List ℕ) where
 
   abbrev pub nameChecks : ℕ → List ℕ → List Row
   nameChecks r out = checks ++ (Row14 (r < length symbolNames) ∷ Row13 (nameText r) out ∷ [])
+
+  -- the tree as JSON (02, par. 1): "both after 9, and 12 or 13 is checked last"; the list is all words handed over
+  abbrev pub listText : List ℕ → List ℕ → List ℕ
+  listText s ws = jsonText (symbolOf m t) s (nodesAt ws 0 (roomOf ws))
+
+  abbrev pub jsonChecks : List ℕ → List ℕ → List ℕ → List Row
+  jsonChecks s ws out = checks ++ (Row9 s ∷ Row15 m t s ws ∷ Row13Counted (listText s ws) out ∷ [])
+
+  abbrev pub readChecks : List ℕ → List ℕ → List ℕ → List Row
+  readChecks s js ws = checks ++ (Row9 s ∷ Row16 m t s js ∷ Row12Read m t s js ws ∷ [])

@@ -2,10 +2,10 @@
 -- Assumes nothing: these are definitions.
 use Prim.Native.Nat.{ℕ, _≤_, _<_}
 use mathlib.Core.Path.{_≡_}
-use mathlib.Core.List.{List}
+use mathlib.Core.List.{List, _++_}
 use mathlib.Core.Option.{Option, none, some}
 use mathlib.Core.Logic.{_↔_}
-use lib.ListN.{length, getD, take}
+use lib.ListN.{length, getD, take, drop}
 use Rattle.read_tokens.specs.declared.Mode.{Mode}
 use Rattle.read_tokens.specs.declared.Mode.the-variants.{Plain}
 use Rattle.read_tokens.specs.Bounds.{textBound}
@@ -17,9 +17,13 @@ use Rattle.prepare.specs.Prepare.{prepared}
 use Rattle.prepare.specs.Reads.{readOf}
 use Rattle.gurkenmond.specs.Answers.{Says, refused, nomatch, value, verdictSays}
 use Rattle.gurkenmond.specs.Calls.{setsOf, cannotSkipOf, Matching, matchOf, LakeAnswer, lakeOf, Writing, writeOwnOf, writePlainOf, symbolNameOf}
-use Rattle.demands.specs.Rows.{Row}
+use Rattle.gurkenmond.specs.Calls.{parsing, writeJsonOf, readJsonOf}
+use Rattle.match_list.specs.Nodes.{roomOf}
+use Rattle.tree_list.specs.Tree.{IsTree, wordsIn}
+use Rattle.demands.specs.Rows.{Row, known, symbolOf}
+use Rattle.demands.specs.Texts.{IsText, nodesOfText}
 use Rattle.demands.specs.Checks.{FirstRow, NoRow, textChecks, checks, inputChecks, matchChecks, lakeChecks, setsChecks}
-use Rattle.demands.specs.Checks.{writeChecks, ownText, plainText, nameChecks}
+use Rattle.demands.specs.Checks.{writeChecks, ownText, plainText, nameChecks, listText, jsonChecks, readChecks}
 use Rattle.demands.specs.Meets.{Tabled, Meets, MeetsLake}
 
 -- in the words of the table: m the mode, t the grammar text, s the input, cs the work cells, ws the node words, out the output room
@@ -40,6 +44,10 @@ pub record Refuses (v : Option Refusal) (rows : List Row) (Untouched : Type 0) :
   pub exactly : (k p : ℕ) → (v ≡ some (refusal k p)) ↔ FirstRow rows k p
   pub untouched : (k p : ℕ) → v ≡ some (refusal k p) → Untouched
 
+-- "Text is bytes" (01, Notation)
+abbrev pub AreBytes : List ℕ → Type 0
+AreBytes t = (i : ℕ) → i < length t → getD t i 0 < 256
+
 pub record Demand1 : Type 0 where
   pub read : (m : Mode) (t : List ℕ) → Refuses (verdictSays (readOf m t .verdict)) (checks m t) (Unit {0})
   pub sets : (m : Mode) (t : List ℕ) (e : ℕ) → Refuses (verdictSays (setsOf m t e .verdict)) (setsChecks m t e) (Unit {0})
@@ -55,6 +63,10 @@ pub record Demand1 : Type 0 where
       → Refuses (writePlainOf m t out .verdict) (writeChecks m t (plainText m t) out) (writePlainOf m t out .out ≡ out)
   pub name : (m : Mode) (t : List ℕ) (r : ℕ) (out : List ℕ)
       → Refuses (symbolNameOf m t r out .verdict) (nameChecks m t r out) (symbolNameOf m t r out .out ≡ out)
+  pub json : (m : Mode) (t s ws out : List ℕ)
+      → Refuses (writeJsonOf m t s ws out .verdict) (jsonChecks m t s ws out) (writeJsonOf m t s ws out .out ≡ out)
+  pub read-json : (m : Mode) (t s js ws : List ℕ) → AreBytes t
+      → Refuses (readJsonOf m t s js ws .verdict) (readChecks m t s js ws) (readJsonOf m t s js ws .words ≡ ws)
 
 -- ── demand 2: a match, and the lake question, is what the meaning and the table say, and nothing else is: answer, cells and node words ──
 pub record Demand2 : Type 0 where
@@ -62,10 +74,6 @@ pub record Demand2 : Type 0 where
   pub lake : (m : Mode) (t s cs : List ℕ) (l q : ℕ) (x : LakeAnswer) → MeetsLake m t s cs l q x ↔ (x ≡ lakeOf m t s cs l q)
 
 -- ── demand 3, over demand 2's meaning ──
--- "Text is bytes" (01, Notation)
-abbrev pub AreBytes : List ℕ → Type 0
-AreBytes t = (i : ℕ) → i < length t → getD t i 0 < 256
-
 -- a call has written w: it is not refused, answers how many bytes w has, and w are so many from the room's begin
 pub record Wrote (x : Writing) (w : List ℕ) : Type 0 where
   pub accepted : x .verdict ≡ none
@@ -94,9 +102,28 @@ pub record SameCalls (m : Mode) (t w : List ℕ) : Type 0 where
   pub own : (out : List ℕ) → writeOwnOf m w out ≡ writeOwnOf m t out
   pub plain : (out : List ℕ) → writePlainOf m w out ≡ writePlainOf m t out
   pub name : (r : ℕ) (out : List ℕ) → symbolNameOf m w r out ≡ symbolNameOf m t r out
+  pub json : (s ws out : List ℕ) → writeJsonOf m w s ws out ≡ writeJsonOf m t s ws out
+  pub read-json : (s js ws : List ℕ) → readJsonOf m w s js ws ≡ readJsonOf m t s js ws
 
 -- "A lake grammar's own text may pass 16,384 bytes; reading it then refuses 1"
 abbrev pub OwnTextBack : Type 0
 OwnTextBack = (m : Mode) (t out : List ℕ) → AreBytes t → NoRow (writeChecks m t (ownText m t) out)
     → (w : List ℕ) × Wrote (writeOwnOf m t out) w × (length w ≤ textBound m → SameCalls m t w)
     × (textBound m < length w → FirstRow (checks m w) 1 (textBound m))
+
+-- ── the tree as JSON, there and back (02, par. 1) ──
+-- the words have the list at their front and are as they were behind it
+abbrev pub atFront : List ℕ → List ℕ → List ℕ
+atFront ws vs = ws ++ drop (length ws) vs
+
+pub record JsonBack : Type 0 where
+  -- "such a text gives the same node list"
+  pub there : (m : Mode) (t s ws out vs : List ℕ) → AreBytes t → NoRow (jsonChecks m t s ws out) → roomOf ws ≤ roomOf vs
+      → (w : List ℕ) × Wrote (writeJsonOf m t s ws out) w × (readJsonOf m t s w vs ≡ parsing (roomOf ws) none (atFront ws vs))
+  -- whatever is read is a list that has just this text
+  pub only : (m : Mode) (t s js vs : List ℕ) → AreBytes t → NoRow (readChecks m t s js vs)
+      → (ws : List ℕ) × (readJsonOf m t s js vs ≡ parsing (roomOf ws) none (atFront ws vs))
+      × ((out : List ℕ) → length js ≤ length out → Wrote (writeJsonOf m t s ws out) js)
+  -- what is written is the text of the tree of which the words are the preorder list
+  pub tree : (m : Mode) (t s ws : List ℕ) → IsTree (known m t) (length s) ws → (x : IsText (symbolOf m t) (known m t) s (listText m t s ws))
+      × (ws ≡ wordsIn (nodesOfText x))

@@ -1,6 +1,7 @@
 pub mod Meant
 pub mod Offends
 pub mod Ways
+pub mod Texts
 pub mod Rows
 pub mod Checks
 pub mod Meets

@@ -1,10 +1,10 @@
 -- The table of refusals, row by row, in its own words: where a row holds (01, Refusal numbers, in order of check). In which order a call looks at them
 -- is said in Checks.antt. Assumes nothing: these are definitions.
-use Prim.Native.Nat.{ℕ, zero, suc, _≤_, _<_}
+use Prim.Native.Nat.{ℕ, zero, suc, min, _≤_, _<_}
 use mathlib.Core.Path.{_≡_}
 use mathlib.Core.Bool.{Bool, true, false}
-use mathlib.Core.List.{List, _∷_}
-use lib.ListN.{length}
+use mathlib.Core.List.{List, [], _∷_}
+use lib.ListN.{length, getD}
 use Rattle.read_tokens.specs.declared.Mode.{Mode}
 use Rattle.read_tokens.specs.Token.{Symbol, Lexeme, name, symbol}
 use Rattle.read_tokens.specs.Tokens.{lexemes}
@@ -20,9 +20,11 @@ use Rattle.lake_plain.specs.Loops.{SmallestLoop}
 use Rattle.match_meaning.specs.Meaning.{Node, Derives}
 use Rattle.match_list.specs.Nodes.{roomOf}
 use Rattle.prepare.specs.Prepare.{prepared, preparedBy}
-use Rattle.gurkenmond.specs.Calls.{cellsNeeded}
+use Rattle.tree_list.specs.Tree.{FirstBad}
+use Rattle.gurkenmond.specs.Calls.{cellsNeeded, countBound}
 use Rattle.demands.specs.Meant.{meant}
 use Rattle.demands.specs.Offends.{TooDeep, NoRoom}
+use Rattle.demands.specs.Texts.{IsText, nodesOfText}
 
 -- "a refusal has a number and a place": a row has its number, and says at which places it holds
 pub record Row : Type 1 where
@@ -121,6 +123,36 @@ Row9 s = Over 9 inputBound inputBound (length s)
 abbrev pub Row13 : List ℕ → List ℕ → Row
 Row13 w out = Over 13 (length w) (length out) (length w)
 
--- "no such expression, lake or position": 0
+-- what has to be there is not: 0
+abbrev pub Missing : ℕ → Type 0 → Row
+Missing number There = record { number = number; holds = λ p. (p ≡ 0) × (There → ⊥) }
+
+-- "no such expression, lake or position"
 abbrev pub Row14 : Type 0 → Row
-Row14 There = record { number = 14; holds = λ p. (p ≡ 0) × (There → ⊥) }
+Row14 = Missing 14
+
+-- ── the tree as JSON (02, par. 1) ──
+-- "output room too small", of a text that may be longer than any room: counts stop at a bound
+abbrev pub Row13Counted : List ℕ → List ℕ → Row
+Row13Counted w out = Over 13 (min countBound (length w)) (length out) (length w)
+
+module _ (m : Mode) (t : List ℕ) where
+  -- R, and the symbols by number
+  abbrev pub known : ℕ
+  known = length (prepared m t .grammar .names)
+
+  abbrev pub symbolOf : ℕ → Symbol
+  symbolOf r = getD (prepared m t .grammar .names) r (name [])
+
+  -- "words that are no preorder list": "the first bad node"
+  abbrev pub Row15 : List ℕ → List ℕ → Row
+  Row15 s ws = record { number = 15; holds = FirstBad known (length s) ws }
+
+  -- "not a text this writer makes": 0
+  abbrev pub Row16 : List ℕ → List ℕ → Row
+  Row16 s js = Missing 16 (IsText symbolOf known s js)
+
+  -- "no room for a node", of the list that a text says: the nodes that there is room for
+  abbrev pub Row12Read : List ℕ → List ℕ → List ℕ → Row
+  Row12Read s js ws =
+      record { number = 12; holds = λ p. (p ≡ roomOf ws) × ((x : IsText symbolOf known s js) × (roomOf ws < length (nodesOfText x))) }

@@ -18,4 +18,6 @@ pub mod MeetsLake
 pub mod Back
 pub mod SameGrammar
 pub mod Exactly
+pub mod Names
+pub mod Json
 pub mod Demands

@@ -1,18 +1,18 @@
 -- What each public call answers and leaves in lent memory, for all inputs (01, Refusal numbers; 01, Meaning of a match; 01, Writing), and what it therefore
 -- promises: `Says..` of its result and of every lent word afterwards, in 01's numbers by Answers.antt. Assumes nothing: these are definitions.
-use Prim.Native.Nat.{ℕ, zero, suc, _+_, _-_, _*_}
+use Prim.Native.Nat.{ℕ, zero, suc, _+_, _-_, _*_, min}
 use mathlib.Core.Path.{_≡_}
-use mathlib.Core.Bool.{Bool, false, not, _&&_}
+use mathlib.Core.Bool.{Bool, true, false, not, _&&_}
 use mathlib.Core.List.{List, [], _++_}
 use mathlib.Core.Option.{Option, none, some}
 use lib.ListN.{length, getD, drop}
 use lib.Dec.{leb, ltb}
 use Rattle.read_tokens.specs.declared.Mode.{Mode}
-use Rattle.read_tokens.specs.Token.{name}
+use Rattle.read_tokens.specs.Token.{Symbol, name}
 use Rattle.read_tokens.specs.Bounds.{inputBound}
 use Rattle.grammar.specs.Exp.{Exp}
 use Rattle.grammar.specs.Numbers.{isLake}
-use Rattle.grammar.specs.Refusal.{Refusal, refusal, refuseIf, _▸_}
+use Rattle.grammar.specs.Refusal.{Refusal, refusal, refuseIf, refuseAt, _▸_}
 use Rattle.base_words.specs.Set.{empty}
 use Rattle.lake_sets.specs.declared.Sets.{Sets}
 use Rattle.lake_rules.specs.Analysis.{Analysis, isExpression, bodyAlt, cannotSkip}
@@ -21,13 +21,18 @@ use Rattle.lake_plain.specs.Plain.{plainRules}
 use Rattle.lake_plain.specs.Calls.{order}
 use Rattle.match_lake.specs.Asking.{wayIn}
 use Rattle.match_cells.specs.Cells.{cells}
-use Rattle.match_list.specs.Nodes.{Listing, all, deep, full, listOf, listingOf, wordsOf, roomOf}
+use Rattle.match_meaning.specs.Meaning.{Node}
+use Rattle.match_list.specs.Nodes.{Listing, all, deep, full, listOf, listingOf, wordsOf, roomOf, nodesAt, written}
+use Rattle.tree_list.specs.Preorder.{badNode}
+use Rattle.tree_json.specs.Json.{jsonText}
+use Rattle.tree_json.specs.Reading.{parsed}
 use Rattle.write_rules.specs.Writing.{symbolText, text}
 use Rattle.gurkenmond.specs.declared.SetsOf.{SetsOf}
 use Rattle.gurkenmond.specs.declared.Lakes.{Lakes}
 use Rattle.match_run.specs.declared.Match.{Match}
 use Rattle.match_ask.specs.declared.LakeWay.{LakeWay}
 use Rattle.write_put.specs.declared.Written.{Written}
+use Rattle.tree_read.specs.declared.Parsed.{Parsed}
 use Rattle.gurkenmond.specs.Answers.{Says, refused, nomatch, value, verdictSays, outcomeSays, waySays}
 use Rattle.prepare.specs.declared.Counted.{Counted}
 use Rattle.prepare.specs.Prepare.{Prepared, prepared, refuses}
@@ -72,9 +77,13 @@ SaysLakes r m t = (r ≡ cannotSkipOf m t) × (verdictSays (r .verdict) ≡ refu
 abbrev pub cellsNeeded : Prepared → List ℕ → ℕ
 cellsNeeded p s = length (p .bodies) * (length s + 1)
 
--- "9: input too long", place 65,535; "10: work cells fewer than R·(n+1)", place "that number"
+-- "9: input too long", place 65,535
+abbrev pub refusesLength : List ℕ → Option Refusal
+refusesLength s = refuseIf (ltb inputBound (length s)) 9 inputBound
+
+-- "10: work cells fewer than R·(n+1)", place "that number"
 abbrev pub refusesInput : Prepared → List ℕ → List ℕ → Option Refusal
-refusesInput p s cs = refuseIf (ltb inputBound (length s)) 9 inputBound ▸ refuseIf (ltb (length cs) (cellsNeeded p s)) 10 (cellsNeeded p s)
+refusesInput p s cs = refusesLength s ▸ refuseIf (ltb (length cs) (cellsNeeded p s)) 10 (cellsNeeded p s)
 
 -- an answer, and every lent word after it
 pub record MatchAnswer : Type 0 where
@@ -174,6 +183,64 @@ symbolNameOf m t r out =
     let p : Prepared = prepared m t in
     writeBy (refuses m t ▸ refuseIf (not (isSymbol p r)) 14 0) (symbolText (getD (p .grammar .names) r (name []))) out
 
--- of each of the three
+-- ── the tree as JSON (02, par. 1): 1 to 8, 9, 15 at the first bad node, then 13 ──
+abbrev pub symbolAt : Prepared → ℕ → Symbol
+symbolAt p r = getD (p .grammar .names) r (name [])
+
+-- the list is all words handed over
+abbrev pub jsonOf : Prepared → List ℕ → List ℕ → List ℕ
+jsonOf p s ws = jsonText (symbolAt p) s (nodesAt ws 0 (roomOf ws))
+
+abbrev pub refusesList : Prepared → List ℕ → List ℕ → Option Refusal
+refusesList p s ws = refusesLength s ▸ refuseAt 15 (badNode (length (p .grammar .names)) (length s) ws)
+
+-- a count of bytes stops here: no room is as long
+abbrev pub countBound : ℕ
+countBound = 9223372036854775808
+
+unfoldable pub writeJsonOf : Mode → List ℕ → List ℕ → List ℕ → List ℕ → Writing
+writeJsonOf m t s ws out =
+    let p : Prepared = prepared m t in
+    let w : List ℕ = jsonOf p s ws in
+    writeAfter ((refuses m t ▸ refusesList p s ws) ▸ refuseIf (ltb (length out) (length w)) 13 (min countBound (length w))) w out
+
+-- of each of the four
 abbrev pub SaysText : Written → List ℕ → Writing → Type 0
 SaysText r out w = (r .bytes ≡ w .bytes) × (verdictSays (r .verdict) ≡ w .verdict) × (out ≡ w .out)
+
+-- ── a JSON text read: 1 to 8, 9, "16, not a text this writer makes, place 0", then 12 with the nodes that there is room for ──
+pub record Parsing : Type 0 where
+  pub nodes : ℕ
+  pub verdict : Option Refusal
+  pub words : List ℕ
+
+abbrev pub parsing : ℕ → Option Refusal → List ℕ → Parsing
+parsing k o ws = record { nodes = k; verdict = o; words = ws }
+
+abbrev pub isText : Option (List Node) → Bool
+isText none = false
+isText (some ns) = true
+
+abbrev pub listIn : Option (List Node) → List Node
+listIn none = []
+listIn (some ns) = ns
+
+abbrev pub parseAfter : Option Refusal → List Node → List ℕ → Parsing
+parseAfter (some r) ns ws = parsing 0 (some r) ws
+parseAfter none ns ws = parsing (length ns) none (written ws 0 ns)
+
+abbrev pub readIn : Prepared → List ℕ → List ℕ → Option (List Node)
+readIn p s js = parsed (symbolAt p) (length (p .grammar .names)) s js
+
+-- 16 and 12 of a text that says these nodes, or none
+abbrev pub refusesRead : Option (List Node) → List ℕ → Option Refusal
+refusesRead o ws = refuseIf (not (isText o)) 16 0 ▸ refuseIf (ltb (roomOf ws) (length (listIn o))) 12 (roomOf ws)
+
+unfoldable pub readJsonOf : Mode → List ℕ → List ℕ → List ℕ → List ℕ → Parsing
+readJsonOf m t s js ws =
+    let p : Prepared = prepared m t in
+    let o : Option (List Node) = readIn p s js in
+    parseAfter ((refuses m t ▸ refusesLength s) ▸ refusesRead o ws) (listIn o) ws
+
+abbrev pub SaysParsed : Parsed → List ℕ → Parsing → Type 0
+SaysParsed r ws w = (r .nodes ≡ w .nodes) × (verdictSays (r .verdict) ≡ w .verdict) × (ws ≡ w .words)

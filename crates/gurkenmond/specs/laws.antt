@@ -6,3 +6,4 @@ pub mod Writes
 pub mod Matches
 pub mod Asks
 pub mod Names
+pub mod Trees

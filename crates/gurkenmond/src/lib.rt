@@ -4,7 +4,8 @@
 // A caller names this crate alone: every type that the calls take or give is handed on here.
 ghost use mathlib.Core.Path.{_≡_};
 ghost use Rattle.gurkenmond.specs.Calls.{SaysRead, noSets, SaysSets, SaysLakes, matchOf, SaysMatch, lakeOf, SaysWay, writeOwnOf, writePlainOf};
-ghost use Rattle.gurkenmond.specs.Calls.{symbolNameOf, SaysText};
+ghost use Rattle.gurkenmond.specs.Calls.{symbolNameOf, SaysText, writeJsonOf, readJsonOf, SaysParsed};
+ghost use Rattle.tree_list.specs.Handing.{nodeStepAt};
 ghost use Rattle.match_list.specs.Nodes.{soundAt, Handed};
 use grammar_table::Table;
 pub use lake_sets::Sets;
@@ -15,6 +16,14 @@ pub use match_run::Outcome;
 pub use prepare::Counted;
 pub use prepare::Verdict;
 pub use read_tokens::Mode;
+pub use tree_list::Node;
+pub use tree_list::NodeReader;
+pub use tree_list::NodeStep;
+pub use tree_list::behind_node;
+pub use tree_list::next_node;
+pub use tree_list::node_reader;
+pub use tree_list::node_step;
+pub use tree_read::Parsed;
 pub use write_put::Written;
 
 pub struct SetsOf {
@@ -244,4 +253,36 @@ pub fn lake_at(
         return match_ask::not_asked(v);
     }
     match_ask::ask(&t, &plain, l, input, cells, place)
+}
+
+// A node list as JSON text (02, par. 1); the list is all words handed over.
+pub fn write_json(mode: Mode, text: &[u8], input: &[u8], nodes: &[u32], out: &mut [u8]) -> Written
+    ensures { λ r.
+        ⌜ SaysText r (now (out .exit))
+        (writeJsonOf mode (now (text .entry)) (now (input .entry)) (now (nodes .entry)) (now (out .entry))) ⌝ }
+{
+    let mut t: Table = [0; grammar_table::WORDS];
+    let mut plain: Table = [0; grammar_table::WORDS];
+    let c = prepare::plainly(mode, text, &mut t, &mut plain);
+    let v = c.verdict;
+    if prepare::is_refused(v) {
+        return write_put::not_written(v);
+    }
+    tree_write::write_list(&t, input, nodes, out)
+}
+
+// The node list that a JSON text says, into lent words: all of it, or nothing (02, par. 1).
+pub fn read_json(mode: Mode, text: &[u8], input: &[u8], json: &[u8], nodes: &mut [u32]) -> Parsed
+    ensures { λ r.
+        ⌜ SaysParsed r (now (nodes .exit))
+        (readJsonOf mode (now (text .entry)) (now (input .entry)) (now (json .entry)) (now (nodes .entry))) ⌝ }
+{
+    let mut t: Table = [0; grammar_table::WORDS];
+    let mut plain: Table = [0; grammar_table::WORDS];
+    let c = prepare::plainly(mode, text, &mut t, &mut plain);
+    let v = c.verdict;
+    if prepare::is_refused(v) {
+        return tree_read::not_read(v);
+    }
+    tree_read::read_list(&t, input, json, nodes)
 }

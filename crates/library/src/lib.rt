@@ -5,7 +5,9 @@ ghost use mathlib.Core.Path.{_≡_};
 ghost use Rattle.match_list.specs.Nodes.{soundAt};
 ghost use Rattle.prepare.specs.Reads.{readOf};
 ghost use Rattle.gurkenmond.specs.Calls.{setsOf, cannotSkipOf, matchOf, lakeOf, writeOwnOf, writePlainOf, symbolNameOf};
+ghost use Rattle.gurkenmond.specs.Calls.{writeJsonOf, readJsonOf};
 ghost use Rattle.library_numbers.specs.Words.{modeOf, Answers, readWords, setsWords, lakesWords, soundWords, spanWords, NumbersMatch, NumbersLake, NumbersText};
+ghost use Rattle.library_numbers.specs.Words.{NumbersParsed};
 
 // 0, symbols, terminals, expressions.
 #[no_mangle]
@@ -155,6 +157,48 @@ pub extern "C" fn gm_symbol_name(
     let a = gurkenmond::symbol_name(m, text, symbol, room);
     let v = a.verdict;
     let w = library_numbers::of_one(v, a.bytes);
+    *out = w;
+    w[0]
+}
+
+// The same for a node list as JSON text; the list is all words handed over.
+#[no_mangle]
+pub extern "C" fn gm_write_json(
+    mode: u8,
+    text: &[u8],
+    input: &[u8],
+    nodes: &[u32],
+    room: &mut [u8],
+    out: &mut [u64; 4],
+) -> u64
+    ensures { λ r. ⌜ NumbersText r (now (out .exit)) (now (room .exit))
+        (writeJsonOf (modeOf mode) (now (text .entry)) (now (input .entry)) (now (nodes .entry)) (now (room .entry))) ⌝ }
+{
+    let m = library_numbers::mode_of(mode);
+    let a = gurkenmond::write_json(m, text, input, nodes, room);
+    let v = a.verdict;
+    let w = library_numbers::of_one(v, a.bytes);
+    *out = w;
+    w[0]
+}
+
+// 0, nodes: the list that a JSON text says; or 12, the nodes that there is room for.
+#[no_mangle]
+pub extern "C" fn gm_read_json(
+    mode: u8,
+    text: &[u8],
+    input: &[u8],
+    json: &[u8],
+    nodes: &mut [u32],
+    out: &mut [u64; 4],
+) -> u64
+    ensures { λ r. ⌜ NumbersParsed r (now (out .exit)) (now (nodes .exit))
+        (readJsonOf (modeOf mode) (now (text .entry)) (now (input .entry)) (now (json .entry)) (now (nodes .entry))) ⌝ }
+{
+    let m = library_numbers::mode_of(mode);
+    let a = gurkenmond::read_json(m, text, input, json, nodes);
+    let v = a.verdict;
+    let w = library_numbers::of_one(v, a.nodes);
     *out = w;
     w[0]
 }

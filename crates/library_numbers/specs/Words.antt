@@ -18,7 +18,7 @@ use Rattle.prepare.specs.declared.Verdict.the-variants.{Accepted, Refused as Ve
 use Rattle.gurkenmond.specs.declared.SetsOf.{SetsOf}
 use Rattle.gurkenmond.specs.declared.Lakes.{Lakes}
 use Rattle.gurkenmond.specs.Answers.{Says, refused, nomatch, value}
-use Rattle.gurkenmond.specs.Calls.{MatchAnswer, Matching, LakeAnswer, Writing}
+use Rattle.gurkenmond.specs.Calls.{MatchAnswer, Matching, LakeAnswer, Writing, Parsing}
 
 -- the mode of a byte: 0 is lake, every other one plain
 abbrev pub modeOf : ℕ → Mode
@@ -98,3 +98,7 @@ spanWords s ws k = spanBy (soundAt ws k (length s)) (nodeAt ws k)
 -- ── writing: 0, bytes written; the room is that of the call's definition ──
 abbrev pub NumbersText : ℕ → List ℕ → List ℕ → Writing → Type 0
 NumbersText r out room w = (out ≡ oneBy (w .verdict) (w .bytes)) × (r ≡ getD out 0 0) × (room ≡ w .out)
+
+-- a JSON text read: 0, nodes
+abbrev pub NumbersParsed : ℕ → List ℕ → List ℕ → Parsing → Type 0
+NumbersParsed r out nodes w = (out ≡ oneBy (w .verdict) (w .nodes)) × (r ≡ getD out 0 0) × (nodes ≡ w .words)

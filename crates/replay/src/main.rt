@@ -8,9 +8,12 @@
 //   own MODE GRAMMAR ROOM                     text BYTES
 //   plain MODE GRAMMAR ROOM                   text BYTES
 //   name MODE GRAMMAR SYMBOL ROOM             text BYTES
+//   json MODE GRAMMAR INPUT WORDS ROOM        text BYTES
+//   unjson MODE GRAMMAR INPUT JSON NODEWORDS  nodes COUNT; then every lent word
 // or `refused NUMBER PLACE`; and on node words, with no refusal,
 //   sound WORDS NODE LENGTH                   sound 0 or 1
 //   text INPUT WORDS NODE                     text BYTES
+//   handed WORDS                              handed and the four numbers of each node
 // MODE is `lake` or `plain`; bytes are in hexadecimal, `-` is the empty text; WORDS are numbers with `,` between, `-` none. Every lent word holds
 // 3,735,928,559 before the call.
 

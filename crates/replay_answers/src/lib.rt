@@ -1,5 +1,4 @@
 // Every public call asked once, and its answer printed as a line of words and numbers (crate `replay` has the lines).
-mod says;
 
 use gurkenmond::Mode;
 use gurkenmond::Verdict;
@@ -28,7 +27,7 @@ pub fn sets(mode: Mode, text: &[u8], e: usize) {
     match v {
         Verdict::Accepted => {
             io::write_all(1, b"sets");
-            says::sets(r.sets);
+            replay_says::sets(r.sets);
             console::number(r.rounds);
         }
         Verdict::Refused {
@@ -45,7 +44,7 @@ pub fn cannot_skip(mode: Mode, text: &[u8]) {
     match v {
         Verdict::Accepted => {
             io::write_all(1, b"skip");
-            says::bits(r.word);
+            replay_says::bits(r.word);
         }
         Verdict::Refused {
             number: n,
@@ -58,9 +57,9 @@ pub fn cannot_skip(mode: Mode, text: &[u8]) {
 pub fn match_input(mode: Mode, text: &[u8], input: &[u8], cells: &mut [u32], nodes: &mut [u32]) {
     let r = gurkenmond::match_input(mode, text, input, cells, nodes);
     let o = r.outcome;
-    says::outcome(o);
-    says::words(b" ; cells", cells);
-    says::words(b" ; nodes", nodes);
+    replay_says::outcome(o);
+    replay_says::words(b" ; cells", cells);
+    replay_says::words(b" ; nodes", nodes);
     console::line_end();
 }
 
@@ -73,39 +72,25 @@ pub fn lake_at(
     place: usize,
 ) {
     let w = gurkenmond::lake_at(mode, text, input, cells, lake, place);
-    says::lake(w);
-    says::words(b" ; cells", cells);
+    replay_says::lake(w);
+    replay_says::words(b" ; cells", cells);
     console::line_end();
 }
 
 pub fn write_own(mode: Mode, text: &[u8], out: &mut [u8]) {
     let w = gurkenmond::write_own(mode, text, out);
-    says::written(w, out);
+    replay_says::written(w, out);
     console::line_end();
 }
 
 pub fn write_plain(mode: Mode, text: &[u8], out: &mut [u8]) {
     let w = gurkenmond::write_plain(mode, text, out);
-    says::written(w, out);
+    replay_says::written(w, out);
     console::line_end();
 }
 
 pub fn symbol_name(mode: Mode, text: &[u8], symbol: usize, out: &mut [u8]) {
     let w = gurkenmond::symbol_name(mode, text, symbol, out);
-    says::written(w, out);
-    console::line_end();
-}
-
-pub fn node_sound(nodes: &[u32], k: usize, n: usize) {
-    if gurkenmond::node_sound(nodes, k, n) {
-        io::write_all(1, b"sound 1\n");
-    } else {
-        io::write_all(1, b"sound 0\n");
-    }
-}
-
-pub fn node_text(input: &[u8], nodes: &[u32], k: usize) {
-    let part = gurkenmond::node_text(input, nodes, k);
-    says::part(part);
+    replay_says::written(w, out);
     console::line_end();
 }

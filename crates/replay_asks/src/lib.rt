@@ -20,6 +20,10 @@ const PLAIN: u8 = 6;
 
 const NAME: u8 = 7;
 
+const JSON: u8 = 8;
+
+const UNJSON: u8 = 9;
+
 fn ask_sets(mode: Mode, text: &[u8], line: &[u8], at: usize) {
     let e = replay_lines::number_at(line, at, replay_lines::NUMBER_MOST);
     if replay_lines::NUMBER_MOST < e {
@@ -108,10 +112,11 @@ fn ask_input(kind: u8, mode: Mode, text: &[u8], line: &[u8], at: usize) {
     let mut input = buffers::input();
     let n = replay_lines::decode(line, at, to, &mut input);
     let then = replay_lines::after(line, at);
-    if kind == MATCH {
-        ask_match(mode, text, &input[..n], line, then);
-    } else {
-        ask_lake(mode, text, &input[..n], line, then);
+    match kind {
+        MATCH => ask_match(mode, text, &input[..n], line, then),
+        JSON => replay_trees::ask_json(mode, text, &input[..n], line, then),
+        UNJSON => replay_trees::ask_unjson(mode, text, &input[..n], line, then),
+        _ => ask_lake(mode, text, &input[..n], line, then),
     }
 }
 
@@ -123,6 +128,8 @@ fn ask(kind: u8, mode: Mode, text: &[u8], line: &[u8], at: usize) {
         SKIP => replay_answers::cannot_skip(mode, text),
         MATCH => ask_input(kind, mode, text, line, at),
         LAKE => ask_input(kind, mode, text, line, at),
+        JSON => ask_input(kind, mode, text, line, at),
+        UNJSON => ask_input(kind, mode, text, line, at),
         NAME => ask_name(mode, text, line, at),
         _ => ask_written(kind, mode, text, line, at),
     }
@@ -154,61 +161,6 @@ fn mode_at(kind: u8, line: &[u8], at: usize)
         return;
     }
     console::unreadable();
-}
-
-// The words' field begins at `at`, and behind it stand a node's number and the length of its input.
-fn ask_sound(line: &[u8], at: usize) {
-    let mut nodes = buffers::nodes();
-    let to = replay_lines::until(line, at);
-    let n = replay_lines::words(line, at, to, &mut nodes);
-    let then = replay_lines::after(line, at);
-    let k = replay_lines::number_at(line, then, replay_lines::NUMBER_MOST);
-    let last = replay_lines::after(line, then);
-    let length = replay_lines::number_at(line, last, replay_lines::NUMBER_MOST);
-    if buffers::NODES < n {
-        console::unreadable();
-        return;
-    }
-    if replay_lines::NUMBER_MOST < k {
-        console::unreadable();
-        return;
-    }
-    if replay_lines::NUMBER_MOST < length {
-        console::unreadable();
-        return;
-    }
-    replay_answers::node_sound(&nodes[..n], k, length);
-}
-
-// The words' field begins at `at`, and behind it stands a node's number.
-fn ask_text(input: &[u8], line: &[u8], at: usize) {
-    let mut nodes = buffers::nodes();
-    let to = replay_lines::until(line, at);
-    let n = replay_lines::words(line, at, to, &mut nodes);
-    let then = replay_lines::after(line, at);
-    let k = replay_lines::number_at(line, then, replay_lines::NUMBER_MOST);
-    if buffers::NODES < n {
-        console::unreadable();
-        return;
-    }
-    if replay_lines::NUMBER_MOST < k {
-        console::unreadable();
-        return;
-    }
-    replay_answers::node_text(input, &nodes[..n], k);
-}
-
-// The input's field begins at `at`.
-fn text_at(line: &[u8], at: usize) {
-    let to = replay_lines::until(line, at);
-    if !replay_lines::is_bytes(line, at, to, buffers::INPUT) {
-        console::unreadable();
-        return;
-    }
-    let mut input = buffers::input();
-    let n = replay_lines::decode(line, at, to, &mut input);
-    let then = replay_lines::after(line, at);
-    ask_text(&input[..n], line, then);
 }
 
 // The line answered, whatever it is.
@@ -249,12 +201,24 @@ pub fn answer(line: &[u8]) {
 }
 
 fn answer_on_nodes(line: &[u8]) {
+    if replay_lines::stands(line, 0, b"json ") {
+        mode_at(JSON, line, 5);
+        return;
+    }
+    if replay_lines::stands(line, 0, b"unjson ") {
+        mode_at(UNJSON, line, 7);
+        return;
+    }
+    if replay_lines::stands(line, 0, b"handed ") {
+        replay_nodes::ask_handed(line, 7);
+        return;
+    }
     if replay_lines::stands(line, 0, b"sound ") {
-        ask_sound(line, 6);
+        replay_nodes::ask_sound(line, 6);
         return;
     }
     if replay_lines::stands(line, 0, b"text ") {
-        text_at(line, 5);
+        replay_nodes::text_at(line, 5);
         return;
     }
     console::unreadable();

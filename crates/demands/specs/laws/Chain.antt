@@ -10,7 +10,7 @@ use lib.Dec.{ltb}
 use borrow.Author.Tests.{ltb-true, lt-ltb}
 use Rattle.grammar.specs.Refusal.{Refusal, refusal, refuseIf, refuseAt, _▸_}
 use Rattle.prepare.specs.laws.Loads.{some-none}
-use Rattle.demands.specs.Rows.{Row, Over, Row14}
+use Rattle.demands.specs.Rows.{Row, Over, Missing}
 use Rattle.demands.specs.Checks.{Never, FirstRow, NoRow}
 
 pub same-refusal : {r q : Refusal} → some r ≡ some q → r ≡ q
@@ -141,15 +141,15 @@ found-at number F o f g = row-tells (record { number = number; holds = F }) (ref
         (ap (λ (x : Refusal). x .number) z, subst F (ap (λ (x : Refusal). x .place) z) (f p h))
 
 -- what there is not
-pub missing : (b : Bool) (A : Type 0) → (b ≡ true → A) → (A → b ≡ true) → Tells (Row14 A ∷ []) (refuseIf (not b) 14 0)
-missing b A f g = row-tells (Row14 A) (refuseIf (not b) 14 0) (λ r e. sound b refl r e) (λ p h. full b refl p h)
+pub missing : (number : ℕ) (b : Bool) (A : Type 0) → (b ≡ true → A) → (A → b ≡ true) → Tells (Missing number A ∷ []) (refuseIf (not b) number 0)
+missing number b A f g = row-tells (Missing number A) (refuseIf (not b) number 0) (λ r e. sound b refl r e) (λ p h. full b refl p h)
   where
-    sound : (c : Bool) → b ≡ c → (r : Refusal) → refuseIf (not c) 14 0 ≡ some r → (14 ≡ r .number) × ((r .place ≡ 0) × (A → ⊥))
+    sound : (c : Bool) → b ≡ c → (r : Refusal) → refuseIf (not c) number 0 ≡ some r → (number ≡ r .number) × ((r .place ≡ 0) × (A → ⊥))
     sound true h r e = absurd (some-none r (sym e))
     sound false h r e =
-        let z : refusal 14 0 ≡ r = same-refusal e in
+        let z : refusal number 0 ≡ r = same-refusal e in
         (ap (λ (x : Refusal). x .number) z, (sym (ap (λ (x : Refusal). x .place) z), λ a. true≢false (sym (g a) ∙ h)))
 
-    full : (c : Bool) → b ≡ c → (p : ℕ) → (p ≡ 0) × (A → ⊥) → refuseIf (not c) 14 0 ≡ some (refusal 14 p)
+    full : (c : Bool) → b ≡ c → (p : ℕ) → (p ≡ 0) × (A → ⊥) → refuseIf (not c) number 0 ≡ some (refusal number p)
     full true e p h = absurd (h .1 (f e))
-    full false e p h = ap (λ (i : ℕ). some (refusal 14 i)) (sym (h .0))
+    full false e p h = ap (λ (i : ℕ). some (refusal number i)) (sym (h .0))

@@ -1,5 +1,5 @@
--- THE DEMANDS, one theorem each: `reading`, `demand-1`, `demand-2`, `demand-3`, `own-text-back`. Assumes nothing.
-use Prim.Native.Nat.{ℕ, _≤_}
+-- THE DEMANDS, one theorem each: `reading`, `demand-1`, `demand-2`, `demand-3`, `own-text-back`; `json-back` is in Json.antt. Assumes nothing.
+use Prim.Native.Nat.{ℕ, min, _≤_}
 use mathlib.Core.Path.{_≡_, refl, sym, ap, ap₂, _∙_, subst}
 use mathlib.Core.Bool.{not, _&&_}
 use mathlib.Core.List.{List, [], _∷_, _++_}
@@ -26,6 +26,7 @@ use Rattle.prepare.specs.Reads.{readBy, readOf}
 use Rattle.prepare.specs.laws.Reads.{split}
 use Rattle.gurkenmond.specs.Calls.{setsBy, setsOf, lakesBy, cannotSkipOf, Matching, refusesInput, matchAfter, matchOf, LakeAnswer, isLakeAt, lakeAfter, lakeOf}
 use Rattle.gurkenmond.specs.Calls.{Writing, writing, writeAfter, writeBy, writeOwnOf, writePlainOf, isSymbol, symbolNameOf}
+use Rattle.gurkenmond.specs.Calls.{refusesLength, refusesList, jsonOf, countBound, writeJsonOf, listIn, parseAfter, readIn, refusesRead, readJsonOf}
 use Rattle.demands.specs.Rows.{Row6, Row7, Row8}
 use Rattle.demands.specs.Checks.{NoRow, textChecks, checks, inputChecks, writeChecks, ownText, plainText}
 use Rattle.demands.specs.Meets.{Tabled, Meets, MeetsLake}
@@ -38,6 +39,7 @@ use Rattle.demands.specs.laws.Cells.{cells-filled}
 use Rattle.demands.specs.laws.Meets.{table, match-meets, match-meets-only}
 use Rattle.demands.specs.laws.MeetsLake.{lake-meets, lake-meets-only}
 use Rattle.demands.specs.laws.Exactly.{read-exactly, cannot-skip-exactly, sets-exactly, match-exactly, lake-exactly, own-exactly, plain-exactly, name-exactly}
+use Rattle.demands.specs.laws.Json.{json-exactly, read-json-exactly}
 use Rattle.demands.specs.laws.SameGrammar.{same-grammar}
 use Rattle.demands.specs.laws.Back.{match-back, plain-back, own-back, prepared-back, own-accepted-back}
 
@@ -60,6 +62,8 @@ demand-1 = record {
   own = own-exactly;
   plain = plain-exactly;
   name = name-exactly;
+  json = json-exactly;
+  read-json = λ m t s js ws b. read-json-exactly m t b s js ws;
 }
 
 -- ── 2 ──
@@ -141,7 +145,7 @@ module _ (m : Mode) (t : List ℕ) (b : IsBytes t) (ok : refuses m t ≡ none) w
         (prepared m own .rules, grammar-of-text m own (text-clear own clear-own), same-grammar g (prepared m own .rules) .1 f)
 
     same-calls : SameCalls m t own
-    unfolding readOf setsOf cannotSkipOf matchOf lakeOf writeOwnOf writePlainOf symbolNameOf
+    unfolding readOf setsOf cannotSkipOf matchOf lakeOf writeOwnOf writePlainOf symbolNameOf writeJsonOf readJsonOf
     same-calls = record {
       grammar = same;
       read = ap₂ readBy checked back;
@@ -156,6 +160,13 @@ module _ (m : Mode) (t : List ℕ) (b : IsBytes t) (ok : refuses m t ≡ none) w
       name =
           λ r out.
           ap₂ (λ (o : Option Refusal) (x : Prepared). writeBy (o ▸ refuseIf (not (isSymbol x r)) 14 0) (symbolText (getD (x .grammar .names) r (name []))) out) checked back;
+      json =
+          λ s ws out.
+          ap₂ (λ (o : Option Refusal) (x : Prepared).
+          writeAfter ((o ▸ refusesList x s ws) ▸ refuseIf (ltb (length out) (length (jsonOf x s ws))) 13 (min countBound (length (jsonOf x s ws)))) (jsonOf x s ws) out) checked back;
+      read-json =
+          λ s js ws.
+          ap₂ (λ (o : Option Refusal) (x : Prepared). parseAfter ((o ▸ refusesLength s) ▸ refusesRead (readIn x s js) ws) (listIn (readIn x s js)) ws) checked back;
     }
 
 pub demand-3 : Demand3

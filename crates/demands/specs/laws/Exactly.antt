@@ -96,7 +96,7 @@ module _ (m : Mode) (t : List ℕ) where
 
   module _ (w out : List ℕ) where
     -- whatever is checked before: a refusal leaves the room
-    room-exactly : {l : List Row} (o : Option Refusal) → Tells l o → Refuses (writeAfter o w out .verdict) l (writeAfter o w out .out ≡ out)
+    pub room-exactly : {l : List Row} (o : Option Refusal) → Tells l o → Refuses (writeAfter o w out .verdict) l (writeAfter o w out .out ≡ out)
     room-exactly o tells =
         by-check tells (writeAfter o w out .verdict) (writeAfter o w out .out ≡ out) (go o) (λ r e. ap (λ (c : Option Refusal). writeAfter c w out .out) e)
       where

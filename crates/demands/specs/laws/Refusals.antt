@@ -201,13 +201,13 @@ module _ (m : Mode) (t : List ℕ) where
       let b : Option Refusal = refuseIf (not (isLakeAt (prepared m t) l && leb q (length s))) 14 0 in
       subst (Tells (lakeChecks m t s cs l q)) (assoc (refuses m t) a b)
       (join (refuses m t ▸ a) b (input-chain s cs)
-      (λ e. missing (isLakeAt (prepared m t) l && leb q (length s)) ((isLakeAt (prepared m t) l ≡ true) × (q ≤ length s)) (lake-there s l q) (there-lake s l q)))
+      (λ e. missing 14 (isLakeAt (prepared m t) l && leb q (length s)) ((isLakeAt (prepared m t) l ≡ true) × (q ≤ length s)) (lake-there s l q) (there-lake s l q)))
 
   -- the sets of an expression, then 14
   pub sets-chain : (e : ℕ) → Tells (setsChecks m t e) (refuses m t ▸ refuseIf (not (isExpression (prepared m t .analysis) e)) 14 0)
   sets-chain e =
       join (refuses m t) (refuseIf (not (isExpression (prepared m t .analysis) e)) 14 0) one-to-eight
-      (λ z. missing (isExpression (prepared m t .analysis) e) (isExpression (prepared m t .analysis) e ≡ true) (λ h. h) (λ h. h))
+      (λ z. missing 14 (isExpression (prepared m t .analysis) e) (isExpression (prepared m t .analysis) e ≡ true) (λ h. h) (λ h. h))
 
   -- writing, then 13
   pub write-chain : (w out : List ℕ) → Tells (writeChecks m t w out) (refuses m t ▸ refuseIf (ltb (length out) (length w)) 13 (length w))
@@ -223,5 +223,5 @@ module _ (m : Mode) (t : List ℕ) where
       let b : Option Refusal = refuseIf (ltb (length out) need) 13 need in
       subst (Tells (nameChecks m t r out)) (sym (assoc (refuses m t) a b))
       (join (refuses m t) (a ▸ b) one-to-eight
-      (λ e. join a b (missing (isSymbol (prepared m t) r) (r < length (symbolNames m t)) (ltb-true r (length (symbolNames m t))) (lt-ltb r (length (symbolNames m t))))
+      (λ e. join a b (missing 14 (isSymbol (prepared m t) r) (r < length (symbolNames m t)) (ltb-true r (length (symbolNames m t))) (lt-ltb r (length (symbolNames m t))))
       (λ f. over-told 13 need (length out) need)))

@@ -15,7 +15,11 @@ use Rattle.match_run.specs.declared.Outcome.{Outcome}
 use Rattle.match_ask.specs.declared.Way.{Way}
 use Rattle.match_ask.specs.declared.LakeWay.{LakeWay}
 use Rattle.write_put.specs.declared.Written.{Written}
+use Rattle.tree_list.specs.declared.NodeStep.{NodeStep}
+use Rattle.tree_list.specs.Handing.{nodeStepAt}
+use Rattle.tree_read.specs.declared.Parsed.{Parsed}
 use Rattle.gurkenmond.specs.Calls.{SaysRead, SaysSets, SaysLakes, matchOf, SaysMatch, lakeOf, SaysWay, Writing, writeOwnOf, writePlainOf, symbolNameOf, SaysText}
+use Rattle.gurkenmond.specs.Calls.{writeJsonOf, readJsonOf, SaysParsed}
 use Rattle.gurkenmond.specs.laws.Answers.{verdict-one, way-one, outcome-one}
 
 same : {A : Type 0} {a b c : A} → a ≡ c → b ≡ c → a ≡ b
@@ -54,6 +58,18 @@ module _ (m : Mode) (t : List ℕ) where
 
   pub symbol-name-one : (x : ℕ) (out : List ℕ) (r r′ : Written) (o o′ : List ℕ) → SaysText r o (symbolNameOf m t x out) → SaysText r′ o′ (symbolNameOf m t x out) → (r ≡ r′) × (o ≡ o′)
   symbol-name-one x out r r′ o o′ = text-one r r′ o o′ (symbolNameOf m t x out)
+
+-- the answer, the node words
+module _ (m : Mode) (t s : List ℕ) where
+  pub write-json-one : (ws out : List ℕ) (r r′ : Written) (o o′ : List ℕ) → SaysText r o (writeJsonOf m t s ws out) → SaysText r′ o′ (writeJsonOf m t s ws out) → (r ≡ r′) × (o ≡ o′)
+  write-json-one ws out r r′ o o′ = text-one m t r r′ o o′ (writeJsonOf m t s ws out)
+
+  pub read-json-one : (js ws : List ℕ) (r r′ : Parsed) (w w′ : List ℕ) → SaysParsed r w (readJsonOf m t s js ws) → SaysParsed r′ w′ (readJsonOf m t s js ws) → (r ≡ r′) × (w ≡ w′)
+  read-json-one js ws r r′ w w′ e f =
+      (ap₂ (λ (k : ℕ) (v : Verdict). record { nodes = k; verdict = v }) (same (e .0) (f .0)) (verdict-one (r .verdict) (r′ .verdict) (same (e .1) (f .1))), same (e .2) (f .2))
+
+pub node-step-one : (ws : List ℕ) (at : ℕ) (r r′ : NodeStep) → r ≡ nodeStepAt ws at → r′ ≡ nodeStepAt ws at → r ≡ r′
+node-step-one ws at r r′ e f = same e f
 
 pub node-sound-one : (ws : List ℕ) (k n : ℕ) (r r′ : Bool) → r ≡ soundAt ws k n → r′ ≡ soundAt ws k n → r ≡ r′
 node-sound-one ws k n r r′ e f = same e f

@@ -1,0 +1,5 @@
+pub mod Tree
+pub mod Preorder
+pub mod Handing
+pub mod steps
+pub mod laws
