@@ -53,6 +53,9 @@ uint64_t gm_node_text(const uint8_t *input, size_t input_len, const uint32_t *no
 uint64_t gm_write_own(uint8_t mode, const uint8_t *text, size_t text_len, uint8_t *room, size_t room_len, uint64_t out[4]);
 uint64_t gm_write_plain(uint8_t mode, const uint8_t *text, size_t text_len, uint8_t *room, size_t room_len, uint64_t out[4]);
 
+/* out: 0, bytes written; or 13, bytes needed. The name of a symbol as it stands in the grammar, a lake's with its brackets. Refusals 1 to 8, 14, 13 */
+uint64_t gm_symbol_name(uint8_t mode, const uint8_t *text, size_t text_len, size_t symbol, uint8_t *room, size_t room_len, uint64_t out[4]);
+
 /* out: 0, bytes written; or 13, bytes needed. A node list as JSON text; nodes are all words of the list, 4 for each node. Refusals 1 to 9, 15, 13 */
 uint64_t gm_write_json(uint8_t mode, const uint8_t *text, size_t text_len, const uint8_t *input, size_t input_len,
                        const uint32_t *nodes, size_t nodes_len, uint8_t *room, size_t room_len, uint64_t out[4]);
@@ -61,9 +64,6 @@ uint64_t gm_write_json(uint8_t mode, const uint8_t *text, size_t text_len, const
    nothing. Refusals 1 to 9, 16, 12 */
 uint64_t gm_read_json(uint8_t mode, const uint8_t *text, size_t text_len, const uint8_t *input, size_t input_len,
                       const uint8_t *json, size_t json_len, uint32_t *nodes, size_t nodes_len, uint64_t out[4]);
-
-/* out: 0, bytes written; or 13, bytes needed. The name of a symbol as it stands in the grammar, a lake's with its brackets. Refusals 1 to 8, 14, 13 */
-uint64_t gm_symbol_name(uint8_t mode, const uint8_t *text, size_t text_len, size_t symbol, uint8_t *room, size_t room_len, uint64_t out[4]);
 #ifdef __cplusplus
 }
 #endif

@@ -20,6 +20,7 @@ from questions import LAST_WORD, field
 
 DEEPEST = 255
 UNTOUCHED = 3735928559
+BLOCKS_ROOM = 2097152  # bytes that the program `blocks` lends
 CUT_EVERY = 5  # so manieth grammar has a text that is cut off at each byte
 
 
@@ -221,6 +222,23 @@ def stored_spans():
             yield [bytes.fromhex(part.strip("-")) for part in (*question.split(" ")[1:], answer.split(" ")[1])]
 
 
+def long_blocks(programs):
+    """How many of two long texts `blocks` prints otherwise: one with 15,001 nodes, and one whose text has no room."""
+    grammar = b"block <- '{' stmt* '}' stmt <- expr expr <- <lake>* ';'"
+    names, bad = ["block", "stmt", "expr", "<lake>"], 0
+    for count in (5000, 9000):
+        text = b"{" + b"a;" * count + b"}"
+        words = [0, 0, len(text), 0]
+        for at in range(1, 2 * count, 2):
+            words += [1, at, at + 2, 1, 2, at, at + 2, 2, 3, at, at + 1, 3]
+        said = text_of(names, text, words)
+        expected = said if len(said) <= BLOCKS_ROOM else f"refused 13 {len(said)}\n".encode()
+        if programs.run("blocks", grammar, text) != expected:
+            bad += 1
+            print(f"trees: blocks prints something else for {count} statements")
+    return bad
+
+
 def main():
     seed = sys.argv[1] if sys.argv[1:] else "1"
     chance, asked, wrong, shown = random.Random(seed), [], 0, 0
@@ -242,6 +260,8 @@ def main():
                 if not printed(programs, grammar, text):
                     wrong += 1
                     print(f"trees: blocks and spans differ on {text!r} by\n{grammar.decode('latin-1')}")
+        shown += 2
+        wrong += long_blocks(programs)
         for grammar, text, expected in stored_spans():
             shown += 1
             if programs.run("spans", grammar, text) != expected:
