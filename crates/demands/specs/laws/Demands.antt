@@ -2,10 +2,10 @@
 use Prim.Native.Nat.{ℕ, min, _≤_}
 use mathlib.Core.Path.{_≡_, refl, sym, ap, ap₂, _∙_, subst}
 use mathlib.Core.Bool.{not, _&&_}
-use mathlib.Core.List.{List, [], _∷_, _++_}
+use mathlib.Core.List.{List, [], _∷_}
 use mathlib.Core.Logic.{_↔_, inl}
 use mathlib.Core.Option.{Option, none}
-use lib.ListN.{length, getD, take, drop}
+use lib.ListN.{length, getD}
 use lib.Dec.{ltb, leb}
 use Rattle.read_tokens.specs.declared.Mode.{Mode}
 use Rattle.read_tokens.specs.declared.Mode.the-variants.{Plain}
@@ -24,13 +24,13 @@ use Rattle.write_rules.specs.Writing.{symbolText, text}
 use Rattle.prepare.specs.Prepare.{Prepared, prepared, refuses}
 use Rattle.prepare.specs.Reads.{readBy, readOf}
 use Rattle.prepare.specs.laws.Reads.{split}
-use Rattle.gurkenmond.specs.Calls.{setsBy, setsOf, lakesBy, cannotSkipOf, Matching, refusesInput, matchAfter, matchOf, LakeAnswer, isLakeAt, lakeAfter, lakeOf}
-use Rattle.gurkenmond.specs.Calls.{Writing, writing, writeAfter, writeBy, writeOwnOf, writePlainOf, isSymbol, symbolNameOf}
+use Rattle.gurkenmond.specs.Calls.{setsBy, setsOf, lakesBy, cannotSkipOf, Matching, refusesInput, matchAfter, matchOf, isLakeAt, lakeAfter, lakeOf}
+use Rattle.gurkenmond.specs.Calls.{Writing, writeAfter, writeBy, writeOwnOf, writePlainOf, isSymbol, symbolNameOf}
 use Rattle.gurkenmond.specs.Calls.{refusesLength, refusesList, jsonOf, countBound, writeJsonOf, listIn, parseAfter, readIn, refusesRead, readJsonOf}
 use Rattle.demands.specs.Rows.{Row6, Row7, Row8}
-use Rattle.demands.specs.Checks.{NoRow, textChecks, checks, inputChecks, writeChecks, ownText, plainText}
+use Rattle.demands.specs.Checks.{NoRow, textChecks, writeChecks, ownText, plainText}
 use Rattle.demands.specs.Meets.{Tabled, Meets, MeetsLake}
-use Rattle.demands.specs.Demands.{Reading, Demand1, Demand2, AreBytes, Wrote, PlainFor, Demand3, SameCalls, OwnTextBack}
+use Rattle.demands.specs.Demands.{Reading, Demand1, Demand2, Wrote, PlainFor, Demand3, SameCalls, OwnTextBack}
 use Rattle.demands.specs.laws.Chain.{silent, accepts, none-of-both}
 use Rattle.demands.specs.laws.Refusals.{one-to-eight, write-chain}
 use Rattle.demands.specs.laws.Refusals.{reading as grammar-of-text}
@@ -39,7 +39,7 @@ use Rattle.demands.specs.laws.Cells.{cells-filled}
 use Rattle.demands.specs.laws.Meets.{table, match-meets, match-meets-only}
 use Rattle.demands.specs.laws.MeetsLake.{lake-meets, lake-meets-only}
 use Rattle.demands.specs.laws.Exactly.{read-exactly, cannot-skip-exactly, sets-exactly, match-exactly, lake-exactly, own-exactly, plain-exactly, name-exactly}
-use Rattle.demands.specs.laws.Json.{json-exactly, read-json-exactly}
+use Rattle.demands.specs.laws.Json.{json-exactly, read-json-exactly, wrote-by}
 use Rattle.demands.specs.laws.SameGrammar.{same-grammar}
 use Rattle.demands.specs.laws.Back.{match-back, plain-back, own-back, prepared-back, own-accepted-back}
 
@@ -74,10 +74,6 @@ demand-2 = record {
 }
 
 -- ── 3 ──
-front-of : (w l : List ℕ) → take (length w) (w ++ l) ≡ w
-front-of [] l = refl
-front-of (b ∷ w) l = ap (λ (v : List ℕ). b ∷ v) (front-of w l)
-
 -- no row holds: the text is accepted, and what is written stands in the room
 module _ (m : Mode) (t w out : List ℕ) (z : NoRow (writeChecks m t w out)) where
   clear : (refuses m t ▸ refuseIf (ltb (length out) (length w)) 13 (length w)) ≡ none
@@ -87,13 +83,7 @@ module _ (m : Mode) (t w out : List ℕ) (z : NoRow (writeChecks m t w out)) whe
   accepted = split (refuses m t) (refuseIf (ltb (length out) (length w)) 13 (length w)) clear .0
 
   wrote : (x : Writing) → x ≡ writeBy (refuses m t) w out → Wrote x w
-  wrote x e =
-      let f : x ≡ writing (length w) none (w ++ drop (length w) out) = e ∙ ap (λ (o : Option Refusal). writeAfter o w out) clear in
-      record {
-        accepted = ap (λ (y : Writing). y .verdict) f;
-        count = ap (λ (y : Writing). y .bytes) f;
-        front = sym (front-of w (drop (length w) out)) ∙ ap (λ (y : Writing). take (y .bytes) (y .out)) (sym f);
-      }
+  wrote x e = wrote-by x w out (e ∙ ap (λ (o : Option Refusal). writeAfter o w out) clear)
 
 module _ (m : Mode) (t out : List ℕ) (z : NoRow (writeChecks m t (plainText m t) out)) where
   wrote-plain : Wrote (writePlainOf m t out) (plainText m t)

@@ -33,8 +33,8 @@ use Rattle.tree_json.specs.Reading.{parsed, Plainly}
 use Rattle.tree_json.specs.laws.Back.{texts-are-read}
 use Rattle.tree_json.specs.laws.Only.{read-only-texts}
 use Rattle.tree_json.specs.laws.Tree.{json-tree}
-use Rattle.gurkenmond.specs.Calls.{Writing, writing, writeAfter, countBound, refusesLength, refusesList, writeJsonOf}
-use Rattle.gurkenmond.specs.Calls.{Parsing, parsing, isText, listIn, parseAfter, readIn, refusesRead, readJsonOf}
+use Rattle.gurkenmond.specs.Calls.{Writing, writeAfter, countBound, refusesLength, refusesList, writeJsonOf}
+use Rattle.gurkenmond.specs.Calls.{parsing, isText, listIn, parseAfter, readIn, refusesRead, readJsonOf}
 use Rattle.demands.specs.Texts.{IsText, nodesOfText}
 use Rattle.demands.specs.Rows.{Row16, Row12Read, known, symbolOf}
 use Rattle.demands.specs.Checks.{NoRow, listText, jsonChecks, readChecks}
@@ -42,13 +42,10 @@ use Rattle.demands.specs.Demands.{Refuses, AreBytes, Wrote, JsonBack, at
 use Rattle.demands.specs.laws.Chain.{Tells, accepts, join, row-tells, over-told, found-at, missing, same-refusal}
 use Rattle.demands.specs.laws.Exactly.{by-check, room-exactly}
 use Rattle.demands.specs.laws.Refusals.{one-to-eight}
+use Rattle.demands.specs.laws.Refused.{if-none}
 use Rattle.demands.specs.laws.Names.{plain-names}
 
 -- a check that passes
-if-none : (b : Bool) (k p : ℕ) → refuseIf b k p ≡ none → b ≡ false
-if-none true k p e = absurd (some-none (refusal k p) e)
-if-none false k p e = refl
-
 not-false : (b : Bool) → not b ≡ false → b ≡ true
 not-false true e = refl
 not-false false e = absurd (true≢false e)
@@ -207,7 +204,7 @@ module _ (m : Mode) (t : List ℕ) where
       go (some r) l = refl
 
 -- ── there and back ──
-wrote-by : (x : Writing) (w out : List ℕ) → x ≡ writeAfter none w out → Wrote x w
+pub wrote-by : (x : Writing) (w out : List ℕ) → x ≡ writeAfter none w out → Wrote x w
 wrote-by x w out f = record {
   accepted = ap (λ (y : Writing). y .verdict) f;
   count = ap (λ (y : Writing). y .bytes) f;
@@ -229,7 +226,8 @@ module _ (m : Mode) (t s : List ℕ) (ok : refuses m t ≡ none) (fits : refuses
   writes-list : (ws out w : List ℕ) → badNode (known m t) (length s) ws ≡ none → listText m t s ws ≡ w → length w ≤ length out → writeJsonOf m t s ws out ≡ writeAfter none w out
   unfolding writeJsonOf
   writes-list ws out w e q l =
-      ap (λ (v : List ℕ). writeAfter ((refuses m t ▸ (refusesLength s ▸ refuseAt 15 (badNode (known m t) (length s) ws))) ▸ refuseIf (ltb (length out) (length v)) 13 (min countBound (length v))) v out) q
+      ap (λ (v : List ℕ).
+      writeAfter ((refuses m t ▸ (refusesLength s ▸ refuseAt 15 (badNode (known m t) (length s) ws))) ▸ refuseIf (ltb (length out) (length v)) 13 (min countBound (length v))) v out) q
       ∙ ap (λ (o : Option ℕ). writeAfter ((refuses m t ▸ (refusesLength s ▸ refuseAt 15 o)) ▸ refuseIf (ltb (length out) (length w)) 13 (min countBound (length w))) w out) e
       ∙ ap₂ (λ (a b : Option Refusal). writeAfter ((a ▸ (b ▸ none)) ▸ refuseIf (ltb (length out) (length w)) 13 (min countBound (length w))) w out) ok fits
       ∙ ap (λ (b : Bool). writeAfter (refuseIf b 13 (min countBound (length w))) w out) (le-ltb (length out) (length w) l)

@@ -20,7 +20,7 @@ use Rattle.demands.specs.Checks.{FirstRow, NoRow, inputChecks, lakeCheck
 use Rattle.demands.specs.laws.Chain.{accepts}
 use Rattle.demands.specs.laws.Refusals.{input-chain, lake-chain}
 
-if-none : (b : Bool) (k p : ℕ) → refuseIf b k p ≡ none → b ≡ false
+pub if-none : (b : Bool) (k p : ℕ) → refuseIf b k p ≡ none → b ≡ false
 if-none true k p e = absurd (some-none (refusal k p) e)
 if-none false k p e = refl
 

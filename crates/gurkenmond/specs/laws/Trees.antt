@@ -1,16 +1,14 @@
 -- A node list as JSON text and back, from the table that holds an accepted grammar (02, par. 1). Assumes nothing.
-use Prim.Native.Nat.{ℕ, min, _≤_, _<_}
-use mathlib.Core.Path.{_≡_, refl, sym, ap, ap₂, _∙_, subst}
-use mathlib.Core.Bool.{Bool, true, false, not, cond}
-use mathlib.Core.List.{List, []}
+use Prim.Native.Nat.{ℕ, _<_}
+use mathlib.Core.Path.{_≡_, refl, sym, ap, ap₂, _∙_}
+use mathlib.Core.Bool.{Bool, true, false}
+use mathlib.Core.List.{List}
 use mathlib.Core.Option.{Option, none, some}
-use native.Mathlib.Omega.{arith}
 use lib.Dec.{ltb}
-use lib.ListN.{length, getD}
+use lib.ListN.{length}
 use borrow.Author.Tests.{ltb-true, ltb-false}
 use Rattle.read_tokens.specs.declared.Mode.{Mode}
 use Rattle.read_tokens.specs.Bounds.{inputBound}
-use Rattle.read_tokens.specs.Token.{Symbol, name}
 use Rattle.read_tokens.specs.laws.Bytes.{Bytes}
 use Rattle.grammar.specs.Numbers.{numbered}
 use Rattle.grammar.specs.Refusal.{Refusal, refusal, refuseIf, refuseAt, _▸_}
@@ -39,8 +37,8 @@ use Rattle.tree_read.specs.declared.Parsed.{Parsed}
 use Rattle.tree_read.specs.steps.Puts.{parsedBy, wordsBy}
 use Rattle.tree_read.specs.steps.Lists.{notRead, ReadList}
 use Rattle.gurkenmond.specs.Answers.{verdictSays}
-use Rattle.gurkenmond.specs.Calls.{writing, writeAfter, SaysText, symbolAt, jsonOf, refusesList, refusesLength, writeJsonOf}
-use Rattle.gurkenmond.specs.Calls.{Parsing, parsing, isText, listIn, parseAfter, readIn, refusesRead, readJsonOf, SaysParsed}
+use Rattle.gurkenmond.specs.Calls.{writeAfter, SaysText, symbolAt, jsonOf, refusesList, refusesLength, writeJsonOf}
+use Rattle.gurkenmond.specs.Calls.{Parsing, parsing, listIn, parseAfter, readIn, refusesRead, readJsonOf, SaysParsed}
 use Rattle.gurkenmond.specs.laws.Verdicts.{handed}
 use Rattle.gurkenmond.specs.laws.Names.{named}
 use Rattle.gurkenmond.specs.laws.Writes.{told, says-by, refused-by}
