@@ -42,9 +42,11 @@ module _ (m : Mode) (t : List ℕ) where
 
   -- the answer, the cells
   pub lake-one : (s cs : List ℕ) (l q : ℕ) (r r′ : LakeWay) (c c′ : List ℕ) → SaysWay r c (lakeOf m t s cs l q) → SaysWay r′ c′ (lakeOf m t s cs l q) → (r ≡ r′) × (c ≡ c′)
-  lake-one s cs l q r r′ c c′ e f =
-      (ap₂ (λ (x : Way) (v : Verdict). record { way = x; verdict = v }) (way-one (r .way) (r′ .way) (same (e .0) (f .0)))
-      (verdict-one (r .verdict) (r′ .verdict) (same (e .1) (f .1))), same (e .2) (f .2))
+  lake-one s cs l q r r′ c c′ e f = (
+    ap₂ (λ (x : Way) (v : Verdict). record { way = x; verdict = v }) (way-one (r .way) (r′ .way) (same (e .0) (f .0)))
+        (verdict-one (r .verdict) (r′ .verdict) (same (e .1) (f .1))),
+    same (e .2) (f .2),
+  )
 
   -- the answer, the output room
   text-one : (r r′ : Written) (o o′ : List ℕ) (w : Writing) → SaysText r o w → SaysText r′ o′ w → (r ≡ r′) × (o ≡ o′)
