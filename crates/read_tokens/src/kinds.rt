@@ -1,6 +1,7 @@
 // One table gives the kind of each byte.
 ghost use mathlib.Core.Path.{_≡_};
 ghost use Rattle.read_tokens.specs.Kinds.{kindAt};
+ghost use Rattle.read_tokens.specs.steps.Code.{Tabled};
 
 pub const OTHER: u8 = 0;
 
@@ -289,8 +290,16 @@ const KINDS: [u8; 256] = [
     0,
 ];
 
-pub fn kind_of(b: u8) -> u8
+// The table as an array to lend. Wherever a constant array is named its bytes are laid out on the stack: so a token names it once, and each look-up borrows it.
+pub fn laid_out() -> [u8; 256]
+    ensures { λ r. ⌜ Tabled r ⌝ }
+{
+    KINDS
+}
+
+pub fn kind_of(b: u8, kinds: &[u8; 256]) -> u8
+    requires { ⌜ Tabled (now kinds) ⌝ }
     ensures { λ r. ⌜ r ≡ kindAt b ⌝ }
 {
-    KINDS[b as usize]
+    kinds[b as usize]
 }

@@ -6,7 +6,7 @@ ghost use lib.ListN.{length, drop};
 ghost use Rattle.read_tokens.specs.Chars.{body, single};
 ghost use Rattle.read_tokens.specs.Token.{pre, suf};
 ghost use Rattle.read_tokens.specs.Tokens.{nameSpan, literalBy, bracket, angle, preOf, sufOf, tokenAt};
-ghost use Rattle.read_tokens.specs.steps.Code.{kindOf, coded, named, laked, made};
+ghost use Rattle.read_tokens.specs.steps.Code.{Tabled, kindOf, coded, named, laked, made};
 
 pub mod chars;
 pub mod classes;
@@ -105,27 +105,28 @@ fn suffix_of(b: u8) -> u8
 }
 
 // The name whose first byte stands at `at`.
-fn name_token(text: &[u8], at: usize) -> Token
+fn name_token(text: &[u8], at: usize, kinds: &[u8; 256]) -> Token
+    requires { ⌜ Tabled (now kinds) ⌝ }
     ensures { λ r. ⌜ r ≡ coded (named at (nameSpan (drop at (now (text .entry))))) ⌝ }
 {
-    let end = name_end(text, at);
+    let end = name_end(text, at, kinds);
     sized(NAME, at, end, end - at)
 }
 
 // Behind the `<` at `at`: "a lake is `<name>` without blanks inside".
-fn lake_token(text: &[u8], at: usize) -> Token
-    requires { ⌜ at < length (now text) ⌝ }
+fn lake_token(text: &[u8], at: usize, kinds: &[u8; 256]) -> Token
+    requires { ⌜ (at < length (now text)) × Tabled (now kinds) ⌝ }
     ensures { λ r. ⌜ r ≡ coded (laked at (drop (suc at) (now (text .entry)))) ⌝ }
 {
     let from = at + 1;
     if text.len() <= from {
         return plain(BAD, at, from);
     }
-    let k = kind_of(text[from]);
+    let k = kind_of(text[from], kinds);
     if k != kinds::LETTER {
         return plain(BAD, at, from);
     }
-    let end = name_end(text, from);
+    let end = name_end(text, from, kinds);
     let b = byte_at(text, end);
     if b != 62 {
         return plain(BAD, at, from);
@@ -134,8 +135,8 @@ fn lake_token(text: &[u8], at: usize) -> Token
 }
 
 // The token that begins with the `<` at `at`: "`<` followed by `-` is the arrow"; plain mode has no lakes.
-fn less_token(mode: Mode, text: &[u8], at: usize) -> Token
-    requires { ⌜ at < length (now text) ⌝ }
+fn less_token(mode: Mode, text: &[u8], at: usize, kinds: &[u8; 256]) -> Token
+    requires { ⌜ (at < length (now text)) × Tabled (now kinds) ⌝ }
     ensures { λ r. ⌜ r ≡ coded (angle mode at (drop (suc at) (now (text .entry)))) ⌝ }
 {
     let from = at + 1;
@@ -144,7 +145,7 @@ fn less_token(mode: Mode, text: &[u8], at: usize) -> Token
         return plain(ARROW, at, at + 2);
     }
     match mode {
-        Mode::Lake => lake_token(text, at),
+        Mode::Lake => lake_token(text, at, kinds),
         Mode::Plain => plain(BAD, at, from),
     }
 }
@@ -181,15 +182,16 @@ fn class_token(mode: Mode, text: &[u8], at: usize) -> Token
 pub fn token_at(mode: Mode, text: &[u8], at: usize) -> Token
     ensures { λ r. ⌜ r ≡ coded (tokenAt mode (now (text .entry)) at) ⌝ }
 {
-    let i = blanks(text, at);
+    let kinds = kinds::laid_out();
+    let i = blanks(text, at, &kinds);
     if text.len() <= i {
         return plain(END, i, i);
     }
     let b = text[i];
-    let k = kind_of(b);
+    let k = kind_of(b, &kinds);
     let n = i + 1;
     match k {
-        kinds::LETTER => name_token(text, i),
+        kinds::LETTER => name_token(text, i, &kinds),
         kinds::OPEN => plain(OPENS, i, n),
         kinds::CLOSE => plain(CLOSES, i, n),
         kinds::SLASH => plain(SLASH, i, n),
@@ -198,7 +200,7 @@ pub fn token_at(mode: Mode, text: &[u8], at: usize) -> Token
         kinds::DOT => plain(ANY, i, n),
         kinds::QUOTE => literal_token(text, i, b),
         kinds::CLASS => class_token(mode, text, i),
-        kinds::LESS => less_token(mode, text, i),
+        kinds::LESS => less_token(mode, text, i, &kinds),
         _ => plain(BAD, i, n),
     }
 }

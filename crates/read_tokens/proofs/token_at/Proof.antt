@@ -1,10 +1,11 @@
 use mathlib.Core.Path.{_≡_, refl, sym, ap, _∙_}
-use Prim.Native.Nat.{ℕ, suc, _+_, _-_, _≤_}
+use Prim.Native.Nat.{ℕ, suc, _<_}
 use lib.ListN.{length, drop, getD}
 use mathlib.Core.List.{List}
+use Rattle.read_tokens.specs.declared.Mode.{Mode}
 use Rattle.read_tokens.specs.steps.Code.{coded, made, named}
 use lib.Seq.{drop-cons}
-use Rattle.read_tokens.specs.Tokens.{byKind, nameSpan}
+use Rattle.read_tokens.specs.Tokens.{byKind, nameSpan, tokenAt}
 use Rattle.read_tokens.proofs.LiteralSteps.{bad-is}
 use Rattle.read_tokens.proofs.TokenSteps.{token-end, token-is, one-is, bad-kind}
 use borrow.Author.Needs.{needs}
@@ -13,6 +14,7 @@ use Rattle.read_tokens.proofs.token_at.Tie as tie
 use Rattle.read_tokens.proofs.token_at.Reads as reads
 use Rattle.read_tokens.proofs.token_at.Lts as lts
 use Rattle.read_tokens.proofs.kinds.kind_of.Reads as kind-of-reads
+use Rattle.read_tokens.proofs.kinds.laid_out.Reads as laid-out-reads
 use Rattle.read_tokens.proofs.class_token.Reads as class-token-reads
 use Rattle.read_tokens.proofs.less_token.Reads as less-token-reads
 use Rattle.read_tokens.proofs.literal_token.Reads as literal-token-reads
@@ -22,6 +24,9 @@ use Rattle.read_tokens.proofs.plain.Reads as plain-reads
 use Rattle.read_tokens.proofs.prefix_of.Reads as prefix-of-reads
 use Rattle.read_tokens.proofs.suffix_of.Reads as suffix-of-reads
 
+laid-out-requires : tie.Need-laid-out-requires
+laid-out-requires c κs = search needs
+
 blanks-requires : tie.Need-blanks-requires
 blanks-requires c κs = search needs
 
@@ -29,8 +34,8 @@ plain-requires : tie.Need-plain-requires
 plain-requires c κs = search needs
 
 returns : tie.Need-returns
-returns c = c .plain .ensures ∙ token-end (c .before .before .before .before .args .mode) (c .before .before .before .before .args .text .now)
-    (c .before .before .before .before .args .at) _ (c .before .before .blanks .ensures) (c .before .if1 .taken)
+returns c = c .plain .ensures ∙ token-end (c .before .before .before .before .before .before .args .mode) (c .before .before .before .before .before .before .args .text .now)
+    (c .before .before .before .before .before .before .args .at) _ (c .before .before .blanks .ensures) (c .before .if1 .taken)
 
 shared-slice-read-b : tie.Need-shared-slice-read-b
 shared-slice-read-b c = search needs
@@ -80,81 +85,77 @@ less-token-requires c κs = search needs
 plain-requires-8 : tie.Need-plain-requires-8
 plain-requires-8 c κs = search needs
 
+-- What all arms share: the byte at the place behind the blanks has the kind k.
+module _ (c : tie.After-kind-of) where
+  abbrev mode : Mode
+  mode = c .before .before .before .before .before .before .before .before .args .mode
+
+  abbrev text : List ℕ
+  text = c .before .before .before .before .before .before .before .before .args .text .now
+
+  abbrev at : ℕ
+  at = c .before .before .before .before .before .before .before .before .args .at
+
+  abbrev i : ℕ
+  i = c .before .before .before .before .blanks .result
+
+  inside : i < length text
+  inside = c .before .before .before .if1 .left
+
+  here : (k : ℕ) → c .kind-of .result ≡ k → coded (byKind k mode (getD text i 0) i (drop (suc i) text)) ≡ coded (tokenAt mode text at)
+  here k e = token-is mode text at i k (c .before .before .before .before .blanks .ensures) inside (sym (c .kind-of .ensures) ∙ e)
+
 returns-2 : tie.Need-returns-2
 unfolding byKind
-returns-2 c = c .name-token .ensures ∙ ap (λ (l : List ℕ). coded (named (c .before .before .before .before .before .blanks .result) (nameSpan l)))
-    (drop-cons (c .before .before .before .before .before .before .before .args .text .now) (c .before .before .before .before .before .blanks .result) 0
-    (c .before .before .before .before .if1 .left)) ∙ token-is (c .before .before .before .before .before .before .before .args .mode)
-    (c .before .before .before .before .before .before .before .args .text .now) (c .before .before .before .before .before .before .before .args .at) _ 2
-    (c .before .before .before .before .before .blanks .ensures) (c .before .before .before .before .if1 .left) (sym (c .before .before .kind-of .ensures) ∙ c .before .match .keys1)
+returns-2 c = c .name-token .ensures ∙ ap (λ (l : List ℕ). coded (named (i (c .before .before .before)) (nameSpan l)))
+    (drop-cons (text (c .before .before .before)) (i (c .before .before .before)) 0 (inside (c .before .before .before))) ∙ here (c .before .before .before) 2 (c .before .before .match .keys1)
 
 returns-3 : tie.Need-returns-3
 unfolding byKind
-returns-3 c = c .plain2 .ensures ∙ one-is 13 _ ∙ token-is (c .before .before .before .before .before .before .before .args .mode)
-    (c .before .before .before .before .before .before .before .args .text .now) (c .before .before .before .before .before .before .before .args .at) _ 5
-    (c .before .before .before .before .before .blanks .ensures) (c .before .before .before .before .if1 .left) (sym (c .before .before .kind-of .ensures) ∙ c .before .match .keys2)
+returns-3 c = c .plain2 .ensures ∙ one-is 13 _ ∙ here (c .before .before) 5 (c .before .match .keys2)
 
 returns-4 : tie.Need-returns-4
 unfolding byKind
-returns-4 c = c .plain3 .ensures ∙ one-is 14 _ ∙ token-is (c .before .before .before .before .before .before .before .args .mode)
-    (c .before .before .before .before .before .before .before .args .text .now) (c .before .before .before .before .before .before .before .args .at) _ 6
-    (c .before .before .before .before .before .blanks .ensures) (c .before .before .before .before .if1 .left) (sym (c .before .before .kind-of .ensures) ∙ c .before .match .keys3)
+returns-4 c = c .plain3 .ensures ∙ one-is 14 _ ∙ here (c .before .before) 6 (c .before .match .keys3)
 
 returns-5 : tie.Need-returns-5
 unfolding byKind
-returns-5 c = c .plain4 .ensures ∙ one-is 12 _ ∙ token-is (c .before .before .before .before .before .before .before .args .mode)
-    (c .before .before .before .before .before .before .before .args .text .now) (c .before .before .before .before .before .before .before .args .at) _ 7
-    (c .before .before .before .before .before .blanks .ensures) (c .before .before .before .before .if1 .left) (sym (c .before .before .kind-of .ensures) ∙ c .before .match .keys4)
+returns-5 c = c .plain4 .ensures ∙ one-is 12 _ ∙ here (c .before .before) 7 (c .before .match .keys4)
 
 returns-6 : tie.Need-returns-6
 unfolding byKind
-returns-6 c = c .plain5 .ensures ∙ one-is _ _ ∙ ap (λ (k : ℕ). made k (c .before .before .before .before .before .before .blanks .result)
-    (suc (c .before .before .before .before .before .before .blanks .result)) 0) (c .before .prefix-of .ensures) ∙ token-is
-    (c .before .before .before .before .before .before .before .before .args .mode) (c .before .before .before .before .before .before .before .before .args .text .now)
-    (c .before .before .before .before .before .before .before .before .args .at) _ 8 (c .before .before .before .before .before .before .blanks .ensures)
-    (c .before .before .before .before .before .if1 .left) (sym (c .before .before .before .kind-of .ensures) ∙ c .before .before .match .keys5)
+returns-6 c = c .plain5 .ensures ∙ one-is _ _ ∙ ap (λ (k : ℕ). made k (i (c .before .before .before)) (suc (i (c .before .before .before))) 0) (c .before .prefix-of .ensures)
+    ∙ here (c .before .before .before) 8 (c .before .before .match .keys5)
 
 returns-7 : tie.Need-returns-7
 unfolding byKind
-returns-7 c = c .plain6 .ensures ∙ one-is _ _ ∙ ap (λ (k : ℕ). made k (c .before .before .before .before .before .before .blanks .result)
-    (suc (c .before .before .before .before .before .before .blanks .result)) 0) (c .before .suffix-of .ensures) ∙ token-is
-    (c .before .before .before .before .before .before .before .before .args .mode) (c .before .before .before .before .before .before .before .before .args .text .now)
-    (c .before .before .before .before .before .before .before .before .args .at) _ 9 (c .before .before .before .before .before .before .blanks .ensures)
-    (c .before .before .before .before .before .if1 .left) (sym (c .before .before .before .kind-of .ensures) ∙ c .before .before .match .keys6)
+returns-7 c = c .plain6 .ensures ∙ one-is _ _ ∙ ap (λ (k : ℕ). made k (i (c .before .before .before)) (suc (i (c .before .before .before))) 0) (c .before .suffix-of .ensures)
+    ∙ here (c .before .before .before) 9 (c .before .before .match .keys6)
 
 returns-8 : tie.Need-returns-8
 unfolding byKind
-returns-8 c = c .plain7 .ensures ∙ one-is 3 _ ∙ token-is (c .before .before .before .before .before .before .before .args .mode)
-    (c .before .before .before .before .before .before .before .args .text .now) (c .before .before .before .before .before .before .before .args .at) _ 10
-    (c .before .before .before .before .before .blanks .ensures) (c .before .before .before .before .if1 .left) (sym (c .before .before .kind-of .ensures) ∙ c .before .match .keys7)
+returns-8 c = c .plain7 .ensures ∙ one-is 3 _ ∙ here (c .before .before) 10 (c .before .match .keys7)
 
 returns-9 : tie.Need-returns-9
 unfolding byKind
-returns-9 c = c .literal-token .ensures ∙ token-is (c .before .before .before .before .before .before .before .args .mode)
-    (c .before .before .before .before .before .before .before .args .text .now) (c .before .before .before .before .before .before .before .args .at) _ 11
-    (c .before .before .before .before .before .blanks .ensures) (c .before .before .before .before .if1 .left) (sym (c .before .before .kind-of .ensures) ∙ c .before .match .keys8)
+returns-9 c = c .literal-token .ensures ∙ here (c .before .before) 11 (c .before .match .keys8)
 
 returns-10 : tie.Need-returns-10
 unfolding byKind
-returns-10 c = c .class-token .ensures ∙ token-is (c .before .before .before .before .before .before .before .args .mode)
-    (c .before .before .before .before .before .before .before .args .text .now) (c .before .before .before .before .before .before .before .args .at) _ 12
-    (c .before .before .before .before .before .blanks .ensures) (c .before .before .before .before .if1 .left) (sym (c .before .before .kind-of .ensures) ∙ c .before .match .keys9)
+returns-10 c = c .class-token .ensures ∙ here (c .before .before) 12 (c .before .match .keys9)
 
 returns-11 : tie.Need-returns-11
 unfolding byKind
-returns-11 c = c .less-token .ensures ∙ token-is (c .before .before .before .before .before .before .before .args .mode)
-    (c .before .before .before .before .before .before .before .args .text .now) (c .before .before .before .before .before .before .before .args .at) _ 13
-    (c .before .before .before .before .before .blanks .ensures) (c .before .before .before .before .if1 .left) (sym (c .before .before .kind-of .ensures) ∙ c .before .match .keys10)
+returns-11 c = c .less-token .ensures ∙ here (c .before .before .before) 13 (c .before .before .match .keys10)
 
 returns-12 : tie.Need-returns-12
-returns-12 c = c .plain8 .ensures ∙ bad-is _ ∙ bad-kind _ _ _ _ _ (c .before .match .rest) ∙ token-is (c .before .before .before .before .before .before .before .args .mode)
-    (c .before .before .before .before .before .before .before .args .text .now) (c .before .before .before .before .before .before .before .args .at) _ _
-    (c .before .before .before .before .before .blanks .ensures) (c .before .before .before .before .if1 .left) (sym (c .before .before .kind-of .ensures))
+returns-12 c = c .plain8 .ensures ∙ bad-is _ ∙ bad-kind _ _ _ _ _ (c .before .match .rest) ∙ here (c .before .before) _ refl
 
 pub token-at-spec : {M : Type 1} → statement M
 token-at-spec =
     tie.close
     (tie.spec
+    laid-out-requires
     blanks-requires
     plain-requires
     returns

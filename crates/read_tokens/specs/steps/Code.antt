@@ -1,12 +1,12 @@
--- Tokens, characters and classes as the code holds them: a token is numbers, what it holds is read again from the text by its place.
+-- Kinds, tokens, characters and classes as the code holds them: a token is numbers, what it holds is read again from the text by its place.
 -- Assumes nothing: these are definitions.
-use Prim.Native.Nat.{ℕ, zero, suc, _+_}
+use Prim.Native.Nat.{ℕ, zero, suc, _+_, _<_}
 use mathlib.Core.Path.{_≡_}
 use mathlib.Core.Bool.{Bool, true, false}
 use mathlib.Core.Option.{Option, none, some}
 use mathlib.Core.List.{List, [], _∷_}
 use lib.Dec.{eqb}
-use lib.ListN.{length, drop, replicate}
+use lib.ListN.{length, drop, getD, replicate}
 use Rattle.read_tokens.specs.Kinds.{kindAt}
 use Rattle.read_tokens.specs.declared.Mode.{Mode}
 use Rattle.read_tokens.specs.declared.Mode.the-variants.{Lake, Plain}
@@ -21,6 +21,11 @@ use Rattle.read_tokens.specs.Chars as chars
 use Rattle.read_tokens.specs.Chars.{Range, Body, shut, broken, char}
 use Rattle.read_tokens.specs.Tokens.{tok, badAt, nameSpan, lakeBy, bracket}
 use Rattle.read_tokens.specs.laws.Marks.{paintAll}
+
+-- ── kinds ──
+-- the kind of each byte, at its place
+abbrev pub Tabled : List ℕ → Type 0
+Tabled ks = (b : ℕ) → b < 256 → getD ks b 0 ≡ kindAt b
 
 -- ── tokens ──
 -- the number of a token's kind; 0 is the text's end

@@ -14,10 +14,10 @@ use Rattle.read_tokens.proofs.names.blanks.Lts as lts
 use Rattle.read_tokens.proofs.names.blank_of.Reads as blank-of-reads
 
 abbrev Inv-loop : tie.InvT-loop
-Inv-loop text at i₀ inside₀ i inside = skip inside i (drop i text) ≡ skip false at (drop at text)
+Inv-loop text at kinds i₀ inside₀ i inside = skip inside i (drop i text) ≡ skip false at (drop at text)
 
 abbrev μ-loop : tie.MeasureT-loop
-μ-loop text at i₀ inside₀ i inside = length text - i
+μ-loop text at kinds i₀ inside₀ i inside = length text - i
 
 loop-holds : tie.Need-loop-holds Inv-loop μ-loop
 loop-holds c = refl

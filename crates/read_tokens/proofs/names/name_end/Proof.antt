@@ -13,10 +13,10 @@ use Rattle.read_tokens.proofs.names.name_end.Lts as lts
 use Rattle.read_tokens.proofs.names.in_name.Reads as in-name-reads
 
 abbrev Inv-loop : tie.InvT-loop
-Inv-loop text from i₀ i = i + length (nameSpan (drop i text)) ≡ from + length (nameSpan (drop from text))
+Inv-loop text from kinds i₀ i = i + length (nameSpan (drop i text)) ≡ from + length (nameSpan (drop from text))
 
 abbrev μ-loop : tie.MeasureT-loop
-μ-loop text from i₀ i = length text - i
+μ-loop text from kinds i₀ i = length text - i
 
 loop-holds : tie.Need-loop-holds Inv-loop μ-loop
 loop-holds c = refl
