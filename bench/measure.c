@@ -4,12 +4,16 @@
      time NAME SIZE PEER SECONDS             the least CPU time of one call
      read NAME SIZE ANSWER PLACE             what gm_read answered
      tree NAME SIZE BYTES                    the nodes as JSON text, ours and stdio's alike; else differs. Times of both follow, of NAME:tree
+     records NAME SIZE SYMBOLS               the records of the nodes, ours and C's alike; else differs. Times of both follow, of NAME:records, and of ours
+                                             up to where the grammar is prepared
+     place NAME SIZE LINE COLUMN             of the text's end, ours and C's alike; else differs. Times of both follow, of NAME:place
      over NAME SIZE                          not run: the sizes before it say that it would take longer than the case may
    LIST has lines `match NAME SIZE MODE GRAMMAR TEXT PEERS` and `read NAME SIZE MODE TEXT - o`, sizes of a name in ascending order. PEERS are of the letters
    o, t, l, f: ours, C table, LPeg with a tree of nodes, LPeg with a flat list. The time of ours is the whole call, reading and translating the grammar
    included; LPeg's pattern and the C table's grammar are made before. */
 #include "gurkenmond.h"
 #include "print.h"
+#include "records.h"
 #include "table.h"
 #include <lauxlib.h>
 #include <lua-lpeg.h>
@@ -305,6 +309,86 @@ static void tree(Case *c, const char *name, const char *size)
     free(tree_room);
 }
 
+/* ---- the records of its nodes, and the place of the text's end */
+
+enum { RECORD_TURNS = 50 };
+
+/* Of no node words at all the call is refused once the grammar is prepared. */
+static double ours_sums(const Case *c, size_t node_words, gm_summary *records, uint64_t out[4])
+{
+    double start = now();
+    gm_summarise(c->mode, c->grammar.at, c->grammar.len, c->text.at, c->text.len, c->nodes[OURS], node_words, records, GM_SYMBOLS_MOST, out);
+    return now() - start;
+}
+
+static double c_sums(const Case *c, gm_summary *records, size_t symbols)
+{
+    double start = now();
+    sum_nodes(c->nodes[OURS], c->count[OURS], records, symbols);
+    return now() - start;
+}
+
+/* But for what lies behind their last field. */
+static int same_records(const gm_summary *a, const gm_summary *b, size_t count)
+{
+    for (size_t r = 0; r < count; r++)
+        if (memcmp(a + r, b + r, offsetof(gm_summary, present) + sizeof a->present)) return 0;
+    return 1;
+}
+
+static void lower(double *least, double taken)
+{
+    if (taken < *least) *least = taken;
+}
+
+static void records(const Case *c, const char *name, const char *size)
+{
+    static gm_summary ours[GM_SYMBOLS_MOST], theirs[GM_SYMBOLS_MOST];
+    const size_t node_words = GM_NODE_WORDS * c->count[OURS], symbols = c->cell_words / (c->text.len + 1);
+    uint64_t out[4], none[4];
+    double least[3] = {ours_sums(c, node_words, ours, out), c_sums(c, theirs, symbols), ours_sums(c, 0, ours, none)};
+    if (out[0] || out[1] != symbols || none[0] != 15 || !same_records(ours, theirs, symbols))
+        printf("differs %s %s C: the records\n", name, size);
+    else
+        printf("records %s %s %zu\n", name, size, symbols);
+    for (int turn = 1; turn < RECORD_TURNS; turn++) {
+        lower(&least[0], ours_sums(c, node_words, ours, out));
+        lower(&least[1], c_sums(c, theirs, symbols));
+        lower(&least[2], ours_sums(c, 0, ours, none));
+    }
+    printf("time %s:records %s ours %.9f\ntime %s:records %s pass %.9f\n", name, size, least[0], name, size, least[1]);
+    printf("time %s:records %s grammar %.9f\n", name, size, least[2]);
+}
+
+static double ours_finds(const Case *c, uint64_t out[4])
+{
+    double start = now();
+    gm_line_and_column(c->text.at, c->text.len, c->text.len, out);
+    return now() - start;
+}
+
+static double c_finds(const Case *c, uint64_t found[2])
+{
+    double start = now();
+    find_place(c->text.at, c->text.len, found);
+    return now() - start;
+}
+
+static void place(const Case *c, const char *name, const char *size)
+{
+    uint64_t out[4], found[2];
+    double least[2] = {ours_finds(c, out), c_finds(c, found)};
+    if (out[0] || out[1] != found[0] || out[2] != found[1])
+        printf("differs %s %s C: line and column\n", name, size);
+    else
+        printf("place %s %s %llu %llu\n", name, size, (unsigned long long)found[0], (unsigned long long)found[1]);
+    for (int turn = 1; turn < RECORD_TURNS; turn++) {
+        lower(&least[0], ours_finds(c, out));
+        lower(&least[1], c_finds(c, found));
+    }
+    printf("time %s:place %s ours %.9f\ntime %s:place %s loop %.9f\n", name, size, least[0], name, size, least[1]);
+}
+
 int main(int argc, char **argv)
 {
     if (argc != 4) die("usage:", "measure LIST LUA SECONDS");
@@ -346,7 +430,11 @@ int main(int argc, char **argv)
             prepare(&c, runs, name);
         }
         double taken = run(&c, runs, name, size, seconds);
-        if (runs[FLAT] && !c.answer[OURS]) tree(&c, name, size);
+        if (runs[FLAT] && !c.answer[OURS]) {
+            tree(&c, name, size);
+            records(&c, name, size);
+            place(&c, name, size);
+        }
         times = before > 0 ? taken / before : 16;
         before = taken;
         release(&c);

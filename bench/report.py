@@ -10,6 +10,8 @@ TABLE = 1.2
 LPEG = {"g": 0.15, "java": 1, "sums": 0.5, "calls": 0.6, "json": 0.4, "seldom": 2}
 READING = 5
 PRINTING = 3
+SUMMING = 3
+PLACING = 3
 TITLES = {"g": "G", "java": "Java", "sums": "sums", "calls": "calls between water", "json": "JSON", "seldom": "57 rules that seldom begin"}
 BYTES = {"16K": 16384, "64K": 65536, "256K": 262144, "1M": 1048576}
 NEXT = {"1K": "4K", "4K": "16K", "16K": "64K"}
@@ -17,7 +19,7 @@ NEXT = {"1K": "4K", "4K": "16K", "16K": "64K"}
 
 class Measured:
     def __init__(self, path):
-        self.times, self.over, self.same, self.differs, self.reads, self.trees = {}, set(), [], [], {}, {}
+        self.times, self.over, self.same, self.differs, self.reads, self.trees, self.records, self.places = {}, set(), [], [], {}, {}, {}, {}
         with open(path, encoding="utf-8") as file:
             for line in file:
                 kind, name, size, *rest = line.split()
@@ -31,6 +33,10 @@ class Measured:
                     self.same.append((name, size))
                 elif kind == "tree":
                     self.trees[name, size] = int(rest[0])
+                elif kind == "records":
+                    self.records[name, size] = int(rest[0])
+                elif kind == "place":
+                    self.places[name, size] = int(rest[0])
                 else:
                     self.differs.append(line.strip())
 
@@ -104,6 +110,23 @@ def on_trees(measured, aims):
         print(f"{title:27}|" + plain(here[0]) + plain(here[1]) + aims.judged(here[2], PRINTING) + "|" + plain(much and much / BYTES["64K"]).rstrip())
 
 
+def on_records(measured, aims):
+    print(f"\nThe records of the nodes: our time over that of one pass in C, aim {SUMMING} at 64K where rules are few, and its growth. A pass checks nothing;")
+    print("our call checks the list and prepares the grammar. 'bare': ours without the grammar; then the grammar's part of our time. Last, line and column")
+    print(f"of the text's end over a loop in C, aim {PLACING}, and the lines.\n")
+    print(f"{'':27}|{'4K':>9} {'16K':>9} {'64K':>9} {'growth':>9} |{'bare':>9} {'grammar':>9} {'symbols':>9} |{'place':>9} {'lines':>9}")
+    for name, title in TITLES.items():
+        key, aimed = name + ":records", name != "seldom"
+        ours, passed, grammar = (measured.times.get((key, "64K", who)) for who in ("ours", "pass", "grammar"))
+        known = None not in (ours, passed, grammar)
+        last, grown = measured.ratio(key, "64K", "pass"), measured.growth(key, "ours", "16K")
+        line = f"{title:27}|" + plain(measured.ratio(key, "4K", "pass")) + plain(measured.ratio(key, "16K", "pass"))
+        line += aims.judged(last, SUMMING) + aims.judged(grown, GROWTH) + "|" if aimed else plain(last) + plain(grown) + "|"
+        line += plain((ours - grammar) / passed if known else None) + plain(grammar / ours if known else None)
+        line += f"{measured.records.get((name, '64K'), '-'):>9} |" + aims.judged(measured.ratio(name + ":place", "64K", "loop"), PLACING)
+        print(line + f"{measured.places.get((name, '64K'), '-'):>9}")
+
+
 def on_reading(measured, aims):
     assert measured.reads["lake", "16K"][0] == "0", "the lake text is refused"
     base = measured.times["lake", "16K", "ours"] / BYTES["16K"]
@@ -123,11 +146,12 @@ def main():
     on_texts(measured, aims)
     on_worst(measured, aims)
     on_trees(measured, aims)
+    on_records(measured, aims)
     on_reading(measured, aims)
     print(f"\n{aims.met} aims met, {aims.missed} missed")
     if "--times" in sys.argv:
         for (name, size, peer), seconds in measured.times.items():
-            print(f"{name:27} {size:5} {peer:6} {seconds * 1000:12.4f} ms")
+            print(f"{name:27} {size:5} {peer:7} {seconds * 1000:12.4f} ms")
     return 1 if measured.differs or not measured.same or ("--strict" in sys.argv and aims.missed) else 0
 
 

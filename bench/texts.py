@@ -302,16 +302,20 @@ def lake_text(maker, size):
 def long_texts(size):
     """Name and a plain text of `size` bytes; most are refused, none may take long."""
     maker = Maker(SEED)
-    short = ["".join(name) for name in itertools.product(LETTERS + SMALL, repeat=3)]
+    first = LETTERS + SMALL + "_"
+    short = ["".join(name) for name in itertools.product(first, first + "0123456789", first + "0123456789")]
     long = [f"{random_name(maker)}{i}" for i in range(size // 12)]
     slot = one_slot(size // 11)
     yield "short_names", cut((f"{name}<-." for name in short), size)
+    yield "short_names_mixed", cut((f"{name}<-." for name in maker.random.sample(short, len(short))), size)
     yield "random_names", cut((f"{name} <- 'x'\n" for name in long), size)
     yield "names_of_38", cut((f"{name.rjust(38, 'x')}<-.\n" for name in long), size)
     yield "one_slot", cut((f"{name}<-.\n" for name in slot), size)
     yield "random_uses", halves(long, size)
     yield "one_slot_uses", halves(slot, size)
     yield "one_name_used", cut(["a<-."] + [" a"] * (size // 2), size)
+    yield "choices", cut(["a<-a"] + ["/a"] * (size // 2), size)
+    yield "dots", cut(["a<-"] + ["."] * size, size)
     yield "small_classes", cut(["a<-"] + ["[a]"] * (size // 3), size)
     yield "wide_classes", cut(["a<-"] + ["[!-~]"] * (size // 5), size)
     yield "octal_classes", cut(["a<-"] + ["[\\0-\\277]"] * (size // 9), size)

@@ -80,9 +80,9 @@ STAGES = {
     "lake": ("lakes made plain", ["lake_step_one", "lake_rules", "lake_sets", "lake_analysis", "lake_plain", "lake_step_two", "lake_calls"]),
     "match": ("a text into spans", ["match_meaning", "match_eval", "match_firsts", "match_keys", "match_rounds", "match_cells", "match_list", "match_derived", "match_desk", "match_walks", "match_nodes", "match_lake", "match_run", "match_ask"]),
     "write": ("a table into a text", ["write_rules", "write_leaves", "write_exp", "write_text", "write_put", "write_back"]),
-    "tree": ("spans as JSON and back", ["tree_list", "tree_json", "tree_write", "tree_read"]),
+    "tree": ("spans as JSON, records", ["tree_list", "tree_json", "tree_write", "tree_read", "tree_summary"]),
 }
-BELOW = ["grammar", "grammar_table", "base_facts", "base_words", "base_rounds"]
+BELOW = ["grammar", "grammar_table", "base_facts", "base_words", "base_rounds", "base_lines"]
 
 
 def missing():
@@ -112,7 +112,7 @@ def stages():
     tree, tree_high = write + write_high + 4, 58 + rows["tree"]
     under = max(tree + tree_high, below + 60) + 8
     picture = Picture(960, under + 42, "The stages: a grammar's text is read, its lakes are made plain; then a text is matched, its spans become JSON, or the grammar is written")
-    picture.text(480, 34, "programs: spans, blocks, plain_text, replay", "mono small soft", "middle")
+    picture.text(480, 34, "programs: spans, blocks, plain_text, explain, replay", "mono small soft", "middle")
     picture.way((480, 42), (480, 58))
     picture.box(20, 60, 920, 36, "box")
     picture.text(480, 83, "gurkenmond: the public calls", "head", "middle")
@@ -142,7 +142,8 @@ def stages():
     picture.text(880, write + 58, "or its own text", "small", "middle")
     picture.way((912, 205), (946, 205), (946, tree + 30), (782, tree + 30))
     picture.way((780, tree + 70), (826, tree + 70))
-    picture.text(880, tree + 74, "JSON", "small", "middle")
+    picture.text(880, tree + 71, "JSON,", "small", "middle")
+    picture.text(880, tree + 87, "records", "small", "middle")
     picture.box(20, under, 920, 30, "box")
     picture.text(480, under + 20, "under all: " + ", ".join(BELOW), "mono small", "middle")
     return picture.svg()

@@ -3,12 +3,13 @@
 
    Rules of the caller, which no proof checks:
    - a slice is a pointer and a length; the pointer is never NULL, also for length 0, and aligned to its element (1, 4 or 8 bytes);
-   - `cells`, `nodes`, `room` and `out` overlap neither each other nor what is read;
+   - `cells`, `nodes`, `room`, `records` and `out` overlap neither each other nor what is read;
+   - of every record that is lent `present` is 0 or 1 already, as in one of zeros;
    - 512 KiB of stack are free (enough on the worst grammars; gurkenmond.wasm has 4 MiB of its own).
    No proof covers either: the compiler's back end, the change of target for aarch64 and wasm32, the wrappers. They are tested.
 
    No call allocates, keeps anything, reads a clock or a file, or fails in another way; calls from several threads at once are fine.
-   Each fills `out` and returns out[0]: 0; a refusal's number 1 to 16, with its place in out[1]; or GM_NO_MATCH. Numbers not named here are 0.
+   Each fills `out` and returns out[0]: 0; a refusal's number 1 to 17, with its place in out[1]; or GM_NO_MATCH. Numbers not named here are 0.
    mode: GM_LAKE, every other byte is plain. A place is a byte's number, from 0. */
 #ifndef GURKENMOND_H
 #define GURKENMOND_H
@@ -23,6 +24,14 @@ extern "C" {
 #define GM_INPUT_MOST 65535 /* bytes of input */
 #define GM_NODE_WORDS 4     /* words of a node: symbol, start, end, depth */
 #define GM_NAME_MOST 38     /* bytes of a symbol's name, brackets with it */
+#define GM_SYMBOLS_MOST 64  /* symbols of a grammar: so many records are enough for each */
+
+/* The record of a symbol: how many nodes it has, how many bytes its outermost ones cover, the numbers of its first and last in the list, from 0, and 1 for
+   present. Of a symbol without a node all are 0. 40 bytes, of which the last 7 are no part of it */
+typedef struct {
+    uint64_t nodes, bytes, first, last;
+    uint8_t present;
+} gm_summary;
 
 /* out: 0, symbols, terminals, expressions. Refusals 1 to 8 */
 uint64_t gm_read(uint8_t mode, const uint8_t *text, size_t text_len, uint64_t out[4]);
@@ -64,6 +73,15 @@ uint64_t gm_write_json(uint8_t mode, const uint8_t *text, size_t text_len, const
    nothing. Refusals 1 to 9, 16, 12 */
 uint64_t gm_read_json(uint8_t mode, const uint8_t *text, size_t text_len, const uint8_t *input, size_t input_len,
                       const uint8_t *json, size_t json_len, uint32_t *nodes, size_t nodes_len, uint64_t out[4]);
+
+/* out: 0, symbols; or 17, records needed. A record of each symbol, by its number, of a node list; nodes are all words of the list. Records behind them,
+   and all after a refusal, stay as they were. Refusals 1 to 9, 15, 17 */
+uint64_t gm_summarise(uint8_t mode, const uint8_t *text, size_t text_len, const uint8_t *input, size_t input_len,
+                      const uint32_t *nodes, size_t nodes_len, gm_summary *records, size_t records_len, uint64_t out[4]);
+
+/* out: 0, line, column of a position of the input, both from 1 and in bytes. LF ends a line and stands on it; the end, input_len, is a position too.
+   Refusals 9, 14 */
+uint64_t gm_line_and_column(const uint8_t *input, size_t input_len, size_t position, uint64_t out[4]);
 #ifdef __cplusplus
 }
 #endif

@@ -23,7 +23,9 @@ from concurrent.futures import ThreadPoolExecutor
 
 import questions as known
 import random_grammars
+import records
 import stack
+import trees
 from matcher import Matcher, plain_text
 from programs import TOP, Programs
 
@@ -31,7 +33,7 @@ MADE = os.path.join(TOP, "target", "library")
 HERE = os.path.join(TOP, "tests", "library")
 ARM = platform.machine() == "aarch64"
 RANDOM_COUNT, RANDOM_SEED = 10000, 12
-NODE_QUESTIONS, NAME_QUESTIONS = 1000, 1000
+NODE_QUESTIONS, NAME_QUESTIONS, RECORD_QUESTIONS = 1000, 1000, 1000
 STACK_KIB = 512  # what the header asks for, and the harness gives its threads
 WRAPPER_COUNT = 300
 # the commands that the tests call, and Debian's packages that have them
@@ -134,7 +136,8 @@ def read(*path):
 def exported():
     """The C prototype of each exported function, made from its Rattle signature."""
     types = {"u8": "uint8_t {0}", "usize": "size_t {0}", "&[u8]": "const uint8_t *{0}, size_t {0}_len", "&[u32]": "const uint32_t *{0}, size_t {0}_len",
-             "&mut [u8]": "uint8_t *{0}, size_t {0}_len", "&mut [u32]": "uint32_t *{0}, size_t {0}_len"}
+             "&mut [u8]": "uint8_t *{0}, size_t {0}_len", "&mut [u32]": "uint32_t *{0}, size_t {0}_len",
+             "&mut [gurkenmond::Summary]": "gm_summary *{0}, size_t {0}_len"}
     for name, given, answer in re.findall(r'#\[no_mangle\]\s*pub extern "C" fn (\w+)\((.*?)\) -> (\w+)', read("crates", "library", "src", "lib.rt"), re.S):
         parts = []
         for part in given.rstrip(", \n").split(","):
@@ -144,7 +147,18 @@ def exported():
         yield name, f"{ {'u64': 'uint64_t'}[answer] } {name}({', '.join(parts)});"
 
 
+def check_record():
+    """A record has the fields of the proved source, in its order; a `usize` has 64 bits on every target."""
+    struct = re.search(r"#\[repr\(C\)\]\s*pub struct Summary \{(.*?)\}", read("crates", "tree_summary", "src", "lib.rt"), re.S)
+    fields = [({"usize": "uint64_t", "bool": "uint8_t"}[kind], name) for name, kind in re.findall(r"pub (\w+): (\w+)", struct[1] if struct else "")]
+    struct = re.search(r"typedef struct \{(.*?)\} gm_summary;", read("include", "gurkenmond.h"), re.S)
+    declared = [(kind, name) for kind, names in re.findall(r"(\w+) ([\w, ]+);", struct[1] if struct else "") for name in names.split(", ")]
+    if not fields or declared != fields:
+        wrong(f"the header declares a record of {declared}, the proved source has {fields}")
+
+
 def check_header():
+    check_record()
     source = dict(exported())
     declared = [" ".join(line.split()) for line in re.findall(r"^uint64_t gm_\w+\([^;]*;", read("include", "gurkenmond.h"), re.M)]
     if declared != list(source.values()):
@@ -199,12 +213,12 @@ def check_stored(target):
         wrong(f"{target.name}: only {good} of {asked}")
 
 
-def check_names(target):
-    """Every symbol's name of every stored grammar, and of some more, by the independent reader; every other mode byte is plain."""
-    asked = known.all_name_questions(2**64 - 1)
-    asked += [(question.replace(" plain ", f" {mode} ", 1), answer) for question, answer in asked if " plain " in question for mode in (2, 255)]
-    good = compare(target, lines(question for question, _ in asked), [answer for _, answer in asked], target.threads)
-    print(f"library: {target.name}: {good} of {len(asked)} questions on names answered as the independent reader does")
+def check_symbols(target):
+    """Every symbol's name and record of every stored grammar, and of some more, by the independent reader; every other mode byte is plain."""
+    for what, asked in (("names", known.all_name_questions(2**64 - 1)), ("records", known.all_summary_questions())):
+        asked += [(question.replace(" plain ", f" {mode} ", 1), answer) for question, answer in asked if " plain " in question for mode in (2, 255)]
+        good = compare(target, lines(question for question, _ in asked), [answer for _, answer in asked], target.threads)
+        print(f"library: {target.name}: {good} of {len(asked)} questions on {what} answered as the independent reader does")
 
 
 def worst_questions():
@@ -216,7 +230,8 @@ def worst_questions():
         cells = min(64 * (len(text) + 1), 16384)
         questions += [f"match lake {rules} {given} {cells} 4096", f"lake lake {rules} {given} {cells} 1 0", f"lake lake {rules} {given} {cells} 2 0",
                       f"sets lake {rules} 1", f"skip lake {rules}", f"read lake {rules}", f"own lake {rules} 100000", f"plain lake {rules} 200000", f"plain plain {rules} 200000",
-                      f"name lake {rules} 1 34", f"name plain {rules} 0 38", f"json lake {rules} {given} {deep} 100000", f"unjson lake {rules} {given} 7b 4096"]
+                      f"name lake {rules} 1 34", f"name plain {rules} 0 38", f"json lake {rules} {given} {deep} 100000", f"unjson lake {rules} {given} 7b 4096",
+                      f"summary lake {rules} {given} {deep} 64", f"where {given} {len(text)}"]
         firsts.append(expected[0])
     return questions, firsts
 
@@ -240,7 +255,7 @@ def check_worst(target, got, others):
 def check_target(target):
     """All that one target is asked beside the random questions; its answers on the worst grammars, which the targets are compared by."""
     check_stored(target)
-    check_names(target)
+    check_symbols(target)
     return ask_worst(target)
 
 
@@ -294,36 +309,57 @@ def node_question(r):
     return r.choice(known.node_questions(bytes(r.randrange(256) for _ in range(n)), words, r.choice([*range(6), *NUMBERS])))
 
 
-def random_name_question(r):
-    """A question on a name of a random grammar or of its plain text, in any mode byte, and its answer by the independent reader."""
+def grammar_or_plain(r):
+    """A random grammar or its plain text, a mode byte for it, its names by the independent reader, and its refusal or None."""
     source, mode = loopless_grammar(r), 0
     grammar = random_grammars.Grammar(source)
     loop, names = grammar.loop(), grammar.symbols
     if loop is None and r.random() < 0.5:
         source, mode = plain_text(grammar), r.randrange(1, 256)
         names = known.names_of(source, True)
+    return source, mode, names, None if loop is None else f"refused 8 {loop}"
+
+
+def random_name_question(r):
+    """A question on a name, and its answer by the independent reader."""
+    source, mode, names, refusal = grammar_or_plain(r)
     symbol = r.choice([*range(len(names))] * 4 + [len(names), *NUMBERS])
     room = r.choice([0, known.NAME_ROOM, *(len(name) + k for name in names for k in (-1, 0, 1))])
-    return known.name_question(mode, source, symbol, room), known.name_answer(names, symbol, room) if loop is None else f"refused 8 {loop}"
+    return known.name_question(mode, source, symbol, room), refusal or known.name_answer(names, symbol, room)
+
+
+def random_record_question(r):
+    """A question on records of nodes that nest, of such with something wrong, or of any words; or on a position; and its answer by the model of records.py."""
+    text = b"".join(r.choices([b"a", b"b", b"\n", b"\r\n", bytes([r.randrange(256)])], k=r.randrange(12)))
+    if r.random() < 0.3:
+        position = r.choice([*range(len(text) + 2), known.LAST_WORD])
+        return f"where {known.field(text)} {position}", records.place(text, position)
+    source, mode, names, refusal = grammar_or_plain(r)
+    words = r.choice([trees.some_list, records.in_each_other])(r, len(names), len(text))
+    words = r.choice([words, words, words, trees.spoilt(r, words), words[:r.randrange(len(words))], [r.choice(NUMBERS[:11]) for _ in range(8)]])
+    room = r.choice(records.rooms(r, len(names)))
+    return (f"summary {mode} {known.field(source)} {known.field(text)} {trees.listed(words)} {room}",
+            records.summed(refusal, len(names), len(text), words, room))
 
 
 def check_random(found):
     r = random.Random(RANDOM_SEED)
     asked = [random_question(r) for _ in range(RANDOM_COUNT)]
     answered = [node_question(r) for _ in range(NODE_QUESTIONS)] + [random_name_question(r) for _ in range(NAME_QUESTIONS)]
+    answered += [random_record_question(r) for _ in range(RECORD_QUESTIONS)]
     questions = lines([*asked, *(question for question, _ in answered)])
     with ThreadPoolExecutor(2) as pool:
         answers = list(pool.map(lambda target: target.ask(questions, target.threads), found))
     for target, got in zip(found, answers):
         if got[RANDOM_COUNT:] != [answer for _, answer in answered]:
-            wrong(f"{target.name}: node words or names read otherwise")
+            wrong(f"{target.name}: node words, names, records or positions answered otherwise")
         bad = [k for k, (mine, theirs) in enumerate(zip(got, answers[0])) if mine != theirs or mine in ("broken", "unreadable")]
         if bad or len(got) != RANDOM_COUNT + len(answered):
             wrong(f"{target.name}: {len(got)} answers, {len(bad)} broken, unread or other than those of {found[0].name}; "
                   f"the first: {questions.decode().split(chr(10))[bad[0]][:300] if bad else ''}")
     accepted = sum(not answer.startswith("refused") for answer in answers[0][:RANDOM_COUNT])
-    print(f"library: {RANDOM_COUNT:,} random questions ({accepted:,} not refused), {NODE_QUESTIONS:,} on node words and {NAME_QUESTIONS:,} on names "
-          f"on {len(found)} targets, guards whole")
+    print(f"library: {RANDOM_COUNT:,} random questions ({accepted:,} not refused), {NODE_QUESTIONS:,} on node words, {NAME_QUESTIONS:,} on names and "
+          f"{RECORD_QUESTIONS:,} on records and positions on {len(found)} targets, guards whole")
 
 
 # ── samples, wrappers and the page, against `spans` and the independent matcher ──
@@ -390,6 +426,57 @@ def widths(text):
     return [*at_characters, characters], [*at_units, units]
 
 
+def begins(text):
+    """For each byte of a text, and its end: the first byte of its character."""
+    at = []
+    for character in text:
+        at += [len(at)] * len(character.encode("utf-8", "surrogatepass"))
+    return [*at, len(at)]
+
+
+def summary_of(names, nodes, n, at):
+    """The records of a match's nodes by the model of records.py, where `at` says for each byte at which one a node there begins or ends."""
+    words = [word for node in nodes for word in (node.symbol, at[node.start], at[node.end], node.depth)]
+    for symbol, name in enumerate(names):
+        count, covered, first, last, present = records.record(words, symbol, n)
+        yield [symbol, name, bool(present), count, covered, first, last]
+
+
+def spot_of(text, places, position):
+    """Line and column of a position as a language counts it, or the number of the refusal; `places` are those of the bytes."""
+    said = text.encode()
+    if len(said) > records.INPUT_MOST:
+        return 9
+    if position not in places:
+        return 14
+    before = said[:places.index(position)]
+    return [before.count(b"\n") + 1, position - places[before.rfind(b"\n") + 1] + 1]
+
+
+def check_summary(library, grammar, text, said):
+    """Whether both wrappers have the records of a match, on strings at the begin of each character, and refuse what is no list of nodes."""
+    names, n = known.names_of(grammar.encode(), False), len(text.encode())
+    for rules, given, at in ((grammar.encode(), text.encode(), range(n + 1)), (grammar, text, begins(text))):
+        nodes = library.match(rules, given).nodes
+        expected = list(summary_of(names, library.match(grammar.encode(), text.encode()).nodes, n, at))
+        odd = [[], [node._replace(depth=node.depth + 2**32) for node in nodes], [node._replace(start=-1) for node in nodes]]
+        if [list(record) for record in library.summarise(rules, given, nodes)] != expected:
+            return False
+        if any(library.summarise(rules, given, some)[:2] != (15, 0) for some in odd):
+            return False
+    return said == expected
+
+
+def check_spots(library, text, said):
+    """Whether both wrappers have line and column of each position, as many as gurkenmond.js was asked for."""
+    characters, units = widths(text)
+    value = lambda answer: answer.number if hasattr(answer, "number") else list(answer)
+    for given, places in ((text, characters), (text.encode(), range(len(characters)))):
+        if any(value(library.line_and_column(given, k)) != spot_of(text, places, k) for k in [*range(len(said)), -1, 2**64 - 1, 2**64]):
+            return False
+    return said == [spot_of(text, units, k) for k in range(len(said))]
+
+
 def placed(answer, grammar, text):
     """An answer of the Python wrapper on bytes, as JSON's, with its places mapped."""
     if answer is None:
@@ -425,7 +512,7 @@ def check_wrappers():
         wrong(f"gurkenmond.js: {ended.stderr.decode()[-2000:]}")
         return
     matched = named = 0
-    for (grammar, text), (said, values) in zip(cases, json.loads(ended.stdout)):
+    for (grammar, text), (said, summary, spots, values) in zip(cases, json.loads(ended.stdout)):
         # a lone surrogate has three bytes in either language, of which JavaScript makes those of U+FFFD
         grammar, text = (given.replace("\ud800", "\ufffd") for given in (grammar, text))
         by_bytes = library.match(grammar.encode(), text.encode())
@@ -440,6 +527,12 @@ def check_wrappers():
             if {key: value for key, value in answer.items() if key != "what"} != expected:
                 wrong(f"{('gurkenmond.py', 'gurkenmond.js')[mapping]} on {grammar[:200]!r} and {text[:100]!r}: {str(answer)[:300]}, not {str(expected)[:300]}")
                 return
+        if isinstance(by_bytes, wrapper.Match) and not check_summary(library, grammar, text, summary):
+            wrong(f"records of a wrapper on {grammar[:200]!r} and {text[:100]!r}: {str(summary)[:300]} of gurkenmond.js")
+            return
+        if not check_spots(library, text, spots):
+            wrong(f"lines and columns of a wrapper in {text[:100]!r}: {str(spots)[:300]} of gurkenmond.js")
+            return
         others = other_values(wrapper, library, grammar, text)
         if values != others:
             wrong(f"the wrappers differ on {grammar[:200]!r} and {text[:100]!r}: {str(values)[:300]}, {str(others)[:300]}")

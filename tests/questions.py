@@ -1,5 +1,6 @@
 #!/usr/bin/env python3
-"""Questions on a symbol's name and on node words, as lines of `replay`, each with the answer that document 01 and the independent reader give.
+"""Questions on a symbol's name, on node words, on records and positions, as lines of `replay`, each with the answer that documents 01 and 02 and the
+independent reader give.
 
 Nothing here comes from the code under test: names are those of the grammar as `matcher.py` reads it, refusals 1 to 8 those of the stored questions.
 
@@ -15,7 +16,7 @@ from programs import TOP
 NAME_ROOM = 40
 # the largest word, and the largest number that `replay` reads
 LAST_WORD = 2**32 - 1
-# of the stored grammars every so manieth is asked for its names in `replay` too
+# of the stored grammars every so manieth is asked for its names and records in `replay` too
 EVERY = 10
 
 
@@ -47,10 +48,10 @@ def name_answer(names, symbol, room):
 
 
 def stored_grammars():
-    """Each mode and grammar of the stored questions once, with its refusal by 1 to 8, None where it is accepted."""
+    """Each mode and grammar of the stored questions once, with its refusal by 1 to 8, None where it is accepted; but for what is asked here itself."""
     known = {}
     for question, answer in zip(stored("stdin"), stored("stdout")):
-        mode = re.match(r"(?!name)\w+ (lake|plain) ([0-9a-f]+|-)( |$)", question)
+        mode = re.match(r"(?!name|summary)\w+ (lake|plain) ([0-9a-f]+|-)( |$)", question)
         if mode and answer != "unreadable":
             refusal = re.match(r"refused [1-8] \d+", answer)
             known[mode[1], bytes.fromhex(mode[2].strip("-"))] = refusal and refusal[0]
@@ -85,9 +86,13 @@ NAME_CASES = [
 ]
 
 
+def all_grammars():
+    """Mode, grammar and its refusal, or None, of those that are stored and those above."""
+    return [(mode, grammar, refusal) for (mode, grammar), refusal in stored_grammars().items()] + NAME_CASES
+
+
 def all_name_questions(far):
-    cases = [(mode, grammar, refusal) for (mode, grammar), refusal in stored_grammars().items()] + NAME_CASES
-    return [asked for case in cases for asked in name_questions(*case, far)]
+    return [asked for case in all_grammars() for asked in name_questions(*case, far)]
 
 
 # ── nodes ──
@@ -117,11 +122,52 @@ NODE_CASES = [(text, words, k) for text, words in [
     (b"abc", [0, 0, 3, 0, 0, 1, 2]), (b"abc", [0, 0, 3]), (b"abc", []), (b"", []), (b"", [0, 0, 0, 0, 0, 0, 1, 0, 0, 1, 1, 0]), (b"\x00\xff\n ", [1, 1, 4, 1]),
 ] for k in [*range(len(words) // 4 + 2), LAST_WORD // 4, LAST_WORD // 4 + 1, LAST_WORD]]
 
-# Lines that begin as questions on names and nodes, and are none.
+
+# ── records and positions ──
+ABSENT, LENT = "0:0:0:0:0", "x"
+
+
+def summary_questions(mode, grammar, refusal):
+    """On one grammar, of an empty node of its last symbol: just enough records, one more, one too few; of a symbol that it has not; of a refused grammar."""
+    count = 2 if refusal else len(names_of(grammar, mode == "plain"))
+    lent = lambda said, records, left: " ".join([said, "; records", *records, *[LENT] * left])
+    good, bad = f"{count - 1},0,0,0", f"{count},0,0,0"
+    records = [ABSENT] * (count - 1) + ["1:0:0:0:1"]
+    asked = [(good, count, lent(f"summary {count}", records, 0)), (good, count + 1, lent(f"summary {count}", records, 1)),
+             (good, count - 1, lent(f"refused 17 {count}", [], count - 1)), (bad, 0, lent("refused 15 0", [], 0))]
+    if refusal:
+        asked = [(good, count, lent(refusal, [], count))]
+    return [(f"summary {mode} {field(grammar)} - {words} {room}", answer) for words, room, answer in asked]
+
+
+def all_summary_questions():
+    return [asked for case in all_grammars() for asked in summary_questions(*case)]
+
+
+def place_question(text, position, line, column):
+    return f"where {field(text)} {position}", f"at {line} {column}" if line else "refused 14 0"
+
+
+# Texts with the line and column of each position, from 0 to their end, read off the document: LF ends a line and stands on it, and nothing else does.
+PLACE_CASES = [
+    (b"", [(1, 1)]), (b"a", [(1, 1), (1, 2)]), (b"\n", [(1, 1), (2, 1)]), (b"\n\n\n", [(1, 1), (2, 1), (3, 1), (4, 1)]),
+    (b"a\r\nb", [(1, 1), (1, 2), (1, 3), (2, 1), (2, 2)]), (b"\r\r", [(1, 1), (1, 2), (1, 3)]), (b"\n\ra\n", [(1, 1), (2, 1), (2, 2), (2, 3), (3, 1)]),
+    (b"\x0b\x0c\x85\n\xc3\xa4", [(1, 1), (1, 2), (1, 3), (1, 4), (2, 1), (2, 2), (2, 3)]),
+]
+
+
+def place_questions():
+    asked = [place_question(text, position, *place) for text, places in PLACE_CASES for position, place in enumerate(places)]
+    return asked + [place_question(text, position, None, None) for text, _ in PLACE_CASES for position in (len(text) + 1, LAST_WORD)]
+
+
+# Lines that begin as questions on names, nodes, records and positions, and are none.
 UNREADABLE = [
     "name lake 61 x 3", "name lake 61", "name water 61 0 3", "name plain 6g 0 3", "sound", "sound - 0", "sound - x 1", "sound x 0 1", "sound -1 0 1",
     "sound ,1 0 1", "sound 1, 0 1", "sound 1,,2 0 1", "sound 4294967296,0,0,0 0 1", "text", "text 6 - 0", "text zz - 0", "text - - x", "text - 1;2 0",
-    "text - 42949672950 0",
+    "text - 42949672950 0", "summary", "summary lake 61203c2d202e", "summary lake 61203c2d202e - 0,0,0,0", "summary lake 61203c2d202e - - 97",
+    "summary lake 61203c2d202e - 0;0 1", "summary lake 61203c2d202e - 4294967296 1", "summary water 61203c2d202e - - 1", "summary plain 6g - - 1",
+    "summary lake 61203c2d202e 6 - 1", "where", "where -", "where - x", "where 6 0", "where zz 0", "where - 4294967296", "where - 18446744073709551616",
 ]
 
 
@@ -138,7 +184,8 @@ def to_store():
     cases = [case for case in [*grammars[::EVERY], *NAME_CASES] if len(case[1]) < 2**16]
     names = [asked for case in cases for asked in name_questions(*case, LAST_WORD)]
     nodes = [asked for case in [*first_nodes(), *NODE_CASES] for asked in node_questions(*case)[:2]]
-    return [*dict.fromkeys([*names, *nodes]), *((line, "unreadable") for line in UNREADABLE)]
+    records = [asked for case in cases for asked in summary_questions(*case)]
+    return [*dict.fromkeys([*names, *nodes, *records, *place_questions()]), *((line, "unreadable") for line in UNREADABLE)]
 
 
 if __name__ == "__main__":

@@ -14,6 +14,10 @@ export interface Names { kind: 'names'; names: string[] }
 export interface Node { symbol: number; name: string; start: number; end: number; depth: number }
 export interface Match { kind: 'match'; taken: number; nodes: Node[] }
 export interface Nodes { kind: 'nodes'; nodes: Node[] }
+/** Of one symbol: how many nodes it has, how many bytes its outermost ones cover, the numbers of its first and last in the list. All 0 if it is not present. */
+export interface SymbolRecord { symbol: number; name: string; present: boolean; nodes: number; bytes: number; first: number; last: number }
+export interface Summary { kind: 'summary'; records: SymbolRecord[] }
+export interface Position { kind: 'position'; line: number; column: number }
 export interface None { kind: 'none' }
 export interface Way { kind: 'way'; way: 'not' | 'rule' | 'water' | 'skip' }
 
@@ -34,6 +38,10 @@ export class Gurkenmond {
   json(grammar: Text, input: Text, mode?: Mode): Written | None | Refused;
   /** The node list that such a text says, of the same grammar and input; any other text is refused 16. */
   readJson(grammar: Text, input: Text, json: Text, mode?: Mode): Nodes | Refused;
+  /** One record a symbol, by its number, of the nodes of a match; `bytes` are bytes also of a string. What is no list of nodes is refused 15. */
+  summarise(grammar: Text, input: Text, nodes: Node[], mode?: Mode): Summary | Refused;
+  /** Line and column of a position in a text, both from 1; the column counts what places count. LF ends a line. A position past the end is refused 14. */
+  lineAndColumn(text: Text, position: number): Position | Refused;
   lakeAt(grammar: Text, input: Text, lake: number, place: number, mode?: Mode): Way | Refused;
 }
 

@@ -6,10 +6,11 @@
 
 const WHAT = ['', 'grammar text too long', 'syntax', 'name, literal or parentheses over their bound', 'name given twice, or reserved', 'name without a rule',
   'too many symbols, terminals or expressions', 'translation too large', 'loop', 'input too long', 'too few work cells', 'too deep', 'too many nodes',
-  'room too small', 'no such expression, symbol, lake or position', 'not a list of nodes', 'not the JSON text of a list of nodes'];
+  'room too small', 'no such expression, symbol, lake or position', 'not a list of nodes', 'not the JSON text of a list of nodes', 'too few records'];
 const LAST_IN_TEXT = 5; // refusals 1 to 5 have their place in the grammar's text
 const WAYS = ['not', 'rule', 'water', 'skip'], NO_MATCH = 100n, NODE_WORDS = 4, NODES_FIRST = 1 << 12, NODES_MOST = 1 << 18, ROOM_FIRST = 1 << 12;
 const GRAMMAR_MOST = 1048577, INPUT_MOST = 65536; // one byte more than any call takes: what is cut is refused as the whole is, 1 and 9
+const SYMBOLS_MOST = 64, RECORD_BYTES = 40, PRESENT_AT = 32, LAST_WORD = 2 ** 32 - 1; // a record: four numbers of 8 bytes, then a byte for present
 
 // A text with its bytes, and the place of each byte in the string.
 class Text {
@@ -29,7 +30,16 @@ class Text {
     return this.map.fill(unit, byte);
   }
   // the first byte of a place; a place that none has is no byte
-  byte(place) { return this.string === null ? place : this.places().indexOf(place); }
+  byte(place) {
+    if (this.string === null) return place;
+    const places = this.places();
+    let low = 0, high = places.length;
+    while (low < high) {
+      const middle = (low + high) >> 1;
+      if (places[middle] < place) low = middle + 1; else high = middle;
+    }
+    return places[low] === place ? low : -1;
+  }
   place(byte) { return this.string === null ? byte : this.places()[Math.min(byte, this.bytes.length)]; }
   // line and column of a place, from 1
   position(place) {
@@ -59,6 +69,19 @@ export class Gurkenmond {
     const start = this.#room(4 * words.length);
     new Uint32Array(this.#calls.memory.buffer, start, words.length).set(words);
     return [start, BigInt(words.length)];
+  }
+  // records of zeros: what is lent says of each whether it is present
+  #lendRecords(count) {
+    const start = this.#room(RECORD_BYTES * count);
+    new Uint8Array(this.#calls.memory.buffer, start, RECORD_BYTES * count).fill(0);
+    return [start, BigInt(count)];
+  }
+  #records(start, count) {
+    return Array.from({ length: count }, (_, symbol) => {
+      const view = new DataView(this.#calls.memory.buffer, start + RECORD_BYTES * symbol, RECORD_BYTES);
+      const [nodes, bytes, first, last] = [0, 8, 16, 24].map(at => Number(view.getBigUint64(at, true)));
+      return { symbol, present: view.getUint8(PRESENT_AT) === 1, nodes, bytes, first, last };
+    });
   }
   #words(start, count) { return new Uint32Array(this.#calls.memory.buffer, start, count).slice(); }
   #ask(call, ...given) {
@@ -155,6 +178,25 @@ export class Gurkenmond {
       if (out[0] !== 12n || 8 * most > NODES_MOST) return this.#refused(text, out);
     }
   }
+  // one record a symbol, of a list of nodes such as `match` and `readJson` answer; anything else is refused
+  summarise(grammar, input, nodes, mode = 'lake') {
+    const text = new Text(grammar, GRAMMAR_MOST), given = new Text(input, INPUT_MOST);
+    const words = Array.from(nodes ?? []).flatMap(node => [node?.symbol, given.byte(node?.start), given.byte(node?.end), node?.depth].map(word));
+    this.#start();
+    const lent = [...this.#lend(text), ...this.#lend(given), ...this.#lendWords(words)], records = this.#lendRecords(SYMBOLS_MOST);
+    const out = this.#ask('gm_summarise', number(mode), ...lent, ...records);
+    if (out[0] !== 0n) return this.#refused(text, out);
+    const found = this.#records(records[0], Number(out[1]));
+    return { kind: 'summary', records: found.map(({ symbol, ...record }) => ({ symbol, name: this.symbolName(grammar, symbol, mode).text, ...record })) };
+  }
+  // line and column of a position in a text, both from 1; of a string the column is counted in UTF-16 units too
+  lineAndColumn(text, position) {
+    const given = new Text(text, INPUT_MOST), byte = given.byte(position);
+    this.#start();
+    const out = this.#ask('gm_line_and_column', ...this.#lend(given), count(byte));
+    if (out[0] !== 0n) return this.#refused(given, out);
+    return { kind: 'position', line: Number(out[1]), column: position - given.place(byte - (Number(out[2]) - 1)) + 1 };
+  }
   // how a lake, by its symbol number, matches at a place of the input
   lakeAt(grammar, input, lake, place, mode = 'lake') {
     const text = new Text(grammar, GRAMMAR_MOST), given = new Text(input, INPUT_MOST);
@@ -167,6 +209,8 @@ const number = mode => (mode === 'plain' ? 1 : 0);
 const bits = word => Array.from({ length: 64 }, (_, i) => i).filter(i => (word >> BigInt(i)) & 1n);
 // a number of an expression, lake or place; what is none is one that no grammar has
 const count = n => (Number.isSafeInteger(n) && n >= 0 ? BigInt(n) : (1n << 64n) - 1n);
+// a word of a node; what is none is one that no list has
+const word = n => (Number.isSafeInteger(n) && n >= 0 && n < LAST_WORD ? n : LAST_WORD);
 
 // `source`: the module's bytes or its URL; without it gurkenmond.wasm beside this file.
 export async function load(source = new URL('./gurkenmond.wasm', import.meta.url)) {

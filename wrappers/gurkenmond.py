@@ -18,9 +18,10 @@ NO_MATCH, NO_CELLS, NO_ROOM_FOR_NODE, NO_ROOM = 100, 10, 12, 13
 # refusals 1 to 5 have their place in the grammar's text
 LAST_IN_TEXT = 5
 NODE_WORDS, NODES_FIRST, NODES_MOST, ROOM_FIRST = 4, 1 << 12, 1 << 18, 1 << 12
+SYMBOLS_MOST, LAST_WORD, LAST_NUMBER = 64, 2**32 - 1, 2**64 - 1
 WHAT = ("", "grammar text too long", "syntax", "name, literal or parentheses over their bound", "name given twice, or reserved", "name without a rule",
         "too many symbols, terminals or expressions", "translation too large", "loop", "input too long", "too few work cells", "too deep", "too many nodes",
-        "room too small", "no such expression, symbol, lake or position", "not a list of nodes", "not the JSON text of a list of nodes")
+        "room too small", "no such expression, symbol, lake or position", "not a list of nodes", "not the JSON text of a list of nodes", "too few records")
 WAYS = ("not", "rule", "water", "skip")
 
 # document 01's number and place; line and column, from 1, where the place is one of the grammar's text
@@ -30,6 +31,13 @@ Set = NamedTuple("Set", [("symbols", list[int]), ("terminals", list[int])])
 Sets = NamedTuple("Sets", [("rounds", int), ("beginning", Set), ("succeed", Set), ("alt", Set), ("epsilon", bool)])
 Node = NamedTuple("Node", [("symbol", int), ("name", str), ("start", int), ("end", int), ("depth", int)])
 Match = NamedTuple("Match", [("taken", int), ("nodes", list[Node])])
+# of a symbol: how many nodes it has, how many bytes its outermost ones cover, the numbers of its first and last in the list; all 0 if it is not present
+Summary = NamedTuple("Summary", [("symbol", int), ("name", str), ("present", bool), ("nodes", int), ("bytes", int), ("first", int), ("last", int)])
+Position = NamedTuple("Position", [("line", int), ("column", int)])
+
+
+class _Record(ctypes.Structure):
+    _fields_ = [*((name, ctypes.c_uint64) for name in ("nodes", "bytes", "first", "last")), ("present", ctypes.c_uint8)]
 
 
 class _Given:
@@ -43,12 +51,21 @@ class _Given:
     def lent(self) -> tuple:
         return ctypes.c_char_p(self.bytes), ctypes.c_size_t(len(self.bytes))
 
-    def place(self, byte: int) -> int:
-        if not isinstance(self.text, str) or self.text.isascii():
-            return byte
+    def ends(self) -> list[int]:
+        """Of each character the byte behind it."""
         if self._ends is None:
             self._ends = list(accumulate(len(c.encode("utf-8", "surrogatepass")) for c in self.text))
-        return bisect_right(self._ends, byte)
+        return self._ends
+
+    def place(self, byte: int) -> int:
+        return byte if not isinstance(self.text, str) or self.text.isascii() else bisect_right(self.ends(), byte)
+
+    def byte(self, place: int) -> int:
+        """The first byte of a place; one that lies outside of the text still does."""
+        if not isinstance(self.text, str) or self.text.isascii() or place <= 0:
+            return place
+        within = min(place, len(self.text))
+        return self.ends()[within - 1] + place - within
 
     def position(self, place: int) -> tuple[int, int]:
         before, end = self.text[:place], "\n" if isinstance(self.text, str) else b"\n"
@@ -59,15 +76,23 @@ def _bits(word: int) -> list[int]:
     return [i for i in range(64) if word >> i & 1]
 
 
+def _within(number: int, last: int) -> int:
+    """A number as it is handed over; one that does not fit is the last, which no text and no list of nodes has."""
+    return number if 0 <= number <= last else last
+
+
 class Gurkenmond:
     def __init__(self, library: str = os.path.join(os.path.dirname(os.path.abspath(__file__)), "libgurkenmond.so")):
         self._library = ctypes.CDLL(library)
 
-    def _ask(self, call: str, mode: int, *given) -> list[int]:
+    def _call(self, call: str, *given) -> list[int]:
         out, function = (ctypes.c_uint64 * 9)(), getattr(self._library, call)
         function.restype = ctypes.c_uint64
-        function(ctypes.c_uint8(mode), *given, out)
+        function(*given, out)
         return list(out)
+
+    def _ask(self, call: str, mode: int, *given) -> list[int]:
+        return self._call(call, ctypes.c_uint8(mode), *given)
 
     def _refused(self, grammar: _Given, out: list[int]) -> Refused:
         number, place = out[:2]
@@ -167,9 +192,28 @@ class Gurkenmond:
                 return self._refused(rules, out) if out[0] else self._listed(grammar, given, words, out[1], mode)
             most *= 8
 
+    def summarise(self, grammar: Text, text: Text, nodes: list[Node], mode: int = LAKE) -> Union[list[Summary], Refused]:
+        """One record a symbol, by its number, of a list of nodes such as `match` and `read_json` answer; `bytes` are bytes also of a str."""
+        rules, given = _Given(grammar), _Given(text)
+        listed = [_within(word, LAST_WORD) for symbol, _, start, end, depth in nodes for word in (symbol, given.byte(start), given.byte(end), depth)]
+        words, records = (ctypes.c_uint32 * max(len(listed), 1))(*listed), (_Record * SYMBOLS_MOST)()
+        out = self._ask("gm_summarise", mode, *rules.lent(), *given.lent(), words, ctypes.c_size_t(len(listed)), records, ctypes.c_size_t(SYMBOLS_MOST))
+        if out[0]:
+            return self._refused(rules, out)
+        return [Summary(symbol, self.symbol_name(grammar, symbol, mode), bool(record.present), record.nodes, record.bytes, record.first, record.last)
+                for symbol, record in enumerate(records[:out[1]])]
+
+    def line_and_column(self, text: Text, position: int) -> Union[Position, Refused]:
+        """Line and column of a position in a text, both from 1; of a str the column is counted in characters too."""
+        given = _Given(text)
+        byte = given.byte(position)
+        out = self._call("gm_line_and_column", *given.lent(), ctypes.c_size_t(_within(byte, LAST_NUMBER)))
+        if out[0]:
+            return self._refused(given, out)
+        return Position(out[1], position - given.place(byte - (out[2] - 1)) + 1)
+
     def lake_at(self, grammar: Text, text: Text, lake: int, place: int, mode: int = LAKE) -> Union[str, Refused]:
         """How a lake, by its symbol number, matches at a place of the text."""
         rules, given = _Given(grammar), _Given(text)
-        byte = place if isinstance(text, bytes) else len(text[:place].encode("utf-8", "surrogatepass")) + max(0, place - len(text))
-        out = self._on_input("gm_lake_at", rules, given, mode, ctypes.c_size_t(lake), ctypes.c_size_t(byte))
+        out = self._on_input("gm_lake_at", rules, given, mode, ctypes.c_size_t(lake), ctypes.c_size_t(given.byte(place)))
         return self._refused(rules, out) if out[0] else WAYS[out[1]]

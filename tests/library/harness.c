@@ -10,8 +10,11 @@
 #include <string.h>
 #include "gurkenmond.h"
 
-enum { STACK = 512 << 10, GUARD = 32, GUARD_BYTE = 0xA5, ROOM_BYTE = 0xEE, FIELDS = 8 };
+enum { STACK = 512 << 10, GUARD = 32, GUARD_BYTE = 0xA5, ROOM_BYTE = 0xEE, FIELDS = 8, RECORDS = 96, BEHIND = offsetof(gm_summary, present) + 1 };
 static const uint32_t FRESH = 3735928559u;
+/* A record as it is lent: of one node and absent, which no symbol is. What lies behind `present` is no part of it. */
+static const uint8_t MARK[sizeof(gm_summary)] = {1, [BEHIND] = ROOM_BYTE, ROOM_BYTE, ROOM_BYTE, ROOM_BYTE, ROOM_BYTE, ROOM_BYTE, ROOM_BYTE};
+_Static_assert(sizeof(gm_summary) == 40 && BEHIND == 33, "a record has 40 bytes");
 
 /* ── what is printed ── */
 typedef struct { char *at; size_t length, room; } Text;
@@ -34,6 +37,11 @@ static Lent lend_words(size_t count) {
     for (size_t i = 0; i < count; i++) ((uint32_t *)l.at)[i] = FRESH;
     return l;
 }
+static Lent lend_records(size_t count) {
+    Lent l = lend(sizeof MARK * count);
+    for (size_t i = 0; i < count; i++) memcpy(l.at + sizeof MARK * i, MARK, sizeof MARK);
+    return l;
+}
 static bool kept(Lent l) {
     for (size_t i = 0; i < GUARD; i++) if (l.at[-1 - (long)i] != GUARD_BYTE || l.at[l.bytes + i] != GUARD_BYTE) return false;
     return true;
@@ -42,6 +50,18 @@ static void take_back(Lent l) { free(l.at - GUARD); }
 static void say_words(Text *t, const char *label, Lent l) {
     say(t, label);
     for (size_t i = 0; i < l.bytes / 4; i++) number(t, ((uint32_t *)l.at)[i]);
+}
+/* A record that is as it was lent, with what is no part of it, is `x`. */
+static void say_records(Text *t, Lent l) {
+    say(t, " ; records");
+    for (size_t i = 0; i < l.bytes; i += sizeof MARK) {
+        gm_summary r;
+        if (!memcmp(l.at + i, MARK, sizeof MARK)) { say(t, " x"); continue; }
+        memcpy(&r, l.at + i, sizeof r);
+        const uint64_t rest[] = {r.bytes, r.first, r.last, r.present};
+        number(t, r.nodes);
+        for (int k = 0; k < 4; k++) { char s[24]; put(t, s, (size_t)sprintf(s, ":%llu", (unsigned long long)rest[k])); }
+    }
 }
 
 /* ── fields ── */
@@ -57,6 +77,12 @@ static bool hex(const char *f, Lent *l) {
 static bool decimal(const char *f, uint64_t *n) {
     if (!*f || strlen(f) > 20) return false;
     for (*n = 0; *f; f++) { if (*f < '0' || *f > '9') return false; *n = 10 * *n + (uint64_t)(*f - '0'); }
+    return true;
+}
+/* As replay reads a number: any digits, up to the most. */
+static bool at_most(const char *f, uint64_t most, uint64_t *n) {
+    if (!*f) return false;
+    for (*n = 0; *f; f++) { if (*f < '0' || *f > '9' || (*n = 10 * *n + (uint64_t)(*f - '0')) > most) return false; }
     return true;
 }
 static bool mode_of(const char *f, uint8_t *mode) {
@@ -89,7 +115,7 @@ typedef struct {
 
 /* Keeps what is only read, to compare it after the call. */
 static void keep(Question *q) { Lent l = q->lent[q->lents - 1], copy = lend(l.bytes); memcpy(copy.at, l.at, l.bytes); q->before[q->lents - 1] = copy; }
-/* How the fields behind the kind are read: m mode, b bytes, w words (both only read), c lent words, r lent bytes, n a number. */
+/* How the fields behind the kind are read: m mode, b bytes, w words (both only read), c lent words, r lent bytes, s lent records, n a number, p a position. */
 static bool fields(Question *q, const char *shape) {
     int numbers = 0;
     if (q->fields != (int)strlen(shape) + 1) return false;
@@ -97,12 +123,14 @@ static bool fields(Question *q, const char *shape) {
         const char *f = q->field[i + 1];
         uint64_t n = 0;
         Lent *next = &q->lent[q->lents];
-        bool good = shape[i] == 'm' ? mode_of(f, &q->mode) : shape[i] == 'b' ? hex(f, next) : shape[i] == 'w' ? words(f, next) : decimal(f, &n);
+        bool good = shape[i] == 'm' ? mode_of(f, &q->mode) : shape[i] == 'b' ? hex(f, next) : shape[i] == 'w' ? words(f, next)
+            : shape[i] == 's' ? at_most(f, RECORDS, &n) : shape[i] == 'p' ? at_most(f, UINT32_MAX, &n) : decimal(f, &n);
         if (!good) return false;
-        if (shape[i] == 'n') q->number[numbers++] = n;
+        if (strchr("np", shape[i])) q->number[numbers++] = n;
         if (shape[i] == 'c') *next = lend_words(n);
         if (shape[i] == 'r') *next = lend(n), memset(next->at, ROOM_BYTE, n);
-        if (strchr("bwcr", shape[i])) q->lents++;
+        if (shape[i] == 's') *next = lend_records(n);
+        if (strchr("bwcrs", shape[i])) q->lents++;
         if (strchr("bw", shape[i])) keep(q);
     }
     return true;
@@ -118,6 +146,7 @@ static void refused(Text *t, const uint64_t *out) { say(t, "refused"), number(t,
 
 #define BYTES(i) q->lent[i].at, q->lent[i].bytes
 #define WORDS(i) (uint32_t *)q->lent[i].at, q->lent[i].bytes / 4
+#define SUMMARIES(i) (gm_summary *)q->lent[i].at, q->lent[i].bytes / sizeof(gm_summary)
 
 static void say_bytes(Text *t, const uint8_t *bytes, size_t n) {
     say(t, n ? "text " : "text -");
@@ -167,6 +196,13 @@ static bool ask(Text *t, Question *q, bool *same) {
         code = gm_read_json(q->mode, BYTES(0), BYTES(1), BYTES(2), WORDS(3), out);
         if (code) refused(t, out); else say(t, "nodes"), number(t, out[1]);
         say_words(t, " ; nodes", q->lent[3]);
+    } else if (!strcmp(kind, "summary") && fields(q, "mbbws")) {
+        code = gm_summarise(q->mode, BYTES(0), BYTES(1), WORDS(2), SUMMARIES(3), out);
+        if (code) refused(t, out); else say(t, "summary"), number(t, out[1]);
+        say_records(t, q->lent[3]);
+    } else if (!strcmp(kind, "where") && fields(q, "bp")) {
+        if ((code = gm_line_and_column(BYTES(0), q->number[0], out))) refused(t, out);
+        else say(t, "at"), number(t, out[1]), number(t, out[2]);
     } else if (!strcmp(kind, "sound") && fields(q, "wnn")) {
         code = gm_node_sound(WORDS(0), q->number[0], q->number[1], out);
         say(t, "sound"), number(t, out[1]);

@@ -2,7 +2,10 @@
 // Its last line on the error stream is the stack that the calls have touched, in bytes.
 import fs from 'node:fs';
 
-const GUARD = 32, GUARD_BYTE = 0xa5, ROOM_BYTE = 0xee, FRESH = 3735928559, STACK = 4194304, STACK_BYTE = 0x5a;
+const GUARD = 32, GUARD_BYTE = 0xa5, ROOM_BYTE = 0xee, FRESH = 3735928559, STACK = 4194304, STACK_BYTE = 0x5a, RECORD = 40, PRESENT_AT = 32, RECORDS = 96;
+// a record as it is lent: of one node and absent, which no symbol is; what lies behind `present` is no part of it
+const MARK = new Uint8Array(RECORD).fill(ROOM_BYTE, PRESENT_AT + 1);
+MARK[0] = 1;
 const { exports: calls } = (await WebAssembly.instantiate(fs.readFileSync(process.argv[2]), {})).instance;
 const bytes = () => new Uint8Array(calls.memory.buffer);
 
@@ -21,6 +24,11 @@ function lend(size) {
 function lendWords(list) {
   const lent = lend(4 * list.length);
   new Uint32Array(calls.memory.buffer, lent.start, list.length).set(list);
+  return lent;
+}
+function lendRecords(count) {
+  const lent = lend(RECORD * count);
+  for (let i = 0; i < count; i++) view(lent).set(MARK, RECORD * i);
   return lent;
 }
 const view = lent => bytes().subarray(lent.start, lent.start + lent.size);
@@ -53,10 +61,21 @@ const readers = {
     view(lent).fill(ROOM_BYTE);
     return lent;
   },
+  s: field => /^\d+$/.test(field) && BigInt(field) <= RECORDS ? lendRecords(Number(field)) : undefined,
+  p: field => /^\d+$/.test(field) && BigInt(field) < 2 ** 32 ? BigInt(field) : undefined,
 };
 // a question's fields, its call and how the answer is said
 const refused = out => `refused ${out[0]} ${out[1]}`;
 const listed = (label, lent) => ` ; ${label}${Array.from(numbers(lent), n => ` ${n}`).join('')}`;
+// a record that is as it was lent, with what is no part of it, is `x`
+function recorded(lent) {
+  let said = ' ; records';
+  for (let at = lent.start; at < lent.start + lent.size; at += RECORD) {
+    const record = Buffer.from(calls.memory.buffer, at, RECORD);
+    said += record.equals(MARK) ? ' x' : ` ${[0, 8, 16, 24].map(k => record.readBigUInt64LE(k)).join(':')}:${record[PRESENT_AT]}`;
+  }
+  return said;
+}
 function written(out, values) {
   const n = out[0] === 0n ? Number(out[1]) : 0, room = view(values.at(-1));
   if (!all(room.subarray(n), ROOM_BYTE)) return 'broken';
@@ -75,11 +94,13 @@ const kinds = {
   name: ['mbnr', 'gm_symbol_name', written],
   json: ['mbbwr', 'gm_write_json', written],
   unjson: ['mbbbc', 'gm_read_json', (out, v) => (out[0] ? refused(out) : `nodes ${out[1]}`) + listed('nodes', v[4])],
+  summary: ['mbbws', 'gm_summarise', (out, v) => (out[0] ? refused(out) : `summary ${out[1]}`) + recorded(v[4])],
+  where: ['bp', 'gm_line_and_column', out => out[0] ? refused(out) : `at ${out[1]} ${out[2]}`],
   sound: ['wnn', 'gm_node_sound', out => `sound ${out[1]}`],
   text: ['bwn', 'gm_node_text', (out, v) => `text ${Buffer.from(view(v[0]).subarray(Number(out[1]), Number(out[1] + out[2]))).toString('hex') || '-'}`],
   span: ['bwn', 'gm_node_text', out => `span ${out[1]} ${out[2]}`],
 };
-const counted = { b: 1n, r: 1n, w: 4n, c: 4n };
+const counted = { b: 1n, r: 1n, w: 4n, c: 4n, s: BigInt(RECORD) };
 
 function answer(line) {
   at = calls.__heap_base.value;

@@ -2,7 +2,7 @@
 use Prim.Native.Nat.{ℕ, _*_}
 use Prim.Native.Char.{Char, code}
 use Prim.Native.String.{String, [] as end, _∷_ as _then_}
-use mathlib.Core.Bool.{Bool}
+use mathlib.Core.Bool.{Bool, false}
 use mathlib.Core.List.{List, [], _∷_}
 use mathlib.Core.Option.{Option, none, some}
 use lib.ListN.{length, take, replicate}
@@ -15,7 +15,8 @@ use Rattle.gurkenmond.specs.declared.SetsOf.{SetsOf}
 use Rattle.gurkenmond.specs.declared.Lakes.{Lakes}
 use Rattle.gurkenmond.specs.Answers.{Says, refused, value, verdictSays}
 use Rattle.gurkenmond.specs.Calls.{Matching, matchOf, LakeAnswer, lakeOf, setsOf, cannotSkipOf, Writing, writeOwnOf, writePlainOf}
-use Rattle.gurkenmond.specs.Calls.{writeJsonOf, Parsing, readJsonOf}
+use Rattle.tree_summary.specs.declared.Summary.{Summary}
+use Rattle.gurkenmond.specs.Calls.{writeJsonOf, Parsing, readJsonOf, Summing, summariseOf, Spotting, spotOf}
 
 -- a quoted text as bytes; all of them are ASCII
 unfoldable pub bytes : String → List ℕ
@@ -32,6 +33,9 @@ pub data Asked : Type 0 where
   -- node words as JSON text, with room; a JSON text as node words, so many of them lent
   texts : Mode → String → String → List ℕ → ℕ → Asked
   lists : Mode → String → String → List ℕ → ℕ → Asked
+  -- the records of node words, so many of them lent; the line and column of a position
+  sums : Mode → String → String → List ℕ → ℕ → Asked
+  spots : String → ℕ → Asked
 
 pub data Said : Type 0 where
   says : Says → Said
@@ -43,6 +47,8 @@ pub data Said : Type 0 where
   written : List ℕ → Said
   -- an answer, the count of nodes, and the node words that are theirs
   listed : Says → ℕ → List ℕ → Said
+  -- how many symbols, and all records lent
+  summed : ℕ → List Summary → Said
 
 -- what is said where nothing refuses
 abbrev pub unless : Option Refusal → Said → Said
@@ -76,6 +82,16 @@ lakeSaid x = unless (x .verdict) (says (value (x .way)))
 abbrev pub listSaid : Parsing → Said
 listSaid x = unless (x .verdict) (words (take (nodeWords * x .nodes) (x .words)))
 
+abbrev pub sumsBy : Summing → Said
+sumsBy x = unless (x .verdict) (summed (x .symbols) (x .records))
+
+abbrev pub spotSaid : Spotting → Said
+spotSaid x = unless (x .verdict) (words (x .line ∷ x .column ∷ []))
+
+-- a record that no symbol has
+abbrev pub lent : Summary
+lent = record { nodes = 1; bytes = 0; first = 0; last = 0; present = false }
+
 -- room for the longest text of the table
 abbrev pub room : List ℕ
 room = replicate 128 0
@@ -92,6 +108,8 @@ answered (matches m t s c w) = matchedBy (matchOf m (bytes t) (bytes s) (replica
 answered (lakes m t s l q) = lakeSaid (lakeOf m (bytes t) (bytes s) (replicate 256 0) l q)
 answered (texts m t s ws n) = textBy (writeJsonOf m (bytes t) (bytes s) ws (replicate n 0))
 answered (lists m t s js n) = listSaid (readJsonOf m (bytes t) (bytes s) js (replicate n 0))
+answered (sums m t s ws n) = sumsBy (summariseOf m (bytes t) (bytes s) ws (replicate n lent))
+answered (spots s p) = spotSaid (spotOf (bytes s) p)
 
 pub record Case : Type 0 where
   pub asked : Asked

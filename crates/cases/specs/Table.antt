@@ -6,7 +6,9 @@ use mathlib.Core.List.{List, [], _∷_, _++_}
 use Rattle.read_tokens.specs.declared.Mode.the-variants.{Lake, Plain}
 use Rattle.gurkenmond.specs.Answers.{Says, refused, nomatch, value}
 use Rattle.cases.specs.Ask.{Asked, Said, Case, bytes, reads, rounds, skips, own, plain, alt, sets, matches, lakes, says, counted, words}
-use Rattle.cases.specs.Ask.{texts, lists, three, written, listed}
+use Rattle.tree_summary.specs.declared.Summary.{Summary}
+use Rattle.tree_summary.specs.Summary.{absent}
+use Rattle.cases.specs.Ask.{texts, lists, sums, spots, three, written, listed, summed, lent}
 
 abbrev pub is : Asked → Said → Case
 is a s = record { asked = a; said = s }
@@ -22,6 +24,14 @@ loose = "a <- <b> <c> 'x' <b> c <- 'y' <d> <- 'z'"
 -- the nodes of G's match, and their text
 abbrev blocks : List ℕ
 blocks = 0 ∷ 0 ∷ 4 ∷ 0 ∷ 1 ∷ 1 ∷ 3 ∷ 1 ∷ 2 ∷ 1 ∷ 3 ∷ 2 ∷ 3 ∷ 1 ∷ 2 ∷ 3 ∷ []
+
+-- a block in a block (02, par. 2)
+abbrev nested : List ℕ
+nested =
+    0 ∷ 0 ∷ 8 ∷ 0 ∷ 1 ∷ 1 ∷ 3 ∷ 1 ∷ 2 ∷ 1 ∷ 3 ∷ 2 ∷ 3 ∷ 1 ∷ 2 ∷ 3 ∷ 1 ∷ 3 ∷ 7 ∷ 1 ∷ 0 ∷ 3 ∷ 7 ∷ 2 ∷ 1 ∷ 4 ∷ 6 ∷ 3 ∷ 2 ∷ 4 ∷ 6 ∷ 4 ∷ 3 ∷ 4 ∷ 5 ∷ 5 ∷ []
+
+abbrev sum : ℕ → ℕ → ℕ → ℕ → Summary
+sum k b i j = record { nodes = k; bytes = b; first = i; last = j; present = true }
 
 abbrev blocksText : List ℕ
 blocksText =
@@ -199,4 +209,14 @@ cases =
     is (lists Lake pair "xx" (bytes "{\"name\":\"b\",\"start\":1,\"end\":1,\"text\":\"\",\"children\":[]}") 5) (words (1 ∷ 1 ∷ 1 ∷ 0 ∷ [])) ∷
     is (lists Lake pair "xx" (bytes "{\"name\":\"b\",\"start\":1,\"end\":01,\"text\":\"\",\"children\":[]}") 5) (bad 16 0) ∷
     is (lists Lake pair "xx" (bytes "{\"name\":\"b\",\"start\":1,\"end\":1,\"text\":\"\",\"children\":[]}") 3) (bad 12 0) ∷
+    -- the records of the symbols (02, par. 2): blocks in a block; a list with one node; a record too few; no words
+    is (sums Lake G "{a;{b;}}" nested 5) (summed 4 (sum 2 8 0 5 ∷ sum 3 6 1 6 ∷ sum 2 4 2 7 ∷ sum 2 2 3 8 ∷ lent ∷ [])) ∷
+    is (sums Lake G "{a;{b;}}" (1 ∷ 3 ∷ 7 ∷ 0 ∷ []) 4) (summed 4 (absent ∷ sum 1 4 0 0 ∷ absent ∷ absent ∷ [])) ∷
+    is (sums Lake G "{a;{b;}}" (1 ∷ 3 ∷ 7 ∷ 0 ∷ []) 3) (bad 17 4) ∷
+    is (sums Lake G "{a;{b;}}" [] 3) (bad 15 0) ∷
+    -- line and column (02, par. 2): behind the last byte of a line, on the next one, behind CR LF, and past the text
+    is (spots "ab\n\nc" 2) (words (1 ∷ 3 ∷ [])) ∷
+    is (spots "ab\n\nc" 3) (words (2 ∷ 1 ∷ [])) ∷
+    is (spots "a\r\nb" 4) (words (2 ∷ 2 ∷ [])) ∷
+    is (spots "ab\n\nc" 6) (bad 14 0) ∷
     lexical

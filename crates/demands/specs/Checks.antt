@@ -13,9 +13,10 @@ use Rattle.write_rules.specs.Writing.{symbolText, text}
 use Rattle.prepare.specs.Prepare.{prepared}
 use Rattle.match_list.specs.Nodes.{nodesAt, roomOf}
 use Rattle.tree_json.specs.Json.{jsonText}
+use Rattle.tree_summary.specs.declared.Summary.{Summary}
 use Rattle.gurkenmond.specs.Calls.{isLakeAt}
 use Rattle.demands.specs.Rows.{Row, Row1, Row2, Row3, Row4, Row5, Row6, Row7, Row8, Row9, Row10, Row11, Row12, Row13, Row14}
-use Rattle.demands.specs.Rows.{Row13Counted, Row15, Row16, Row12Read, symbolOf}
+use Rattle.demands.specs.Rows.{Row13Counted, Row15, Row16, Row12Read, Row17, symbolOf}
 
 -- the row holds nowhere
 abbrev pub Never : Row → Type 0
@@ -84,3 +85,11 @@ module _ (m : Mode) (t : List ℕ) where
 
   abbrev pub readChecks : List ℕ → List ℕ → List ℕ → List Row
   readChecks s js ws = checks ++ (Row9 s ∷ Row16 m t s js ∷ Row12Read m t s js ws ∷ [])
+
+  -- the records of the symbols (02, par. 2): "9 and 15 first; 17 .. before any are touched"
+  abbrev pub recordChecks : List ℕ → List ℕ → List Summary → List Row
+  recordChecks s ws rs = checks ++ (Row9 s ∷ Row15 m t s ws ∷ Row17 m t rs ∷ [])
+
+-- line and column (02, par. 2): 9, then "14 for a position past the text"
+abbrev pub spotChecks : List ℕ → ℕ → List Row
+spotChecks s q = Row9 s ∷ Row14 (q ≤ length s) ∷ []

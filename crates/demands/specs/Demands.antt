@@ -2,7 +2,8 @@
 -- Assumes nothing: these are definitions.
 use Prim.Native.Nat.{ℕ, _≤_, _<_}
 use mathlib.Core.Path.{_≡_}
-use mathlib.Core.List.{List, _++_}
+use mathlib.Core.Bool.{true, cond}
+use mathlib.Core.List.{List, [], _∷_, _++_}
 use mathlib.Core.Option.{Option, none, some}
 use mathlib.Core.Logic.{_↔_}
 use lib.ListN.{length, getD, take, drop}
@@ -17,13 +18,18 @@ use Rattle.prepare.specs.Prepare.{prepared}
 use Rattle.prepare.specs.Reads.{readOf}
 use Rattle.gurkenmond.specs.Answers.{Says, refused, nomatch, value, verdictSays}
 use Rattle.gurkenmond.specs.Calls.{setsOf, cannotSkipOf, Matching, matchOf, LakeAnswer, lakeOf, Writing, writeOwnOf, writePlainOf, symbolNameOf}
-use Rattle.gurkenmond.specs.Calls.{parsing, writeJsonOf, readJsonOf}
-use Rattle.match_list.specs.Nodes.{roomOf}
-use Rattle.tree_list.specs.Tree.{IsTree, wordsIn}
+use Rattle.gurkenmond.specs.Calls.{parsing, writeJsonOf, readJsonOf, summing, summariseOf, spotOf}
+use Rattle.match_meaning.specs.Meaning.{Node}
+use Rattle.match_list.specs.Nodes.{nodesAt, roomOf}
+use Rattle.tree_list.specs.Tree.{IsTree, tree, none as leaf, wordsIn}
+use Rattle.tree_summary.specs.declared.Summary.{Summary}
+use Rattle.tree_summary.specs.Summary.{isOf, summaryOf, absent, summaries}
+use Rattle.tree_summary.specs.Outermost.{outermostBytes}
+use Rattle.tree_summary.specs.Adding.{bytesAdded, adding, changedBy}
 use Rattle.demands.specs.Rows.{Row, known, symbolOf}
 use Rattle.demands.specs.Texts.{IsText, nodesOfText}
 use Rattle.demands.specs.Checks.{FirstRow, NoRow, textChecks, checks, inputChecks, matchChecks, lakeChecks, setsChecks}
-use Rattle.demands.specs.Checks.{writeChecks, ownText, plainText, nameChecks, listText, jsonChecks, readChecks}
+use Rattle.demands.specs.Checks.{writeChecks, ownText, plainText, nameChecks, listText, jsonChecks, readChecks, recordChecks, spotChecks}
 use Rattle.demands.specs.Meets.{Tabled, Meets, MeetsLake}
 
 -- in the words of the table: m the mode, t the grammar text, s the input, cs the work cells, ws the node words, out the output room
@@ -67,6 +73,9 @@ pub record Demand1 : Type 0 where
       → Refuses (writeJsonOf m t s ws out .verdict) (jsonChecks m t s ws out) (writeJsonOf m t s ws out .out ≡ out)
   pub read-json : (m : Mode) (t s js ws : List ℕ) → AreBytes t
       → Refuses (readJsonOf m t s js ws .verdict) (readChecks m t s js ws) (readJsonOf m t s js ws .words ≡ ws)
+  pub summary : (m : Mode) (t s ws : List ℕ) (rs : List Summary)
+      → Refuses (summariseOf m t s ws rs .verdict) (recordChecks m t s ws rs) (summariseOf m t s ws rs .records ≡ rs)
+  pub spot : (s : List ℕ) (q : ℕ) → Refuses (spotOf s q .verdict) (spotChecks s q) (Unit {0})
 
 -- ── demand 2: a match, and the lake question, is what the meaning and the table say, and nothing else is: answer, cells and node words ──
 pub record Demand2 : Type 0 where
@@ -104,6 +113,7 @@ pub record SameCalls (m : Mode) (t w : List ℕ) : Type 0 where
   pub name : (r : ℕ) (out : List ℕ) → symbolNameOf m w r out ≡ symbolNameOf m t r out
   pub json : (s ws out : List ℕ) → writeJsonOf m w s ws out ≡ writeJsonOf m t s ws out
   pub read-json : (s js ws : List ℕ) → readJsonOf m w s js ws ≡ readJsonOf m t s js ws
+  pub summary : (s ws : List ℕ) (rs : List Summary) → summariseOf m w s ws rs ≡ summariseOf m t s ws rs
 
 -- "A lake grammar's own text may pass 16,384 bytes; reading it then refuses 1"
 abbrev pub OwnTextBack : Type 0
@@ -127,3 +137,21 @@ pub record JsonBack : Type 0 where
   -- what is written is the text of the tree of which the words are the preorder list
   pub tree : (m : Mode) (t s ws : List ℕ) → IsTree (known m t) (length s) ws → (x : IsText (symbolOf m t) (known m t) s (listText m t s ws))
       × (ws ≡ wordsIn (nodesOfText x))
+
+-- ── the records of the symbols (02, par. 2) ──
+-- the nodes of the words
+abbrev pub inList : List ℕ → List Node
+inList ws = nodesAt ws 0 (roomOf ws)
+
+pub record Records : Type 0 where
+  -- not refused: the records of the symbols, and behind them all as it was
+  pub answered : (m : Mode) (t s ws : List ℕ) (rs : List Summary) → NoRow (recordChecks m t s ws rs)
+      → summariseOf m t s ws rs ≡ summing (known m t) none (summaries (length s) (known m t) (inList ws) rs)
+  -- "An added node updates one record, and the result equals the summary worked out afresh": x behind the nodes xs
+  pub added : (R n : ℕ) (xs : List Node) (x : Node) → IsTree R n (wordsIn (xs ++ (x ∷ []))) → (r : ℕ)
+      → summaryOf n (xs ++ (x ∷ [])) r ≡ cond (isOf r x) (changedBy (summaryOf n xs r) (adding (length xs) (bytesAdded xs x))) (summaryOf n xs r)
+  -- "the bytes its outermost nodes cover"
+  pub outermost : (R n : ℕ) (ws : List ℕ) (x : IsTree R n ws) (r : ℕ)
+      → summaryOf n (inList ws) r .bytes ≡ outermostBytes r (tree (x .symbol) (x .start) (x .end) (x .children) leaf)
+  -- "Symbols without a node have a record of zeros, marked absent"
+  pub zeros : (n : ℕ) (xs : List Node) (r : ℕ) → (summaryOf n xs r .present ≡ true → ⊥) → summaryOf n xs r ≡ absent

@@ -21,6 +21,7 @@ use Rattle.match_meaning.specs.Meaning.{Node, Derives}
 use Rattle.match_list.specs.Nodes.{roomOf}
 use Rattle.prepare.specs.Prepare.{prepared, preparedBy}
 use Rattle.tree_list.specs.Tree.{FirstBad}
+use Rattle.tree_summary.specs.declared.Summary.{Summary}
 use Rattle.gurkenmond.specs.Calls.{cellsNeeded, countBound}
 use Rattle.demands.specs.Meant.{meant}
 use Rattle.demands.specs.Offends.{TooDeep, NoRoom}
@@ -156,3 +157,8 @@ module _ (m : Mode) (t : List ℕ) where
   abbrev pub Row12Read : List ℕ → List ℕ → List ℕ → Row
   Row12Read s js ws =
       record { number = 12; holds = λ p. (p ≡ roomOf ws) × ((x : IsText symbolOf known s js) × (roomOf ws < length (nodesOfText x))) }
+
+  -- ── the records of the symbols (02, par. 2) ──
+  -- "fewer records than symbols": "the number needed"
+  abbrev pub Row17 : List Summary → Row
+  Row17 rs = Over 17 known (length rs) known

@@ -20,4 +20,5 @@ pub mod SameGrammar
 pub mod Exactly
 pub mod Names
 pub mod Json
+pub mod Records
 pub mod Demands

@@ -24,11 +24,16 @@ use Rattle.match_cells.specs.Cells.{cells}
 use Rattle.match_meaning.specs.Meaning.{Node}
 use Rattle.match_list.specs.Nodes.{Listing, all, deep, full, listOf, listingOf, wordsOf, roomOf, nodesAt, written}
 use Rattle.tree_list.specs.Preorder.{badNode}
+use Rattle.base_lines.specs.Lines.{lineOf, columnOf}
+use Rattle.tree_summary.specs.declared.Summary.{Summary}
+use Rattle.tree_summary.specs.declared.Summed.{Summed}
+use Rattle.tree_summary.specs.Summary.{summaries}
 use Rattle.tree_json.specs.Json.{jsonText}
 use Rattle.tree_json.specs.Reading.{parsed}
 use Rattle.write_rules.specs.Writing.{symbolText, text}
 use Rattle.gurkenmond.specs.declared.SetsOf.{SetsOf}
 use Rattle.gurkenmond.specs.declared.Lakes.{Lakes}
+use Rattle.gurkenmond.specs.declared.Spot.{Spot}
 use Rattle.match_run.specs.declared.Match.{Match}
 use Rattle.match_ask.specs.declared.LakeWay.{LakeWay}
 use Rattle.write_put.specs.declared.Written.{Written}
@@ -244,3 +249,42 @@ readJsonOf m t s js ws =
 
 abbrev pub SaysParsed : Parsed → List ℕ → Parsing → Type 0
 SaysParsed r ws w = (r .nodes ≡ w .nodes) × (verdictSays (r .verdict) ≡ w .verdict) × (ws ≡ w .words)
+
+-- ── the records of the symbols (02, par. 2): 1 to 8, 9, 15, then "17, fewer records than symbols, before any are touched, with the number needed" ──
+pub record Summing : Type 0 where
+  pub symbols : ℕ
+  pub verdict : Option Refusal
+  pub records : List Summary
+
+abbrev pub summing : ℕ → Option Refusal → List Summary → Summing
+summing k o rs = record { symbols = k; verdict = o; records = rs }
+
+abbrev pub refusesRecords : Prepared → List ℕ → List ℕ → List Summary → Option Refusal
+refusesRecords p s ws rs = let R : ℕ = length (p .grammar .names) in refusesList p s ws ▸ refuseIf (ltb (length rs) R) 17 R
+
+-- the records behind those of the symbols stay
+abbrev pub summariseAfter : Option Refusal → Prepared → List ℕ → List ℕ → List Summary → Summing
+summariseAfter (some r) p s ws rs = summing 0 (some r) rs
+summariseAfter none p s ws rs = let R : ℕ = length (p .grammar .names) in summing R none (summaries (length s) R (nodesAt ws 0 (roomOf ws)) rs)
+
+unfoldable pub summariseOf : Mode → List ℕ → List ℕ → List ℕ → List Summary → Summing
+summariseOf m t s ws rs = let p : Prepared = prepared m t in summariseAfter (refuses m t ▸ refusesRecords p s ws rs) p s ws rs
+
+abbrev pub SaysSummed : Summed → List Summary → Summing → Type 0
+SaysSummed r rs w = (r .symbols ≡ w .symbols) × (verdictSays (r .verdict) ≡ w .verdict) × (rs ≡ w .records)
+
+-- ── line and column of a position (02, par. 2): 9, then "14 for a position past the text" ──
+pub record Spotting : Type 0 where
+  pub line : ℕ
+  pub column : ℕ
+  pub verdict : Option Refusal
+
+abbrev pub spotAfter : Option Refusal → List ℕ → ℕ → Spotting
+spotAfter (some r) s p = record { line = 0; column = 0; verdict = some r }
+spotAfter none s p = record { line = lineOf s p; column = columnOf s p; verdict = none }
+
+unfoldable pub spotOf : List ℕ → ℕ → Spotting
+spotOf s p = spotAfter (refusesLength s ▸ refuseIf (not (leb p (length s))) 14 0) s p
+
+abbrev pub SaysSpot : Spot → Spotting → Type 0
+SaysSpot r w = (r .line ≡ w .line) × (r .column ≡ w .column) × (verdictSays (r .verdict) ≡ w .verdict)

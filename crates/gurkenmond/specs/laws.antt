@@ -7,3 +7,5 @@ pub mod Matches
 pub mod Asks
 pub mod Names
 pub mod Trees
+pub mod Summaries
+pub mod Spots

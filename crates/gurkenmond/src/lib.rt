@@ -4,7 +4,9 @@
 // A caller names this crate alone: every type that the calls take or give is handed on here.
 ghost use mathlib.Core.Path.{_≡_};
 ghost use Rattle.gurkenmond.specs.Calls.{SaysRead, noSets, SaysSets, SaysLakes, matchOf, SaysMatch, lakeOf, SaysWay, writeOwnOf, writePlainOf};
-ghost use Rattle.gurkenmond.specs.Calls.{symbolNameOf, SaysText, writeJsonOf, readJsonOf, SaysParsed};
+ghost use Rattle.gurkenmond.specs.Calls.{symbolNameOf, SaysText, writeJsonOf, readJsonOf, SaysParsed, summariseOf, SaysSummed, spotOf, SaysSpot};
+ghost use Rattle.gurkenmond.specs.steps.Plans.{planOf};
+ghost use Rattle.prepare.specs.declared.Verdict.the-variants.{Refused};
 ghost use Rattle.tree_list.specs.Handing.{nodeStepAt};
 ghost use Rattle.match_list.specs.Nodes.{soundAt, Handed};
 use grammar_table::Table;
@@ -24,6 +26,9 @@ pub use tree_list::next_node;
 pub use tree_list::node_reader;
 pub use tree_list::node_step;
 pub use tree_read::Parsed;
+use tree_summary::Plan;
+pub use tree_summary::Summary;
+pub use tree_summary::Summed;
 pub use write_put::Written;
 
 pub struct SetsOf {
@@ -35,6 +40,13 @@ pub struct SetsOf {
 // Bit = symbol number.
 pub struct Lakes {
     pub word: u64,
+    pub verdict: Verdict,
+}
+
+// Line and column, both from 1.
+pub struct Spot {
+    pub line: usize,
+    pub column: usize,
     pub verdict: Verdict,
 }
 
@@ -285,4 +297,69 @@ pub fn read_json(mode: Mode, text: &[u8], input: &[u8], json: &[u8], nodes: &mut
         return tree_read::not_read(v);
     }
     tree_read::read_list(&t, input, json, nodes)
+}
+
+// All checks of a summary for so many records, and what is left to do.
+fn planned(mode: Mode, text: &[u8], input: &[u8], nodes: &[u32], room: usize) -> Plan
+    ensures { λ r. ⌜ r ≡ planOf mode (now (text .entry)) (now (input .entry)) (now (nodes .entry)) room ⌝ }
+{
+    let mut t: Table = [0; grammar_table::WORDS];
+    let mut plain: Table = [0; grammar_table::WORDS];
+    let c = prepare::plainly(mode, text, &mut t, &mut plain);
+    let v = c.verdict;
+    if prepare::is_refused(v) {
+        return tree_summary::no_plan(v);
+    }
+    tree_summary::judge(&t, input, nodes, room)
+}
+
+// One record for each symbol of a node list, at the front of the lent ones (02, par. 2); the list is all words handed over.
+pub fn summarise(
+    mode: Mode,
+    text: &[u8],
+    input: &[u8],
+    nodes: &[u32],
+    records: &mut [Summary],
+) -> Summed
+    ensures { λ r.
+        ⌜ SaysSummed r (now (records .exit))
+        (summariseOf mode (now (text .entry)) (now (input .entry)) (now (nodes .entry)) (now (records .entry))) ⌝ }
+{
+    let room = records.len();
+    let p = planned(mode, text, input, nodes, room);
+    tree_summary::update_all(records, nodes, p.symbols, p.steps);
+    p.answer
+}
+
+// The longest input (01, refusal 9).
+const INPUT_MOST: usize = 65535;
+
+// A refusal.
+fn no_spot(number: usize, place: usize) -> Spot
+    ensures { λ r. ⌜ r ≡ record { line = 0; column = 0; verdict = Refused number place } ⌝ }
+{
+    Spot {
+        line: 0,
+        column: 0,
+        verdict: Verdict::Refused { number, place },
+    }
+}
+
+// The line and the column of a position of a text (02, par. 2); its end is one too.
+pub fn line_and_column(input: &[u8], position: usize) -> Spot
+    ensures { λ r. ⌜ SaysSpot r (spotOf (now (input .entry)) position) ⌝ }
+{
+    let n = input.len();
+    if INPUT_MOST < n {
+        return no_spot(9, INPUT_MOST);
+    }
+    if n < position {
+        return no_spot(14, 0);
+    }
+    let p = base_lines::place_of(input, position);
+    Spot {
+        line: p.line,
+        column: p.column,
+        verdict: Verdict::Accepted,
+    }
 }

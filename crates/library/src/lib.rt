@@ -5,9 +5,9 @@ ghost use mathlib.Core.Path.{_≡_};
 ghost use Rattle.match_list.specs.Nodes.{soundAt};
 ghost use Rattle.prepare.specs.Reads.{readOf};
 ghost use Rattle.gurkenmond.specs.Calls.{setsOf, cannotSkipOf, matchOf, lakeOf, writeOwnOf, writePlainOf, symbolNameOf};
-ghost use Rattle.gurkenmond.specs.Calls.{writeJsonOf, readJsonOf};
+ghost use Rattle.gurkenmond.specs.Calls.{writeJsonOf, readJsonOf, summariseOf, spotOf};
 ghost use Rattle.library_numbers.specs.Words.{modeOf, Answers, readWords, setsWords, lakesWords, soundWords, spanWords, NumbersMatch, NumbersLake, NumbersText};
-ghost use Rattle.library_numbers.specs.Words.{NumbersParsed};
+ghost use Rattle.library_numbers.specs.Words.{NumbersParsed, NumbersSummed, spotWords};
 
 // 0, symbols, terminals, expressions.
 #[no_mangle]
@@ -199,6 +199,37 @@ pub extern "C" fn gm_read_json(
     let a = gurkenmond::read_json(m, text, input, json, nodes);
     let v = a.verdict;
     let w = library_numbers::of_one(v, a.nodes);
+    *out = w;
+    w[0]
+}
+
+// 0, symbols: so many records are written, one for each symbol; or 17, how many are needed.
+#[no_mangle]
+pub extern "C" fn gm_summarise(
+    mode: u8,
+    text: &[u8],
+    input: &[u8],
+    nodes: &[u32],
+    records: &mut [gurkenmond::Summary],
+    out: &mut [u64; 4],
+) -> u64
+    ensures { λ r. ⌜ NumbersSummed r (now (out .exit)) (now (records .exit))
+        (summariseOf (modeOf mode) (now (text .entry)) (now (input .entry)) (now (nodes .entry)) (now (records .entry))) ⌝ }
+{
+    let m = library_numbers::mode_of(mode);
+    let a = gurkenmond::summarise(m, text, input, nodes, records);
+    let w = library_numbers::of_summed(a);
+    *out = w;
+    w[0]
+}
+
+// 0, line, column of a position.
+#[no_mangle]
+pub extern "C" fn gm_line_and_column(input: &[u8], position: usize, out: &mut [u64; 4]) -> u64
+    ensures { λ r. ⌜ Answers r (now (out .exit)) (spotWords (spotOf (now (input .entry)) position)) ⌝ }
+{
+    let s = gurkenmond::line_and_column(input, position);
+    let w = library_numbers::of_spot(s);
     *out = w;
     w[0]
 }

@@ -15,10 +15,11 @@ use Rattle.match_list.specs.Nodes.{nodeAt, soundAt}
 use Rattle.prepare.specs.declared.Counted.{Counted}
 use Rattle.prepare.specs.declared.Verdict.{Verdict}
 use Rattle.prepare.specs.declared.Verdict.the-variants.{Accepted, Refused as VerdictRefused}
+use Rattle.tree_summary.specs.declared.Summary.{Summary}
 use Rattle.gurkenmond.specs.declared.SetsOf.{SetsOf}
 use Rattle.gurkenmond.specs.declared.Lakes.{Lakes}
 use Rattle.gurkenmond.specs.Answers.{Says, refused, nomatch, value}
-use Rattle.gurkenmond.specs.Calls.{MatchAnswer, Matching, LakeAnswer, Writing, Parsing}
+use Rattle.gurkenmond.specs.Calls.{MatchAnswer, Matching, LakeAnswer, Writing, Parsing, Summing, Spotting}
 
 -- the mode of a byte: 0 is lake, every other one plain
 abbrev pub modeOf : ℕ → Mode
@@ -102,3 +103,15 @@ NumbersText r out room w = (out ≡ oneBy (w .verdict) (w .bytes)) × (r ≡ get
 -- a JSON text read: 0, nodes
 abbrev pub NumbersParsed : ℕ → List ℕ → List ℕ → Parsing → Type 0
 NumbersParsed r out nodes w = (out ≡ oneBy (w .verdict) (w .nodes)) × (r ≡ getD out 0 0) × (nodes ≡ w .words)
+
+-- ── the records of the symbols: 0, symbols; the records are those of the call's definition ──
+abbrev pub NumbersSummed : ℕ → List ℕ → List Summary → Summing → Type 0
+NumbersSummed r out rs w = (out ≡ oneBy (w .verdict) (w .symbols)) × (r ≡ getD out 0 0) × (rs ≡ w .records)
+
+-- ── line and column: 0, line, column ──
+abbrev pub spotBy : Option Refusal → ℕ → ℕ → List ℕ
+spotBy none l c = fourWords 0 l c 0
+spotBy (some r) l c = fourWords (r .number) (r .place) 0 0
+
+abbrev pub spotWords : Spotting → List ℕ
+spotWords w = spotBy (w .verdict) (w .line) (w .column)

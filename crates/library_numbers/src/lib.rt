@@ -1,7 +1,7 @@
 // The answers of the public calls as numbers (specs/Words.antt).
 ghost use mathlib.Core.Path.{_≡_};
 ghost use Rattle.gurkenmond.specs.Answers.{verdictSays, outcomeSays, waySays};
-ghost use Rattle.library_numbers.specs.Words.{modeOf, bitOf, fourWords, readNumbers, setsNumbers, lakesNumbers, matchNumbers, oneBy, spanWords};
+ghost use Rattle.library_numbers.specs.Words.{modeOf, bitOf, fourWords, readNumbers, setsNumbers, lakesNumbers, matchNumbers, oneBy, spotBy, spanWords};
 use gurkenmond::Mode;
 use gurkenmond::Outcome;
 use gurkenmond::Verdict;
@@ -106,6 +106,28 @@ pub fn of_one(v: Verdict, x: usize) -> [u64; 4]
 {
     match v {
         Verdict::Accepted => [0, x as u64, 0, 0],
+        Verdict::Refused {
+            number: n,
+            place: p,
+        } => refusal(n, p),
+    }
+}
+
+pub fn of_summed(a: gurkenmond::Summed) -> [u64; 4]
+    ensures { λ r. ⌜ r ≡ oneBy (verdictSays (a .verdict)) (a .symbols) ⌝ }
+{
+    let v = a.verdict;
+    of_one(v, a.symbols)
+}
+
+pub fn of_spot(s: gurkenmond::Spot) -> [u64; 4]
+    ensures { λ r. ⌜ r ≡ spotBy (verdictSays (s .verdict)) (s .line) (s .column) ⌝ }
+{
+    let v = s.verdict;
+    let line = s.line;
+    let column = s.column;
+    match v {
+        Verdict::Accepted => [0, line as u64, column as u64, 0],
         Verdict::Refused {
             number: n,
             place: p,

@@ -10,6 +10,8 @@
 //   name MODE GRAMMAR SYMBOL ROOM             text BYTES
 //   json MODE GRAMMAR INPUT WORDS ROOM        text BYTES
 //   unjson MODE GRAMMAR INPUT JSON NODEWORDS  nodes COUNT; then every lent word
+//   summary MODE GRAMMAR INPUT WORDS RECORDS  summary SYMBOLS; then every lent record, x for one that is as it was lent
+//   where INPUT POSITION                      at LINE COLUMN
 // or `refused NUMBER PLACE`; and on node words, with no refusal,
 //   sound WORDS NODE LENGTH                   sound 0 or 1
 //   text INPUT WORDS NODE                     text BYTES

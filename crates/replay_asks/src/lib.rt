@@ -24,6 +24,8 @@ const JSON: u8 = 8;
 
 const UNJSON: u8 = 9;
 
+const SUMMARY: u8 = 10;
+
 fn ask_sets(mode: Mode, text: &[u8], line: &[u8], at: usize) {
     let e = replay_lines::number_at(line, at, replay_lines::NUMBER_MOST);
     if replay_lines::NUMBER_MOST < e {
@@ -116,6 +118,7 @@ fn ask_input(kind: u8, mode: Mode, text: &[u8], line: &[u8], at: usize) {
         MATCH => ask_match(mode, text, &input[..n], line, then),
         JSON => replay_trees::ask_json(mode, text, &input[..n], line, then),
         UNJSON => replay_trees::ask_unjson(mode, text, &input[..n], line, then),
+        SUMMARY => replay_records::ask_summary(mode, text, &input[..n], line, then),
         _ => ask_lake(mode, text, &input[..n], line, then),
     }
 }
@@ -130,6 +133,7 @@ fn ask(kind: u8, mode: Mode, text: &[u8], line: &[u8], at: usize) {
         LAKE => ask_input(kind, mode, text, line, at),
         JSON => ask_input(kind, mode, text, line, at),
         UNJSON => ask_input(kind, mode, text, line, at),
+        SUMMARY => ask_input(kind, mode, text, line, at),
         NAME => ask_name(mode, text, line, at),
         _ => ask_written(kind, mode, text, line, at),
     }
@@ -207,6 +211,14 @@ fn answer_on_nodes(line: &[u8]) {
     }
     if replay_lines::stands(line, 0, b"unjson ") {
         mode_at(UNJSON, line, 7);
+        return;
+    }
+    if replay_lines::stands(line, 0, b"summary ") {
+        mode_at(SUMMARY, line, 8);
+        return;
+    }
+    if replay_lines::stands(line, 0, b"where ") {
+        replay_records::ask_where(line, 6);
         return;
     }
     if replay_lines::stands(line, 0, b"handed ") {

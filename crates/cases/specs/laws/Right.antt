@@ -34,11 +34,13 @@ use Rattle.match_list.specs.Nodes.{wordsOf, roomOf, nodeAt, nodesAt, soundAt, n
 use Rattle.write_rules.specs.Writing.{byteText, litChar, classChar, litChars, runs as writing-runs, runText, runsText, leafText, symbolText}
 use Rattle.write_rules.specs.Writing.{exprText, ruleText, text}
 use Rattle.tree_list.specs.Preorder.{admits, gapsBehind, badFrom, badNode}
+use Rattle.tree_summary.specs.Summary.{countOf, liesIn, coveredOf, firstOf, lastOf, summaryOf, summaries}
+use Rattle.base_lines.specs.Lines.{endedLines, columnFrom, lineOf, columnOf}
 use Rattle.tree_json.specs.Json.{charJson, charsJson, numberJson, headJson, closings, behindNode, jsonText}
 use Rattle.tree_json.specs.Reading.{ate, namedAt, digitsAt, numberAt, closesAt, headAt, nodesFrom, parsed}
 use Rattle.prepare.specs.Reads.{verdictOf, readOf}
 use Rattle.match_lake.specs.Asking.{noneMatches, wayNumber, wayIn}
-use Rattle.gurkenmond.specs.Calls.{setsOf, cannotSkipOf, matchOf, lakeOf, writeOwnOf, writePlainOf, writeJsonOf, readJsonOf}
+use Rattle.gurkenmond.specs.Calls.{setsOf, cannotSkipOf, matchOf, lakeOf, writeOwnOf, writePlainOf, writeJsonOf, readJsonOf, summariseOf, spotOf}
 use Rattle.prepare.specs.Prepare.{preparedBy, prepared, refuses}
 use Rattle.cases.specs.Ask.{Said, Case, bytes as text-bytes, answered}
 use Rattle.cases.specs.Table.{cases}
@@ -58,5 +60,5 @@ unfolding cases answered text-bytes oneOf ranges kindAt textBound nameBound open
     inWords putNode written wordsOf roomOf nodeAt nodesAt soundAt nodeText byteText litChar classChar litChars writing-runs runText runsText leafText
     symbolText exprText ruleText text verdictOf readOf setsOf cannotSkipOf matchOf noneMatches wayNumber wayIn lakeOf writeOwnOf writePlainOf
     preparedBy prepared refuses admits gapsBehind badFrom badNode charJson charsJson numberJson headJson closings behindNode jsonText ate namedAt digitsAt
-    numberAt closesAt headAt nodesFrom parsed writeJsonOf readJsonOf
+    numberAt closesAt headAt nodesFrom parsed writeJsonOf readJsonOf countOf liesIn coveredOf firstOf lastOf summaryOf summaries summariseOf endedLines columnFrom lineOf columnOf spotOf
 cases-right = refl

@@ -34,15 +34,10 @@ use Rattle.write_back.specs.laws.Own.{own-again}
 use Rattle.write_back.specs.laws.Plain.{plain-again}
 use Rattle.write_back.specs.laws.Same.{again-bodies, again-plain}
 use Rattle.prepare.specs.Prepare.{Prepared, prepared, preparedBy, refuses}
+use Rattle.gurkenmond.specs.laws.Verdicts.{if-none}
 use Rattle.gurkenmond.specs.Calls.{refusesInput, matchBy, matchAfter, matchOf, writeBy, writeOwnOf, writePlainOf}
-use Rattle.prepare.specs.laws.Loads.{some-none}
 use Rattle.prepare.specs.laws.Reads.{split, grammar-read}
 use Rattle.demands.specs.Checks.{ownText, plainText}
-
--- ── no check refuses: none of them does ──
-if-none : (b : Bool) (k p : ℕ) → refuseIf b k p ≡ none → b ≡ false
-if-none true k p e = absurd (some-none (refusal k p) e)
-if-none false k p e = refl
 
 -- ── a match asks for bodies only ──
 module _ (s cs ws : List ℕ) (p q : Prepared) (e : p .bodies ≡ q .bodies) where

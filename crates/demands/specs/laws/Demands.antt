@@ -1,4 +1,4 @@
--- THE DEMANDS, one theorem each: `reading`, `demand-1`, `demand-2`, `demand-3`, `own-text-back`; `json-back` is in Json.antt. Assumes nothing.
+-- THE DEMANDS, one theorem each: `reading`, `demand-1`, `demand-2`, `demand-3`, `own-text-back`; `json-back` is in Json.antt, `records` in Records.antt. Assumes nothing.
 use Prim.Native.Nat.{ℕ, min, _≤_}
 use mathlib.Core.Path.{_≡_, refl, sym, ap, ap₂, _∙_, subst}
 use mathlib.Core.Bool.{not, _&&_}
@@ -27,6 +27,7 @@ use Rattle.prepare.specs.laws.Reads.{split}
 use Rattle.gurkenmond.specs.Calls.{setsBy, setsOf, lakesBy, cannotSkipOf, Matching, refusesInput, matchAfter, matchOf, isLakeAt, lakeAfter, lakeOf}
 use Rattle.gurkenmond.specs.Calls.{Writing, writeAfter, writeBy, writeOwnOf, writePlainOf, isSymbol, symbolNameOf}
 use Rattle.gurkenmond.specs.Calls.{refusesLength, refusesList, jsonOf, countBound, writeJsonOf, listIn, parseAfter, readIn, refusesRead, readJsonOf}
+use Rattle.gurkenmond.specs.Calls.{refusesRecords, summariseAfter, summariseOf}
 use Rattle.demands.specs.Rows.{Row6, Row7, Row8}
 use Rattle.demands.specs.Checks.{NoRow, textChecks, writeChecks, ownText, plainText}
 use Rattle.demands.specs.Meets.{Tabled, Meets, MeetsLake}
@@ -40,6 +41,7 @@ use Rattle.demands.specs.laws.Meets.{table, match-meets, match-meets-onl
 use Rattle.demands.specs.laws.MeetsLake.{lake-meets, lake-meets-only}
 use Rattle.demands.specs.laws.Exactly.{read-exactly, cannot-skip-exactly, sets-exactly, match-exactly, lake-exactly, own-exactly, plain-exactly, name-exactly}
 use Rattle.demands.specs.laws.Json.{json-exactly, read-json-exactly, wrote-by}
+use Rattle.demands.specs.laws.Records.{records-exactly, spot-exactly}
 use Rattle.demands.specs.laws.SameGrammar.{same-grammar}
 use Rattle.demands.specs.laws.Back.{match-back, plain-back, own-back, prepared-back, own-accepted-back}
 
@@ -64,6 +66,8 @@ demand-1 = record {
   name = name-exactly;
   json = json-exactly;
   read-json = λ m t s js ws b. read-json-exactly m t b s js ws;
+  summary = records-exactly;
+  spot = spot-exactly;
 }
 
 -- ── 2 ──
@@ -135,7 +139,7 @@ module _ (m : Mode) (t : List ℕ) (b : IsBytes t) (ok : refuses m t ≡ none) w
         (prepared m own .rules, grammar-of-text m own (text-clear own clear-own), same-grammar g (prepared m own .rules) .1 f)
 
     same-calls : SameCalls m t own
-    unfolding readOf setsOf cannotSkipOf matchOf lakeOf writeOwnOf writePlainOf symbolNameOf writeJsonOf readJsonOf
+    unfolding readOf setsOf cannotSkipOf matchOf lakeOf writeOwnOf writePlainOf symbolNameOf writeJsonOf readJsonOf summariseOf
     same-calls = record {
       grammar = same;
       read = ap₂ readBy checked back;
@@ -157,6 +161,7 @@ module _ (m : Mode) (t : List ℕ) (b : IsBytes t) (ok : refuses m t ≡ none) w
       read-json =
           λ s js ws.
           ap₂ (λ (o : Option Refusal) (x : Prepared). parseAfter ((o ▸ refusesLength s) ▸ refusesRead (readIn x s js) ws) (listIn (readIn x s js)) ws) checked back;
+      summary = λ s ws rs. ap₂ (λ (o : Option Refusal) (x : Prepared). summariseAfter (o ▸ refusesRecords x s ws rs) x s ws rs) checked back;
     }
 
 pub demand-3 : Demand3

@@ -33,16 +33,16 @@ use Rattle.tree_json.specs.Reading.{parsed, Plainly}
 use Rattle.tree_json.specs.laws.Back.{texts-are-read}
 use Rattle.tree_json.specs.laws.Only.{read-only-texts}
 use Rattle.tree_json.specs.laws.Tree.{json-tree}
+use Rattle.gurkenmond.specs.laws.Verdicts.{if-none}
 use Rattle.gurkenmond.specs.Calls.{Writing, writeAfter, countBound, refusesLength, refusesList, writeJsonOf}
 use Rattle.gurkenmond.specs.Calls.{parsing, isText, listIn, parseAfter, readIn, refusesRead, readJsonOf}
 use Rattle.demands.specs.Texts.{IsText, nodesOfText}
-use Rattle.demands.specs.Rows.{Row16, Row12Read, known, symbolOf}
+use Rattle.demands.specs.Rows.{Row15, Row16, Row12Read, known, symbolOf}
 use Rattle.demands.specs.Checks.{NoRow, listText, jsonChecks, readChecks}
 use Rattle.demands.specs.Demands.{Refuses, AreBytes, Wrote, JsonBack, atFront}
 use Rattle.demands.specs.laws.Chain.{Tells, accepts, join, row-tells, over-told, found-at, missing, same-refusal}
 use Rattle.demands.specs.laws.Exactly.{by-check, room-exactly}
 use Rattle.demands.specs.laws.Refusals.{one-to-eight}
-use Rattle.demands.specs.laws.Refused.{if-none}
 use Rattle.demands.specs.laws.Names.{plain-names}
 
 -- a check that passes
@@ -58,7 +58,7 @@ short-input : (s : List ℕ) → refusesLength s ≡ none → length s ≤ input
 short-input s e = ltb-false inputBound (length s) (if-none (ltb inputBound (length s)) 9 inputBound e)
 
 -- ── the words of a list, read again ──
-words-read : (xs : List Node) → nodesAt (wordsIn xs) 0 (roomOf (wordsIn xs)) ≡ xs
+pub words-read : (xs : List Node) → nodesAt (wordsIn xs) 0 (roomOf (wordsIn xs)) ≡ xs
 words-read xs = ap (nodesAt (wordsIn xs) 0) (words-room xs) ∙ nodes-of-words xs
 
 words-one : (xs ys : List Node) → wordsIn xs ≡ wordsIn ys → xs ≡ ys
@@ -157,6 +157,11 @@ module _ (m : Mode) (t s : List ℕ) where
 
 -- ── the chains of checks ──
 module _ (m : Mode) (t : List ℕ) where
+  pub list-told : (s ws : List ℕ) → Tells (Row15 m t s ws ∷ []) (refuseAt 15 (badNode (known m t) (length s) ws))
+  list-told s ws =
+      found-at 15 (FirstBad (known m t) (length s) ws) (badNode (known m t) (length s) ws) (λ k. first-bad (known m t) (length s) ws k .0)
+      (λ k. first-bad (known m t) (length s) ws k .1)
+
   -- 1 to 8, 9, 15, then 13
   pub json-chain : (s ws out : List ℕ)
       → Tells (jsonChecks m t s ws out)
@@ -169,10 +174,7 @@ module _ (m : Mode) (t : List ℕ) where
       subst (Tells (jsonChecks m t s ws out)) (sym (assoc (refuses m t) (a ▸ b) c ∙ ap (λ (o : Option Refusal). refuses m t ▸ o) (assoc a b c)))
       (join (refuses m t) (a ▸ (b ▸ c)) (one-to-eight m t)
       (λ e. join a (b ▸ c) (over-told 9 inputBound inputBound (length s))
-      (λ g. join b c
-      (found-at 15 (FirstBad (known m t) (length s) ws) (badNode (known m t) (length s) ws)
-      (λ k. first-bad (known m t) (length s) ws k .0) (λ k. first-bad (known m t) (length s) ws k .1))
-      (λ h. over-told 13 (min countBound need) (length out) need))))
+      (λ g. join b c (list-told s ws) (λ h. over-told 13 (min countBound need) (length out) need))))
 
   -- 1 to 8, 9, 16, then 12
   module _ (bytes : AreBytes t) where

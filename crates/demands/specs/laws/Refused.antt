@@ -12,17 +12,13 @@ use Rattle.read_tokens.specs.declared.Mode.{Mode}
 use Rattle.read_tokens.specs.Bounds.{inputBound}
 use Rattle.grammar.specs.Refusal.{Refusal, refusal, refuseIf, _▸_}
 use Rattle.prepare.specs.Prepare.{prepared, refuses}
-use Rattle.prepare.specs.laws.Loads.{some-none}
 use Rattle.prepare.specs.laws.Reads.{split}
 use Rattle.gurkenmond.specs.Answers.{refused as OutcomeRefused}
+use Rattle.gurkenmond.specs.laws.Verdicts.{if-none}
 use Rattle.gurkenmond.specs.Calls.{cellsNeeded, refusesInput, matching, matchAfter, matchOf, isLakeAt, lakeAnswer, lakeAfter, lakeOf}
 use Rattle.demands.specs.Checks.{FirstRow, NoRow, inputChecks, lakeChecks}
 use Rattle.demands.specs.laws.Chain.{accepts}
 use Rattle.demands.specs.laws.Refusals.{input-chain, lake-chain}
-
-pub if-none : (b : Bool) (k p : ℕ) → refuseIf b k p ≡ none → b ≡ false
-if-none true k p e = absurd (some-none (refusal k p) e)
-if-none false k p e = refl
 
 module _ (m : Mode) (t s cs : List ℕ) where
   -- ── match: 1 to 10 ──

@@ -1,7 +1,7 @@
 -- "Two results that meet it are proved equal" (01, What the promises have to nail): of each public call the result, and every lent word afterwards.
 -- Assumes nothing.
 use Prim.Native.Nat.{ℕ}
-use mathlib.Core.Path.{_≡_, sym, ap₂, _∙_}
+use mathlib.Core.Path.{_≡_, sym, ap, ap₂, _∙_}
 use mathlib.Core.Bool.{Bool}
 use mathlib.Core.List.{List}
 use Rattle.read_tokens.specs.declared.Mode.{Mode}
@@ -19,7 +19,10 @@ use Rattle.tree_list.specs.declared.NodeStep.{NodeStep}
 use Rattle.tree_list.specs.Handing.{nodeStepAt}
 use Rattle.tree_read.specs.declared.Parsed.{Parsed}
 use Rattle.gurkenmond.specs.Calls.{SaysRead, SaysSets, SaysLakes, matchOf, SaysMatch, lakeOf, SaysWay, Writing, writeOwnOf, writePlainOf, symbolNameOf, SaysText}
-use Rattle.gurkenmond.specs.Calls.{writeJsonOf, readJsonOf, SaysParsed}
+use Rattle.tree_summary.specs.declared.Summary.{Summary}
+use Rattle.tree_summary.specs.declared.Summed.{Summed}
+use Rattle.gurkenmond.specs.declared.Spot.{Spot}
+use Rattle.gurkenmond.specs.Calls.{writeJsonOf, readJsonOf, SaysParsed, summariseOf, SaysSummed, spotOf, SaysSpot}
 use Rattle.gurkenmond.specs.laws.Answers.{verdict-one, way-one, outcome-one}
 
 same : {A : Type 0} {a b c : A} → a ≡ c → b ≡ c → a ≡ b
@@ -70,6 +73,16 @@ module _ (m : Mode) (t s : List ℕ) where
   pub read-json-one : (js ws : List ℕ) (r r′ : Parsed) (w w′ : List ℕ) → SaysParsed r w (readJsonOf m t s js ws) → SaysParsed r′ w′ (readJsonOf m t s js ws) → (r ≡ r′) × (w ≡ w′)
   read-json-one js ws r r′ w w′ e f =
       (ap₂ (λ (k : ℕ) (v : Verdict). record { nodes = k; verdict = v }) (same (e .0) (f .0)) (verdict-one (r .verdict) (r′ .verdict) (same (e .1) (f .1))), same (e .2) (f .2))
+
+  pub summarise-one : (ws : List ℕ) (rs : List Summary) (r r′ : Summed) (o o′ : List Summary) → SaysSummed r o (summariseOf m t s ws rs) → SaysSummed r′ o′ (summariseOf m t s ws rs)
+      → (r ≡ r′) × (o ≡ o′)
+  summarise-one ws rs r r′ o o′ e f =
+      (ap₂ (λ (k : ℕ) (v : Verdict). record { symbols = k; verdict = v }) (same (e .0) (f .0)) (verdict-one (r .verdict) (r′ .verdict) (same (e .1) (f .1))), same (e .2) (f .2))
+
+pub spot-one : (s : List ℕ) (p : ℕ) (r r′ : Spot) → SaysSpot r (spotOf s p) → SaysSpot r′ (spotOf s p) → r ≡ r′
+spot-one s p r r′ e f =
+    ap₂ (λ (k : ℕ) (v : Verdict). record { line = k; column = r .column; verdict = v }) (same (e .0) (f .0)) (verdict-one (r .verdict) (r′ .verdict) (same (e .2) (f .2)))
+    ∙ ap (λ (c : ℕ). record { line = r′ .line; column = c; verdict = r′ .verdict }) (same (e .1) (f .1))
 
 pub node-step-one : (ws : List ℕ) (at : ℕ) (r r′ : NodeStep) → r ≡ nodeStepAt ws at → r′ ≡ nodeStepAt ws at → r ≡ r′
 node-step-one ws at r r′ e f = same e f

@@ -11,7 +11,7 @@ use Rattle.read_tokens.specs.declared.Mode.{Mode}
 use Rattle.read_tokens.specs.Bounds.{inputBound}
 use Rattle.read_tokens.specs.laws.Bytes.{Bytes}
 use Rattle.grammar.specs.Numbers.{numbered}
-use Rattle.grammar.specs.Refusal.{Refusal, refusal, refuseIf, refuseAt, _▸_}
+use Rattle.grammar.specs.Refusal.{Refusal, refuseIf, refuseAt, _▸_}
 use Rattle.grammar_table.specs.Holds.{Holds}
 use Rattle.grammar_table.specs.Table.{symbolCount}
 use Rattle.read_syntax.specs.Reading.{rulesOf}
@@ -23,7 +23,6 @@ use Rattle.prepare.specs.declared.Counted.{Counted}
 use Rattle.prepare.specs.declared.Verdict.{Verdict}
 use Rattle.prepare.specs.Prepare.{prepared, preparedBy, refuses}
 use Rattle.prepare.specs.Reads.{verdictOf, isRefused, readOf}
-use Rattle.prepare.specs.laws.Loads.{some-none}
 use Rattle.prepare.specs.laws.Reads.{split}
 use Rattle.write_put.specs.declared.Written.{Written}
 use Rattle.write_put.specs.steps.Puts.{notWritten}
@@ -39,7 +38,7 @@ use Rattle.tree_read.specs.steps.Lists.{notRead, ReadList}
 use Rattle.gurkenmond.specs.Answers.{verdictSays}
 use Rattle.gurkenmond.specs.Calls.{writeAfter, SaysText, symbolAt, jsonOf, refusesList, refusesLength, writeJsonOf}
 use Rattle.gurkenmond.specs.Calls.{Parsing, parsing, listIn, parseAfter, readIn, refusesRead, readJsonOf, SaysParsed}
-use Rattle.gurkenmond.specs.laws.Verdicts.{handed}
+use Rattle.gurkenmond.specs.laws.Verdicts.{handed, at-none}
 use Rattle.gurkenmond.specs.laws.Names.{named}
 use Rattle.gurkenmond.specs.laws.Writes.{told, says-by, refused-by}
 
@@ -59,10 +58,6 @@ parsed-by r ws w e = (ap (λ (x : Parsing). x .nodes) e, ap (λ (x : Parsing). x
 -- the same answer says the same
 pub as-parsed : {r r′ : Parsed} {ws : List ℕ} {w : Parsing} → r ≡ r′ → SaysParsed r′ ws w → SaysParsed r ws w
 as-parsed e s = (ap (λ (x : Parsed). x .nodes) e ∙ s .0, ap (λ (x : Parsed). verdictSays (x .verdict)) e ∙ s .1, s .2)
-
-at-none : (k : ℕ) (o : Option ℕ) → refuseAt k o ≡ none → o ≡ none
-at-none k none e = refl
-at-none k (some p) e = absurd (some-none (refusal k p) e)
 
 -- ── written ──
 module _ (m : Mode) (g s ws old new : List ℕ) where

@@ -1,0 +1,3 @@
+-- Laws of the definitions beside this file.
+pub mod Lines
+pub mod Counting

@@ -1,0 +1,52 @@
+-- `explain_shown::line_from` meets its contract. Assumes nothing.
+use Prim.Native.Nat.{_≤_}
+use borrow.Author.Needs.{needs}
+use Rattle.explain_shown.proofs.line_from.Statement.{statement}
+use Rattle.explain_shown.proofs.line_from.Tie as tie
+use Rattle.explain_shown.proofs.line_from.Reads as reads
+use Rattle.explain_shown.proofs.line_from.Lts as lts
+
+abbrev Inv-loop : tie.InvT-loop
+Inv-loop text at i₀ i = i ≤ at
+
+abbrev μ-loop : tie.MeasureT-loop
+μ-loop text at i₀ i = i
+
+loop-holds : tie.Need-loop-holds Inv-loop μ-loop
+loop-holds c = search needs
+
+sub-if1 : tie.Need-sub-if1 Inv-loop μ-loop
+sub-if1 c = search needs
+
+shared-slice-read-if1 : tie.Need-shared-slice-read-if1 Inv-loop μ-loop
+shared-slice-read-if1 c = search needs
+
+returns : tie.Need-returns Inv-loop μ-loop
+returns c = search needs
+
+sub-i : tie.Need-sub-i Inv-loop μ-loop
+sub-i c = search needs
+
+loop-less : tie.Need-loop-less Inv-loop μ-loop
+loop-less c = search needs
+
+loop-again : tie.Need-loop-again Inv-loop μ-loop
+loop-again c = search needs
+
+returns-2 : tie.Need-returns-2 Inv-loop μ-loop
+returns-2 c = search needs
+
+pub line-from-spec : {M : Type 1} → statement M
+line-from-spec =
+    tie.close
+    (tie.spec
+    Inv-loop
+    μ-loop
+    loop-holds
+    sub-if1
+    shared-slice-read-if1
+    returns
+    sub-i
+    loop-less
+    loop-again
+    returns-2)

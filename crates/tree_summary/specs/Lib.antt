@@ -1,0 +1,5 @@
+pub mod Summary
+pub mod Outermost
+pub mod Adding
+pub mod steps
+pub mod laws

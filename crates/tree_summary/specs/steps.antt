@@ -1,0 +1,3 @@
+-- What one function of the code does: contracts shaped like the code. Laws tie them to the definitions.
+pub mod Sweeping
+pub mod Judging
