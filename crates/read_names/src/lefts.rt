@@ -22,6 +22,8 @@ use read_order::pack;
 use read_order::same_name;
 use read_tokens::Mode;
 use read_tokens::Token;
+use read_tokens::kinds::laid_out;
+use read_tokens::token_by;
 use read_walks::is_left;
 use read_walks::name_start;
 use read_walks::reserved_name;
@@ -126,9 +128,10 @@ fn sweep(mode: Mode, text: &[u8], a: &Room, c: Range, limit: usize, marks: &mut 
     let low = c.low;
     let high = c.high;
     let count = c.count;
+    let kinds = laid_out();
     let mut at: usize = 0;
     while at < limit {
-        let t = read_tokens::token_at(mode, text, at);
+        let t = token_by(mode, text, at, &kinds);
         if t.kind == 0 {
             return limit;
         }
@@ -190,9 +193,10 @@ fn uses(mode: Mode, text: &[u8], a: &Room, c: Range, limit: usize, marks: &Marks
     let low = c.low;
     let high = c.high;
     let count = c.count;
+    let kinds = laid_out();
     let mut at: usize = 0;
     while at < limit {
-        let t = read_tokens::token_at(mode, text, at);
+        let t = token_by(mode, text, at, &kinds);
         if t.kind == 0 {
             return limit;
         }

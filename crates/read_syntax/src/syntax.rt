@@ -9,9 +9,11 @@ ghost use Rattle.read_tokens.specs.Tokens.{lexemes};
 ghost use Rattle.grammar.specs.Refusal.{refusal};
 ghost use Rattle.read_syntax.specs.Machine.{accepting, judge, start};
 ghost use Rattle.read_syntax.specs.Reading.{offence};
-ghost use Rattle.read_syntax.specs.steps.Numbers.{kindClass, nextOf, moved, deep, stateOf, overBy};
+ghost use Rattle.read_syntax.specs.steps.Numbers.{kindClass, nextOf, Moves, moved, deep, stateOf, overBy};
 ghost use Rattle.read_syntax.specs.steps.Found.{found};
 use read_tokens::Mode;
+use read_tokens::kinds::laid_out;
+use read_tokens::token_by;
 
 // A refusal; number 0: none.
 pub struct Found {
@@ -159,11 +161,18 @@ fn class(kind: u8) -> u8
     CLASS[kind as usize]
 }
 
-fn next(c: u8, z: u8, k: u8) -> u8
-    requires { ⌜ (c < 7) × (z < 2) × (k < 9) ⌝ }
+// The table as an array to lend: a walk lays it out once.
+fn laid_moves() -> [u8; 126]
+    ensures { λ r. ⌜ Moves r ⌝ }
+{
+    NEXT
+}
+
+fn next(c: u8, z: u8, k: u8, moves: &[u8; 126]) -> u8
+    requires { ⌜ (c < 7) × (z < 2) × (k < 9) × Moves (now moves) ⌝ }
     ensures { λ r. ⌜ r ≡ nextOf c z k ⌝ }
 {
-    NEXT[(z as usize * 7 + c as usize) * 9 + k as usize]
+    moves[(z as usize * 7 + c as usize) * 9 + k as usize]
 }
 
 fn deepness(d: usize) -> u8
@@ -252,11 +261,13 @@ pub fn offending(mode: Mode, text: &[u8]) -> Found
     ensures { λ r. ⌜ r
         ≡ found (offence (length (now (text .entry))) (lexemes mode (now (text .entry))) (judge mode 0 start (lexemes mode (now (text .entry))))) ⌝ }
 {
+    let kinds = laid_out();
+    let moves = laid_moves();
     let mut c: u8 = 0;
     let mut d: usize = 0;
     let mut at: usize = 0;
     loop {
-        let t = read_tokens::token_at(mode, text, at);
+        let t = token_by(mode, text, at, &kinds);
         let kind = t.kind;
         if kind == 0 {
             if finished(c, d) {
@@ -265,7 +276,7 @@ pub fn offending(mode: Mode, text: &[u8]) -> Found
             return refuse(2, text.len());
         }
         let k = class(kind);
-        let n = next(c, deepness(d), k);
+        let n = next(c, deepness(d), k, &moves);
         if n == 7 {
             return refuse(2, t.start);
         }

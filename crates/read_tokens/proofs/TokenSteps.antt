@@ -6,19 +6,19 @@ use mathlib.Core.Option.{none, some}
 use mathlib.Core.List.{List, [], _∷_}
 use native.Mathlib.Omega.{arith}
 use native.Mathlib.Numerals.{add-one}
-use lib.Dec.{eqb}
-use lib.ListN.{length, drop, getD, drop-of-length-le}
+use lib.Dec.{eqb, ltb}
+use lib.ListN.{length, drop, getD, drop-of-length-le, List·getD-eq-default}
 use lib.Seq.{drop-cons, drop-drop}
-use borrow.Author.Tests.{eq-eqb, ne-eqb}
-use Rattle.read_tokens.specs.Kinds.{kindAt}
+use borrow.Author.Tests.{eq-eqb, ne-eqb, eqb-true, eqb-false, ltb-true, ltb-false}
+use Rattle.read_tokens.specs.Kinds.{kindAt, oneOf, ranges}
 use Rattle.read_tokens.specs.declared.Mode.{Mode}
 use Rattle.read_tokens.specs.declared.Mode.the-variants.{Lake, Plain}
 use Rattle.read_tokens.specs.declared.Token.{Token}
 use Rattle.read_tokens.specs.Token as spec
 use Rattle.read_tokens.specs.Token.{lake, symbol, arrow}
 use Rattle.read_tokens.specs.Tokens.{tok, badAt, blankBy, skip, nameByte, nameSpan, lakeBy, angle, byKind, tokenFrom, tokenAt}
-use Rattle.read_tokens.specs.steps.Code.{coded, made, named, laked}
-use Rattle.read_tokens.proofs.CharSteps.{suffix, first-at}
+use Rattle.read_tokens.specs.steps.Code.{kindOf, coded, made, named, laked}
+use Rattle.read_tokens.proofs.CharSteps.{suffix, first-at, getD-inside}
 use Rattle.read_tokens.proofs.LiteralSteps.{bad-is}
 
 -- ── blanks ──
@@ -34,6 +34,11 @@ pub skip-more : (m : Bool) (s : List ℕ) (i : ℕ) → i < length s → eqb (bl
     → skip m i (drop i s) ≡ skip (eqb (blankBy m (getD s i 0)) 1) (i + 1) (drop (i + 1) s)
 unfolding skip
 skip-more m s i h e = rw (suffix s i h, skip, e, add-one)
+
+-- a space is a blank
+pub space-more : (s : List ℕ) (i : ℕ) → i < length s → getD s i 0 ≡ 32 → skip false (i + 1) (drop (i + 1) s) ≡ skip false i (drop i s)
+unfolding kindAt oneOf ranges
+space-more s i h e = sym (skip-more false s i h (ap (λ (b : ℕ). eqb (blankBy false b) 2) e) ∙ ap (λ (b : ℕ). skip (eqb (blankBy false b) 1) (i + 1) (drop (i + 1) s)) e)
 
 -- ── names ──
 span-by : (b : ℕ) (l : List ℕ) (x : Bool) → nameByte b ≡ x → nameSpan (b ∷ l) ≡ cond x (b ∷ nameSpan l) []
@@ -152,6 +157,56 @@ pub token-is : (m : Mode) (s : List ℕ) (at i k : ℕ) → i ≡ skip false at 
     → coded (byKind k m (getD s i 0) i (drop (suc i) s)) ≡ coded (tokenAt m s at)
 unfolding tokenAt tokenFrom
 token-is m s at i k e h f = rw (← e, drop-cons s i 0 h, f)
+
+-- where blanks end at the same place the token is the same
+pub token-moved : (m : Mode) (s : List ℕ) (i at : ℕ) → skip false i (drop i s) ≡ skip false at (drop at s) → tokenAt m s i ≡ tokenAt m s at
+unfolding tokenAt
+token-moved m s i at e = ap (λ (j : ℕ). tokenFrom m j (drop j s)) e
+
+-- `<` begins the arrow exactly if `-` follows
+abbrev isArrow : spec.Token → Bool
+isArrow t = eqb (kindOf (t .is)) 11
+
+lake-no-arrow : (i : ℕ) (l : List ℕ) → isArrow (laked i l) ≡ false
+unfolding laked
+lake-no-arrow i [] = refl
+lake-no-arrow i (b ∷ l) = ap isArrow (by-letter [] i b l (eqb (kindAt b) 2) refl) ∙ go (eqb (kindAt b) 2)
+  where
+    shut : (w m : List ℕ) → isArrow (lakeBy i w m) ≡ false
+    shut w [] = refl
+    shut w (d ∷ m) = by (eqb d 62)
+      where
+        by : (x : Bool) → isArrow (cond x (tok (symbol (lake w)) i (i + length w + 2)) (badAt i)) ≡ false
+        by true = refl
+        by false = refl
+
+    go : (x : Bool) → isArrow (cond x (lakeBy i (nameSpan (b ∷ l)) (drop (length (nameSpan (b ∷ l))) (b ∷ l))) (badAt i)) ≡ false
+    go true = shut (nameSpan (b ∷ l)) (drop (length (nameSpan (b ∷ l))) (b ∷ l))
+    go false = refl
+
+angle-arrow : (m : Mode) (i : ℕ) (l : List ℕ) → eqb (getD l 0 256) 45 ≡ isArrow (angle m i l)
+angle-arrow m i l = go m (eqb (getD l 0 256) 45) refl
+  where
+    go : (m : Mode) (x : Bool) → eqb (getD l 0 256) 45 ≡ x → x ≡ isArrow (angle m i l)
+    go m true e = sym (ap isArrow (arrow-go [] i m l (eqb-true (getD l 0 256) 45 e)))
+    go Plain false e = sym (ap isArrow (plain-go [] i l (eqb-false (getD l 0 256) 45 e)))
+    go Lake false e = sym (ap isArrow (lake-go [] i l (eqb-false (getD l 0 256) 45 e)) ∙ lake-no-arrow i l)
+
+pub byte-inside : (s : List ℕ) (i : ℕ) → getD s i 256 ≡ 60 → i < length s
+byte-inside s i e = go (ltb i (length s)) refl
+  where
+    go : (b : Bool) → ltb i (length s) ≡ b → i < length s
+    go true f = ltb-true i (length s) f
+    go false f = absurd (omega (arith, List·getD-eq-default s 256 (ltb-false i (length s) f)))
+
+pub less-at : (m : Mode) (s : List ℕ) (i : ℕ) → getD s i 256 ≡ 60 → eqb (getD s (i + 1) 256) 45 ≡ eqb (kindOf (tokenAt m s i .is)) 11
+unfolding kindAt oneOf ranges byKind
+less-at m s i e =
+    let h : i < length s = byte-inside s i e in
+    let f : getD s i 0 ≡ 60 = getD-inside s i 0 256 h ∙ e in
+    let stop : i ≡ skip false i (drop i s) = sym (skip-stop false s i h (ap (λ (b : ℕ). eqb (blankBy false b) 2) f)) in
+    ap (λ (b : ℕ). eqb b 45) (sym (at-suc s i)) ∙ angle-arrow m i (drop (suc i) s)
+    ∙ ap (λ (t : Token). eqb (t .kind) 11) (token-is m s i i 13 stop h (ap kindAt f))
 
 pub one-is : (k i : ℕ) → made k i (i + 1) 0 ≡ made k i (suc i) 0
 one-is k i = ap (λ (n : ℕ). made k i n 0) (add-one i)

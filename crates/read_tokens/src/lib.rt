@@ -1,11 +1,13 @@
 // The tokens of a grammar text (01, Notation): the token at a place, as numbers; what it holds is read by `chars` and `classes`.
 ghost use Prim.Native.Nat.{suc, _<_, _+_};
 ghost use mathlib.Core.Path.{_≡_};
+ghost use mathlib.Core.Bool.{false};
 ghost use mathlib.Core.Option.{some};
+ghost use lib.Dec.{eqb};
 ghost use lib.ListN.{length, drop};
 ghost use Rattle.read_tokens.specs.Chars.{body, single};
 ghost use Rattle.read_tokens.specs.Token.{pre, suf};
-ghost use Rattle.read_tokens.specs.Tokens.{nameSpan, literalBy, bracket, angle, preOf, sufOf, tokenAt};
+ghost use Rattle.read_tokens.specs.Tokens.{skip, nameSpan, literalBy, bracket, angle, preOf, sufOf, tokenAt};
 ghost use Rattle.read_tokens.specs.steps.Code.{Tabled, kindOf, coded, named, laked, made};
 
 pub mod chars;
@@ -178,20 +180,20 @@ fn class_token(mode: Mode, text: &[u8], at: usize) -> Token
     plain(CLASS, at, next)
 }
 
-// The token at a place or, where blanks stand there, behind them.
-pub fn token_at(mode: Mode, text: &[u8], at: usize) -> Token
+// The token at a place or, where blanks stand there, behind them, by the table of kinds that is lent: whoever passes over many tokens lays it out once.
+pub fn token_by(mode: Mode, text: &[u8], at: usize, kinds: &[u8; 256]) -> Token
+    requires { ⌜ Tabled (now kinds) ⌝ }
     ensures { λ r. ⌜ r ≡ coded (tokenAt mode (now (text .entry)) at) ⌝ }
 {
-    let kinds = kinds::laid_out();
-    let i = blanks(text, at, &kinds);
+    let i = blanks(text, at, kinds);
     if text.len() <= i {
         return plain(END, i, i);
     }
     let b = text[i];
-    let k = kind_of(b, &kinds);
+    let k = kind_of(b, kinds);
     let n = i + 1;
     match k {
-        kinds::LETTER => name_token(text, i, &kinds),
+        kinds::LETTER => name_token(text, i, kinds),
         kinds::OPEN => plain(OPENS, i, n),
         kinds::CLOSE => plain(CLOSES, i, n),
         kinds::SLASH => plain(SLASH, i, n),
@@ -200,7 +202,43 @@ pub fn token_at(mode: Mode, text: &[u8], at: usize) -> Token
         kinds::DOT => plain(ANY, i, n),
         kinds::QUOTE => literal_token(text, i, b),
         kinds::CLASS => class_token(mode, text, i),
-        kinds::LESS => less_token(mode, text, i, &kinds),
+        kinds::LESS => less_token(mode, text, i, kinds),
         _ => plain(BAD, i, n),
     }
+}
+
+// The same where one token is wanted.
+pub fn token_at(mode: Mode, text: &[u8], at: usize) -> Token
+    ensures { λ r. ⌜ r ≡ coded (tokenAt mode (now (text .entry)) at) ⌝ }
+{
+    let kinds = kinds::laid_out();
+    token_by(mode, text, at, &kinds)
+}
+
+// The first place from `at` on that has no space.
+fn spaces(text: &[u8], at: usize) -> usize
+    ensures { λ r. ⌜ skip false r (drop r (now (text .entry))) ≡ skip false at (drop at (now (text .entry))) ⌝ }
+{
+    let mut i = at;
+    while i < text.len() {
+        if text[i] != 32 {
+            return i;
+        }
+        i += 1;
+    }
+    i
+}
+
+// Whether the token at a place is the arrow. It is asked of every name, and mostly the arrow stands there or behind a space: no table is laid out then.
+pub fn arrow_at(mode: Mode, text: &[u8], at: usize) -> bool
+    ensures { λ r. ⌜ r ≡ eqb (kindOf (tokenAt mode (now (text .entry)) at .is)) 11 ⌝ }
+{
+    let i = spaces(text, at);
+    let b = byte_at(text, i);
+    if b == 60 {
+        let d = byte_at(text, i + 1);
+        return d == 45;
+    }
+    let t = token_at(mode, text, i);
+    t.kind == ARROW
 }

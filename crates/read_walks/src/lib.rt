@@ -35,8 +35,7 @@ pub fn same_bytes(text: &[u8], a: usize, b: usize, n: usize) -> bool
 pub fn is_left(mode: Mode, text: &[u8], at: usize) -> bool
     ensures { λ r. ⌜ r ≡ before (lexemesAt mode (now (text .entry)) at) ⌝ }
 {
-    let t = read_tokens::token_at(mode, text, at);
-    t.kind == 11
+    read_tokens::arrow_at(mode, text, at)
 }
 
 // Where the name of a symbol token begins: behind a lake's bracket.

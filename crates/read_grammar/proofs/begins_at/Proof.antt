@@ -15,31 +15,31 @@ use Rattle.read_grammar.proofs.begins_at.Tie as tie
 use Rattle.read_grammar.proofs.begins_at.Reads as reads
 use Rattle.read_grammar.proofs.begins_at.Lts as lts
 use Rattle.read_grammar.proofs.arrow_at.Reads as arrow-at-reads
-use Rattle.read_tokens.proofs.token_at.Reads as token-at-reads
+use Rattle.read_tokens.proofs.token_by.Reads as token-by-reads
 
-token-at-requires : tie.Need-token-at-requires
-token-at-requires c κs = search needs
+token-by-requires : tie.Need-token-by-requires
+token-by-requires c κs = search needs
 
 returns : tie.Need-returns
 returns c = begins-none (toksAt (c .before .before .before .args .mode) (c .before .before .before .args .text .now) (c .before .before .before .args .at))
-    (sym (kind-there (c .before .before .before .args .mode) (c .before .before .before .args .text .now) (c .before .before .before .args .at) (c .before .token-at .result)
-    (c .before .token-at .ensures)) ∙ c .if1 .taken)
+    (sym (kind-there (c .before .before .before .args .mode) (c .before .before .before .args .text .now) (c .before .before .before .args .at) (c .before .token-by .result)
+    (c .before .token-by .ensures)) ∙ c .if1 .taken)
 
 arrow-at-requires : tie.Need-arrow-at-requires
 arrow-at-requires c κs = search needs
 
 returns-2 : tie.Need-returns-2
 returns-2 c = ap not (c .arrow-at .ensures) ∙ begins-symbol (c .before .before .before .before .before .args .mode) (c .before .before .before .before .before .args .text .now)
-    (c .before .before .before .before .before .args .at) (c .before .before .before .token-at .result .next)
+    (c .before .before .before .before .before .args .at) (c .before .before .before .token-by .result .next)
     (over-next (c .before .before .before .before .before .args .mode) (c .before .before .before .before .before .args .text .now)
-    (c .before .before .before .before .before .args .at) (c .before .before .before .token-at .result) (c .before .before .before .token-at .ensures)
+    (c .before .before .before .before .before .args .at) (c .before .before .before .token-by .result) (c .before .before .before .token-by .ensures)
     (c .before .before .if1 .left)) (λ h. c .before .before .if1 .left
     (kind-there (c .before .before .before .before .before .args .mode) (c .before .before .before .before .before .args .text .now)
-    (c .before .before .before .before .before .args .at) (c .before .before .before .token-at .result) (c .before .before .before .token-at .ensures) ∙ h))
+    (c .before .before .before .before .before .args .at) (c .before .before .before .token-by .result) (c .before .before .before .token-by .ensures) ∙ h))
     (omega (
       arith,
       kind-there (c .before .before .before .before .before .args .mode) (c .before .before .before .before .before .args .text .now)
-          (c .before .before .before .before .before .args .at) (c .before .before .before .token-at .result) (c .before .before .before .token-at .ensures),
+          (c .before .before .before .before .before .args .at) (c .before .before .before .token-by .result) (c .before .before .before .token-by .ensures),
       c .before .if2 .taken,
     ))
 
@@ -48,27 +48,27 @@ returns-3 c = begins-part (toksAt (c .before .before .before .before .before .ar
     (c .before .before .before .before .before .args .at)) (omega (
       arith,
       kind-there (c .before .before .before .before .before .args .mode) (c .before .before .before .before .before .args .text .now)
-          (c .before .before .before .before .before .args .at) (c .before .before .before .token-at .result) (c .before .before .before .token-at .ensures),
+          (c .before .before .before .before .before .args .at) (c .before .before .before .token-by .result) (c .before .before .before .token-by .ensures),
       c .before .if2 .left,
     ))
     (omega (
       arith,
       kind-there (c .before .before .before .before .before .args .mode) (c .before .before .before .before .before .args .text .now)
-          (c .before .before .before .before .before .args .at) (c .before .before .before .token-at .result) (c .before .before .before .token-at .ensures),
+          (c .before .before .before .before .before .args .at) (c .before .before .before .token-by .result) (c .before .before .before .token-by .ensures),
       c .if3 .taken,
     ))
 
 returns-4 : tie.Need-returns-4
 returns-4 c = ap (λ (x : ℕ). eqb x 13) (kind-there (c .before .before .before .before .before .args .mode) (c .before .before .before .before .before .args .text .now)
-    (c .before .before .before .before .before .args .at) (c .before .before .before .token-at .result) (c .before .before .before .token-at .ensures)) ∙ begins-late
+    (c .before .before .before .before .before .args .at) (c .before .before .before .token-by .result) (c .before .before .before .token-by .ensures)) ∙ begins-late
     (toksAt (c .before .before .before .before .before .args .mode) (c .before .before .before .before .before .args .text .now)
     (c .before .before .before .before .before .args .at)) (omega (
       arith,
       kind-there (c .before .before .before .before .before .args .mode) (c .before .before .before .before .before .args .text .now)
-          (c .before .before .before .before .before .args .at) (c .before .before .before .token-at .result) (c .before .before .before .token-at .ensures),
+          (c .before .before .before .before .before .args .at) (c .before .before .before .token-by .result) (c .before .before .before .token-by .ensures),
       c .if3 .left,
     ))
 
 pub begins-at-spec : {M : Type 1} → statement M
 begins-at-spec =
-    tie.close (tie.spec token-at-requires returns arrow-at-requires returns-2 returns-3 returns-4)
+    tie.close (tie.spec token-by-requires returns arrow-at-requires returns-2 returns-3 returns-4)

@@ -16,13 +16,13 @@ use Rattle.read_grammar.proofs.over.Reads as over-reads
 use Rattle.read_entries.proofs.parts.set_body.Reads as set-body-reads
 
 over-requires : tie.Need-over-requires
-over-requires c κs = c .before .before .pre .0
+over-requires c κs = (c .before .before .pre .0, c .before .before .pre .2)
 
 over-requires-2 : tie.Need-over-requires-2
-over-requires-2 c κs = c .over .ensures .high
+over-requires-2 c κs = (c .over .ensures .high, c .before .before .before .pre .2)
 
 choice-requires : tie.Need-choice-requires
-choice-requires c κs = (c .before .over2 .ensures .high, c .before .before .before .before .before .pre .1)
+choice-requires c κs = (c .before .over2 .ensures .high, c .before .before .before .before .before .pre .1, c .before .before .before .before .before .pre .2)
 
 set-body-requires : tie.Need-set-body-requires
 set-body-requires c κs = search needs

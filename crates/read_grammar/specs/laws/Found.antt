@@ -7,9 +7,9 @@ use mathlib.Core.Option.{Option, none, some}
 use mathlib.Core.Logic.{_⊎_, inl, inr, ⊎-elim}
 use native.Mathlib.Omega.{arith}
 use native.Mathlib.Nat.{eq-or-lt-of-le}
-use lib.Dec.{eqb}
-use lib.ListN.{length, getD, take, drop, replicate}
-use lib.Seq.{getD-take, getD-drop}
+use lib.Dec.{eqb, ltb}
+use lib.ListN.{length, getD, set, take, drop, replicate}
+use lib.Seq.{getD-take, getD-drop, set-getD}
 use Rattle.read_tokens.specs.declared.Mode.{Mode}
 use Rattle.read_tokens.specs.Token.{Symbol, name, lake, Leaf, any, literal, class, Tok, symbol, leaf}
 use Rattle.read_tokens.specs.Tokens.{tokenAt}
@@ -19,11 +19,11 @@ use Rattle.grammar.specs.Exp.{sym as symb, ter}
 use Rattle.grammar_table.specs.Table.{terminalsAt, terminalWords, symbolsAt, symbolWords, symbolKey, terminalKey, wordsFrom}
 use Rattle.grammar_table.specs.steps.Rows.{cap, seek, kept, Noted}
 use Rattle.grammar_table.specs.laws.Caps.{cap-low, cap-high}
-use Rattle.read_entries.specs.steps.Entries.{symbolRow, symbolRecord, lakeOf, symbolAt, leafRow, bitOf, leafRecord, FitLeaf, leafAt, pushed}
+use Rattle.read_entries.specs.steps.Entries.{symbolRow, symbolRecord, lakeOf, symbolAt, leafRow, bitOf, leafRecord, FitLeaf, leafAt, pushBy, pushed}
 use Rattle.read_grammar.specs.steps.Lay.{St, lay, Rel}
 use Rattle.read_grammar.specs.steps.Promises.{Occurs, Matches}
 use Rattle.read_grammar.specs.laws.Entries.{words-is}
-use Rattle.read_grammar.specs.laws.Notes.{rel-symbol, rel-used}
+use Rattle.read_grammar.specs.laws.Notes.{rel-symbol, rel-used, rel-full, rel-any}
 
 -- ── symbols ──
 part-words : (s : List ℕ) (i : ℕ) (w : List ℕ) → take (length w) (drop i s) ≡ w → wordsFrom s i (length w) ≡ w
@@ -58,6 +58,18 @@ occurs {s} {kind} {start} {size} {r} {old} {new} q p = record {
       (rel-symbol old r h u i (q ∙ ap (λ (w : List ℕ). seek old w symbolKey symbolWords symbolsAt (kept old 0)) (symbol-found m s at kind start size h e a b c)));
 }
 
+-- where there are too many expressions one more changes nothing
+pushed-full : (k l r : ℕ) (t : List ℕ) → getD t 2 0 ≡ 1025 → pushed k l r t ≡ t
+unfolding pushed
+pushed-full k l r t e = ap (λ (c : ℕ). pushBy (ltb c 1024) (getD t 2 0) k l r t) e ∙ ap (set t 2) (sym e) ∙ set-getD t 2 0
+
+pub occurs-full : {s : List ℕ} {kind start size : ℕ} {t : List ℕ} → getD t 2 0 ≡ 1025 → Occurs s kind start size t t
+occurs-full {s} {kind} {start} {size} {t} q = record {
+  same = λ m at h e a b c u i.
+      subst (λ (x : List ℕ). Rel x (lay (symb h) u)) (pushed-full 1 (seek t (symbolRecord h) symbolKey symbolWords symbolsAt (kept t 0)) 0 t q)
+      (rel-symbol t (seek t (symbolRecord h) symbolKey symbolWords symbolsAt (kept t 0)) h u i refl);
+}
+
 -- ── terminals ──
 cap-fit : (n : ℕ) → n ≤ 256 → cap 256 n ≡ n
 cap-fit n h = ⊎-elim (λ (e : n ≡ 256). sym (cap-high n 256 (omega arith)) ∙ sym e) (λ (e : n < 256). sym (cap-low n 256 e)) (eq-or-lt-of-le h)
@@ -85,4 +97,24 @@ matches {m} {s} {kind} {start} {size} {r} {old} {t₁} {new} q p = record {
   same = λ at x e a b c u i.
       subst (λ (y : List ℕ). Rel y (lay (ter x) u)) (sym p)
       (rel-used old t₁ (leafAt m s kind start size) r x u i (leaf-found m s at kind start size x e a b c) q);
+}
+
+-- one terminal more where there are too many
+pub matches-full : {m : Mode} {s : List ℕ} {kind start size : ℕ} {old new : List ℕ} → getD old 1 0 ≡ 65 → new ≡ pushed 0 0 0 old → Matches m s kind start size old new
+matches-full {m} {s} {kind} {start} {size} {old} {new} q p = record {
+  same = λ at x e a b c u i. subst (λ (y : List ℕ). Rel y (lay (ter x) u)) (sym p) (rel-full old x u i q);
+}
+
+any-kind : (x : Leaf) → kindOf (some (leaf x)) ≡ 3 → any ≡ x
+any-kind any e = refl
+any-kind (literal w) e = absurd (omega arith)
+any-kind (class l) e = absurd (omega arith)
+
+-- `.` where it is the first terminal
+pub matches-any : {m : Mode} {s : List ℕ} {kind start size : ℕ} {old new : List ℕ} → kind ≡ 3 → 0 < getD old 1 0 → getD old terminalsAt 0 ≡ 0 → new ≡ pushed 0 0 0 old
+    → Matches m s kind start size old new
+matches-any {m} {s} {kind} {start} {size} {old} {new} k z w p = record {
+  same = λ at x e a b c u i.
+      subst (λ (y : List ℕ). Rel y (lay (ter x) u)) (sym p)
+      (subst (λ (y : Leaf). Rel (pushed 0 0 0 old) (lay (ter y) u)) (any-kind x (sym (ap kindOf e) ∙ a ∙ k)) (rel-any old z w u i));
 }

@@ -5,8 +5,7 @@ use mathlib.Core.Bool.{Bool, true, false, _||_}
 use mathlib.Core.List.{List, [], _∷_}
 use mathlib.Core.Option.{Option, none, some}
 use native.Mathlib.Omega.{arith}
-use lib.ListN.{length, set}
-use lib.Seq.{set-getD}
+use lib.ListN.{length}
 use Rattle.grammar_table.specs.Table.{symbolsAt, symbolWords, symbolKey, symbolCount}
 use Rattle.read_tokens.specs.declared.Mode.{Mode}
 use Rattle.read_tokens.specs.declared.Token.{Token}
@@ -16,8 +15,7 @@ use Rattle.read_tokens.specs.steps.Code.{kindOf, sizeOf, coded}
 use Rattle.grammar.specs.Same.{sameSymbol}
 use Rattle.read_syntax.specs.Reader.{isArrow}
 use Rattle.grammar_table.specs.steps.Rows.{seek, kept, Noted}
-use Rattle.grammar_table.specs.laws.Caps.{cap-high}
-use Rattle.grammar_table.specs.laws.Seeks.{seek-within}
+use Rattle.grammar_table.specs.laws.Seeks.{noted-full}
 use Rattle.grammar_table.specs.laws.Rows.{also, adds}
 use Rattle.read_entries.specs.steps.Entries.{symbolRecord, symbolAt}
 use Rattle.read_grammar.specs.steps.Lay.{St, st, gatherBy, gathered, Rel}
@@ -42,18 +40,6 @@ other-token every bad l k = refl
 taken-symbol : (every : Bool) (h : Symbol) (l : List Tok) (b : Bool) → (every || isArrow l) ≡ b → gathered every (symbol h ∷ l) ≡ gatherBy b h (gathered every l)
 unfolding gathered
 taken-symbol every h l b e = ap (λ (x : Bool). gatherBy x h (gathered every l)) e
-
-noted-full : (t rec : List ℕ) → symbolCount t ≡ 65
-    → Noted t t rec 0 symbolKey symbolWords symbolsAt (seek t rec symbolKey symbolWords symbolsAt (kept t 0))
-noted-full t rec f =
-    let most : 64 ≡ kept t 0 = cap-high (symbolCount t) 64 (omega arith) in
-    record {
-      number = refl;
-      small = omega (arith, seek-within t rec symbolKey symbolWords symbolsAt (kept t 0));
-      known = λ _. refl;
-      added = λ _ l. absurd (omega (arith, l));
-      over = λ _ _. sym (ap (set t 0) (sym f) ∙ set-getD t 0 0);
-    }
 
 module _ (every : Bool) (m : Mode) (s : List ℕ) (at : ℕ) (k : Token) (e : k ≡ coded (tokenAt m s at)) where
   pub mark-end : (t : List ℕ) → k .kind ≡ 0 → at ≤ length s → Marked every m s at at t t
@@ -120,7 +106,7 @@ module _ (every : Bool) (m : Mode) (s : List ℕ) (at : ℕ) (k : Token) (e : k 
         go : (b : Bool) → (every || isArrow (toksAt m s (k .next))) ≡ b → Marked every m s at (k .next) t t
         go true g =
             let rec : List ℕ = symbolAt s (k .kind) (k .start) (k .size) in
-            mark-yes t t (seek t rec symbolKey symbolWords symbolsAt (kept t 0)) g (noted-full t rec f)
+            mark-yes t t (seek t rec symbolKey symbolWords symbolsAt (kept t 0)) g (noted-full t rec 0 symbolKey symbolWords symbolsAt f)
         go false g = mark-no t g
 
 -- ── all of them ──

@@ -12,14 +12,15 @@ use borrow.Author.Tests.{ltb-true, ltb-false}
 use Rattle.read_tokens.specs.Token.{Symbol, name, lake, Leaf, any}
 use Rattle.grammar.specs.Parts.{Part, terminal, occurs}
 use Rattle.grammar.specs.Exp.{sym as symb, ter}
-use Rattle.grammar.specs.Same.{sameSymbol, sameLeaf, indexOf}
+use Rattle.grammar.specs.Same.{sameSymbol, sameLeaf, isIn, indexOf}
 use Rattle.grammar_table.specs.Table.{expressionsAt, terminalsAt, terminalWords, symbolsAt, symbolWords, bodyAt, symbolKey, terminalKey, tableWords, wordsFrom, partBy, partIn}
 use Rattle.grammar_table.specs.steps.Rows.{cap, seek, kept, Noted}
 use Rattle.grammar_table.specs.laws.Caps.{cap-low}
 use Rattle.grammar_table.specs.laws.Words.{sets-out}
-use Rattle.grammar_table.specs.laws.Rows.{At, also, All, all-left}
+use Rattle.grammar_table.specs.laws.Rows.{At, also, also-in, All, all-left}
+use Rattle.grammar_table.specs.laws.Seeks.{noted-full}
 use Rattle.grammar_table.specs.laws.Kept.{Kept, With, kept-all, kept-moved, seek-index, fits-also, noted}
-use Rattle.read_entries.specs.steps.Entries.{symbolRow, symbolRecord, FitSymbol, symbolFrom, leafRecord, FitLeaf, leafFrom, pushed}
+use Rattle.read_entries.specs.steps.Entries.{symbolRow, symbolRecord, FitSymbol, symbolFrom, leafRecord, FitLeaf, leafFrom, leafKind, pushed}
 use Rattle.read_grammar.specs.steps.Lay.{St, st, push, leafed, used, lay, Fits, Told, Rel}
 use Rattle.read_grammar.specs.laws.Entries.{symbol-read, symbol-sound, symbol-refl, symbol-alike, leaf-read}
 use Rattle.grammar.specs.laws.Same.{leaf-sound, leaf-refl}
@@ -157,3 +158,43 @@ module _ (old new row : List ℕ) (r : ℕ) (x : Leaf) (s : St) (rel : Rel old s
   pub rel-used : Rel (pushed 0 r 0 new) (lay (ter x) s)
   unfolding lay partBy
   rel-used = rel-push 0 r 0 (terminal (indexOf sameLeaf x (also sameLeaf x (s .terms)))) new (leafed x s) rel-leaf (λ f a b z. ap terminal (leaf-with f .number b))
+
+-- where there are too many terminals no number counts
+pub rel-full : (t : List ℕ) (x : Leaf) (s : St) → Rel t s → getD t 1 0 ≡ 65 → Rel (pushed 0 0 0 t) (lay (ter x) s)
+unfolding lay partBy
+rel-full t x s rel e =
+    let held : Rel t (leafed x s) =
+    rel-leaf t t (leafRecord x) (seek t (leafRecord x) terminalKey terminalWords terminalsAt (kept t 1)) x s rel (λ _. refl)
+    (noted-full t (leafRecord x) 1 terminalKey terminalWords terminalsAt e) in
+    rel-push 0 0 0 (terminal (indexOf sameLeaf x (also sameLeaf x (s .terms)))) t (leafed x s) held
+    (λ f a b z. absurd (omega (arith, e, held .told f .leaves .count, cap-low (length (also sameLeaf x (s .terms))) 65 (omega arith))))
+
+-- the first terminal is `.` where its kind says so
+module _ (t : List ℕ) (some-are : 0 < getD t 1 0) (kind : getD t terminalsAt 0 ≡ 0) where
+  any-first : (l : List Leaf) → Kept any leafRecord terminalKey terminalWords t 1 terminalsAt l → All FitLeaf l → (isIn sameLeaf any l ≡ true) × (indexOf sameLeaf any l ≡ 0)
+  unfolding isIn indexOf sameLeaf leafFrom leafKind
+  any-first [] k f = absurd (omega (arith, k .count, cap-low 0 65 (omega arith)))
+  any-first (y ∷ l) k f =
+      let e : any ≡ y = sym any-read ∙ leaf-read t terminalsAt y (k .rows 0 (omega arith) (omega arith)) (f .0) in
+      subst (λ (z : Leaf). (isIn sameLeaf any (z ∷ l) ≡ true) × (indexOf sameLeaf any (z ∷ l) ≡ 0)) e (refl, refl)
+    where
+      any-read : leafFrom t terminalsAt ≡ any
+      any-read = ap (λ (k : ℕ). leafKind k t terminalsAt) kind
+
+  pub rel-any : (s : St) → Rel t s → Rel (pushed 0 0 0 t) (lay (ter any) s)
+  unfolding lay partBy
+  rel-any s rel =
+      rel-push 0 0 0 (terminal (indexOf sameLeaf any (also sameLeaf any (s .terms)))) t (leafed any s) (record { long = rel .long; told = λ f. there f })
+      (λ f a b z. ap terminal (sym (ap (indexOf sameLeaf any) (same f) ∙ known f .1)))
+    where
+      before : Fits (leafed any s) → Fits s
+      before f = fits-back s (leafed any s) (grows-leaf any s) f
+
+      known : Fits (leafed any s) → (isIn sameLeaf any (s .terms) ≡ true) × (indexOf sameLeaf any (s .terms) ≡ 0)
+      known f = any-first (s .terms) (rel .told (before f) .leaves) (before f .leaves)
+
+      same : Fits (leafed any s) → also sameLeaf any (s .terms) ≡ s .terms
+      same f = also-in sameLeaf any (s .terms) (known f .0)
+
+      there : Fits (leafed any s) → Told t (leafed any s)
+      there f = subst (λ (l : List Leaf). Told t (st (s .names) (s .heads) l (s .parts))) (sym (same f)) (rel .told (before f))

@@ -1,10 +1,12 @@
 -- The automaton on numbers, as code runs it: control 0 to 6 (7: dead), the open parentheses, classes of tokens 0 to 8; and what a token's kind says of
 -- its class and of its bound. Assumes nothing: these are definitions.
-use Prim.Native.Nat.{ℕ, zero, suc}
+use Prim.Native.Nat.{ℕ, zero, suc, _+_, _*_, _<_}
+use mathlib.Core.Path.{_≡_}
 use mathlib.Core.Bool.{Bool, true, false, cond}
 use mathlib.Core.List.{List, [], _∷_}
 use mathlib.Core.Option.{Option, none, some}
 use lib.Dec.{eqb, leb, ltb}
+use lib.ListN.{getD}
 use Rattle.read_tokens.specs.declared.Mode.{Mode}
 use Rattle.read_tokens.specs.Token.{Tok, Lexeme, name, any, amp, query, symbol, leaf, pre, suf, arrow, slash, opens, closes, bad}
 use Rattle.read_tokens.specs.Bounds.{nameBound, literalBound, openBound}
@@ -62,6 +64,10 @@ code (some (maybe d)) = 6
 -- the control after a token; of the open parentheses only whether there are any counts
 unfoldable pub nextOf : ℕ → ℕ → ℕ → ℕ
 nextOf c z k = code (step (stateOf c z) (tokOf k))
+
+-- that of each control and class, at its place
+abbrev pub Moves : List ℕ → Type 0
+Moves l = (z c k : ℕ) → z < 2 → c < 7 → k < 9 → getD l ((z * 7 + c) * 9 + k) 0 ≡ nextOf c z k
 
 abbrev pub deep : ℕ → ℕ
 deep zero = 0

@@ -11,81 +11,85 @@ use Rattle.read_names.proofs.lefts.sweep.Tie as tie
 use Rattle.read_names.proofs.lefts.sweep.Reads as reads
 use Rattle.read_names.proofs.lefts.sweep.Lts as lts
 use Rattle.read_names.proofs.lefts.meet.Reads as meet-reads
-use Rattle.read_tokens.proofs.token_at.Reads as token-at-reads
+use Rattle.read_tokens.proofs.token_by.Reads as token-by-reads
+use Rattle.read_tokens.proofs.kinds.laid_out.Reads as laid-out-reads
 
 abbrev Inv-loop : tie.InvT-loop
-Inv-loop mode text a limit marks₀ low high count at₀ marks at = (at ≤ length text) × Sweeping mode text a low high count at marks
+Inv-loop mode text a limit marks₀ low high count kinds at₀ marks at = (at ≤ length text) × Sweeping mode text a low high count at marks
 
 abbrev μ-loop : tie.MeasureT-loop
-μ-loop mode text a limit marks₀ low high count at₀ marks at = length text - at
+μ-loop mode text a limit marks₀ low high count kinds at₀ marks at = length text - at
 
 loop-holds : tie.Need-loop-holds Inv-loop μ-loop
 loop-holds c = (
   omega arith,
-  sweeping (c .before .args .mode) (c .before .args .text .now) (c .before .args .a .now) (c .before .args .c .low) (c .before .args .c .high)
-      (c .before .args .c .count) (c .before .args .marks .now) (c .before .pre .3),
+  sweeping (c .before .before .args .mode) (c .before .before .args .text .now) (c .before .before .args .a .now) (c .before .before .args .c .low) (c .before .before .args .c .high)
+      (c .before .before .args .c .count) (c .before .before .args .marks .now) (c .before .before .pre .3),
 )
 
-token-at-requires : tie.Need-token-at-requires Inv-loop μ-loop
-token-at-requires c κs = search needs
+laid-out-requires : tie.Need-laid-out-requires Inv-loop μ-loop
+laid-out-requires c κs = search needs
+
+token-by-requires : tie.Need-token-by-requires Inv-loop μ-loop
+token-by-requires c κs = search needs
 
 returns : tie.Need-returns Inv-loop μ-loop
-returns c = λ z. sweep-end (c .before .before .before .before .before .before .args .mode) (c .before .before .before .before .before .before .args .text .now)
-    (c .before .before .before .before .before .before .args .a .now) (c .before .before .before .before .before .before .args .c .low)
-    (c .before .before .before .before .before .before .args .c .high) (c .before .before .before .before .before .before .args .c .count)
-    (c .before .before .before .before .loop .inv .1) (c .before .before .token-at .result) (c .before .before .token-at .ensures)
-    (c .before .before .before .before .before .before .args .limit) (c .if1 .taken)
+returns c = λ z. sweep-end (c .before .before .before .before .before .before .before .before .args .mode) (c .before .before .before .before .before .before .before .before .args .text .now)
+    (c .before .before .before .before .before .before .before .before .args .a .now) (c .before .before .before .before .before .before .before .before .args .c .low)
+    (c .before .before .before .before .before .before .before .before .args .c .high) (c .before .before .before .before .before .before .before .before .args .c .count)
+    (c .before .before .before .before .before .loop .inv .1) (c .before .before .token-by .result) (c .before .before .token-by .ensures)
+    (c .before .before .before .before .before .before .before .before .args .limit) (c .if1 .taken)
 
 meet-requires : tie.Need-meet-requires Inv-loop μ-loop
 meet-requires c κs = (
-  c .before .before .before .token-at .ensures,
+  c .before .before .before .token-by .ensures,
   c .before .if1 .left,
-  c .before .before .before .before .before .before .before .pre .0,
-  c .before .before .before .before .before .before .before .pre .1,
+  c .before .before .before .before .before .before .before .before .before .pre .0,
+  c .before .before .before .before .before .before .before .before .before .pre .1,
 )
 
 returns-2 : tie.Need-returns-2 Inv-loop μ-loop
-returns-2 c = λ z. sweep-bad (c .before .before .before .before .before .before .before .before .before .args .mode)
-    (c .before .before .before .before .before .before .before .before .before .args .text .now)
-    (c .before .before .before .before .before .before .before .before .before .args .a .now)
-    (c .before .before .before .before .before .before .before .before .before .args .c .low)
-    (c .before .before .before .before .before .before .before .before .before .args .c .high)
-    (c .before .before .before .before .before .before .before .before .before .args .c .count) (c .before .before .before .before .before .before .before .loop .inv .1)
-    (c .before .before .before .before .before .token-at .result) (c .before .before .before .before .before .token-at .ensures) (c .before .before .before .if1 .left)
-    (c .before .meet .result) _ (c .before .meet .ensures) (c .before .before .before .before .before .before .before .before .before .args .limit)
-    (c .before .before .before .before .before .before .loop-test .taken) (c .before .before .before .before .before .before .before .before .before .pre .2) (c .if2 .taken)
+returns-2 c = λ z. sweep-bad (c .before .before .before .before .before .before .before .before .before .before .before .args .mode)
+    (c .before .before .before .before .before .before .before .before .before .before .before .args .text .now)
+    (c .before .before .before .before .before .before .before .before .before .before .before .args .a .now)
+    (c .before .before .before .before .before .before .before .before .before .before .before .args .c .low)
+    (c .before .before .before .before .before .before .before .before .before .before .before .args .c .high)
+    (c .before .before .before .before .before .before .before .before .before .before .before .args .c .count) (c .before .before .before .before .before .before .before .before .loop .inv .1)
+    (c .before .before .before .before .before .token-by .result) (c .before .before .before .before .before .token-by .ensures) (c .before .before .before .if1 .left)
+    (c .before .meet .result) _ (c .before .meet .ensures) (c .before .before .before .before .before .before .before .before .before .before .before .args .limit)
+    (c .before .before .before .before .before .before .before .loop-test .taken) (c .before .before .before .before .before .before .before .before .before .before .before .pre .2) (c .if2 .taken)
 
 returns-3 : tie.Need-returns-3 Inv-loop μ-loop
 returns-3 c = λ z. absurd (z refl)
 
 loop-less : tie.Need-loop-less Inv-loop μ-loop
-loop-less c = let h = here (c .before .before .before .before .before .before .before .before .before .before .args .mode)
-    (c .before .before .before .before .before .before .before .before .before .before .args .text .now)
-    (c .before .before .before .before .before .before .before .before .loop .at) (c .before .before .before .before .before .before .token-at .result)
-    (c .before .before .before .before .before .before .token-at .ensures) (c .before .before .before .before .if1 .left) in omega (arith, h .forth, h .within)
+loop-less c = let h = here (c .before .before .before .before .before .before .before .before .before .before .before .before .args .mode)
+    (c .before .before .before .before .before .before .before .before .before .before .before .before .args .text .now)
+    (c .before .before .before .before .before .before .before .before .before .loop .at) (c .before .before .before .before .before .before .token-by .result)
+    (c .before .before .before .before .before .before .token-by .ensures) (c .before .before .before .before .if1 .left) in omega (arith, h .forth, h .within)
 
 loop-again : tie.Need-loop-again Inv-loop μ-loop
 loop-again c = (
-  here (c .before .before .before .before .before .before .before .before .before .before .args .mode)
-      (c .before .before .before .before .before .before .before .before .before .before .args .text .now)
-      (c .before .before .before .before .before .before .before .before .loop .at) (c .before .before .before .before .before .before .token-at .result)
-      (c .before .before .before .before .before .before .token-at .ensures) (c .before .before .before .before .if1 .left) .within,
+  here (c .before .before .before .before .before .before .before .before .before .before .before .before .args .mode)
+      (c .before .before .before .before .before .before .before .before .before .before .before .before .args .text .now)
+      (c .before .before .before .before .before .before .before .before .before .loop .at) (c .before .before .before .before .before .before .token-by .result)
+      (c .before .before .before .before .before .before .token-by .ensures) (c .before .before .before .before .if1 .left) .within,
   sweep-next
-      (c .before .before .before .before .before .before .before .before .before .before .args .mode)
-      (c .before .before .before .before .before .before .before .before .before .before .args .text .now)
-      (c .before .before .before .before .before .before .before .before .before .before .args .a .now)
-      (c .before .before .before .before .before .before .before .before .before .before .args .c .low)
-      (c .before .before .before .before .before .before .before .before .before .before .args .c .high)
-      (c .before .before .before .before .before .before .before .before .before .before .args .c .count)
-      (c .before .before .before .before .before .before .before .before .loop .inv .1) (c .before .before .before .before .before .before .token-at .result)
-      (c .before .before .before .before .before .before .token-at .ensures) (c .before .before .before .before .if1 .left) (c .before .before .meet .result) _
+      (c .before .before .before .before .before .before .before .before .before .before .before .before .args .mode)
+      (c .before .before .before .before .before .before .before .before .before .before .before .before .args .text .now)
+      (c .before .before .before .before .before .before .before .before .before .before .before .before .args .a .now)
+      (c .before .before .before .before .before .before .before .before .before .before .before .before .args .c .low)
+      (c .before .before .before .before .before .before .before .before .before .before .before .before .args .c .high)
+      (c .before .before .before .before .before .before .before .before .before .before .before .before .args .c .count)
+      (c .before .before .before .before .before .before .before .before .before .loop .inv .1) (c .before .before .before .before .before .before .token-by .result)
+      (c .before .before .before .before .before .before .token-by .ensures) (c .before .before .before .before .if1 .left) (c .before .before .meet .result) _
       (c .before .before .meet .ensures) (c .if3 .left),
 )
 
 returns-4 : tie.Need-returns-4 Inv-loop μ-loop
-returns-4 c = λ z. sweep-limit (c .before .before .before .args .mode) (c .before .before .before .args .text .now) (c .before .before .before .args .a .now)
-    (c .before .before .before .args .c .low) (c .before .before .before .args .c .high) (c .before .before .before .args .c .count) (c .before .loop .inv .1)
-    (c .before .before .before .args .limit) (omega (arith, c .loop-test .left))
+returns-4 c = λ z. sweep-limit (c .before .before .before .before .args .mode) (c .before .before .before .before .args .text .now) (c .before .before .before .before .args .a .now)
+    (c .before .before .before .before .args .c .low) (c .before .before .before .before .args .c .high) (c .before .before .before .before .args .c .count) (c .before .loop .inv .1)
+    (c .before .before .before .before .args .limit) (omega (arith, c .loop-test .left))
 
 pub sweep-spec : {M : Type 1} → statement M
 sweep-spec =
@@ -93,8 +97,9 @@ sweep-spec =
     (tie.spec
     Inv-loop
     μ-loop
+    laid-out-requires
     loop-holds
-    token-at-requires
+    token-by-requires
     returns
     meet-requires
     returns-2
