@@ -142,27 +142,32 @@ fn occurrence(text: &[u8], kind: u8, start: usize, size: usize, t: &mut [u32])
     add_part(t, 1, n, 0);
 }
 
-// The use of a terminal. Where there are too many already no number counts, and `.` is the first as soon as it is noted: neither is looked for, since a text
-// of 1 MiB can have a million of them.
+// The use of a terminal. Where there are too many already no number counts, and it is not looked for: a text of 1 MiB can have a million of them. It is called
+// at two places, so that the compiler gives it a frame of its own, which is gone when parentheses nest.
 fn terminal(mode: Mode, text: &[u8], kind: u8, start: usize, size: usize, t: &mut [u32])
     requires { ⌜ (start < length (now text)) × (length (now text) ≤ 1048576) ⌝ }
     ensures { λ r. ⌜ Matches mode (now (text .entry)) kind start size (now (t .entry)) (now (t .exit)) ⌝ }
 {
-    let c = terminals(t);
-    if c == TOO_MANY {
+    if terminals(t) == TOO_MANY {
         add_part(t, 0, 0, 0);
         return;
     }
-    if kind == read_tokens::ANY {
-        if 0 < c {
-            if leaf_kind(t, 0) == grammar_table::ANY {
-                add_part(t, 0, 0, 0);
-                return;
-            }
-        }
-    }
     let n = note_leaf(mode, text, kind, start, size, t);
     add_part(t, 0, n, 0);
+}
+
+// The use of `.`, which is the first terminal as soon as it is noted, and is then not looked for either.
+fn any_byte(mode: Mode, text: &[u8], kind: u8, start: usize, size: usize, t: &mut [u32])
+    requires { ⌜ (kind ≡ 3) × (start < length (now text)) × (length (now text) ≤ 1048576) ⌝ }
+    ensures { λ r. ⌜ Matches mode (now (text .entry)) kind start size (now (t .entry)) (now (t .exit)) ⌝ }
+{
+    if 0 < terminals(t) {
+        if leaf_kind(t, 0) == grammar_table::ANY {
+            add_part(t, 0, 0, 0);
+            return;
+        }
+    }
+    terminal(mode, text, kind, start, size, t);
 }
 
 fn suffix(mode: Mode, text: &[u8], at: usize, t: &mut [u32], kinds: &[u8; 256]) -> usize
@@ -195,6 +200,10 @@ fn primary(mode: Mode, text: &[u8], at: usize, t: &mut [u32], kinds: &[u8; 256])
     }
     if kind < read_tokens::ANY {
         occurrence(text, kind, start, size, t);
+        return next;
+    }
+    if kind == read_tokens::ANY {
+        any_byte(mode, text, kind, start, size, t);
         return next;
     }
     if kind < read_tokens::AMP {

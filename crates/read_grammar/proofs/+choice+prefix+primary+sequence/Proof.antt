@@ -34,6 +34,7 @@ use Rattle.read_entries.proofs.parts.add_over.Reads as add-over-reads
 use Rattle.read_entries.proofs.parts.add_pair.Reads as add-pair-reads
 use Rattle.read_entries.proofs.parts.prefix_op.Reads as prefix-op-reads
 use Rattle.read_grammar.proofs.suffix.Reads as suffix-reads
+use Rattle.read_grammar.proofs.any_byte.Reads as any-byte-reads
 use Rattle.read_grammar.proofs.terminal.Reads as terminal-reads
 use Rattle.read_tokens.proofs.token_by.Reads as token-by-reads
 use Rattle.grammar_table.proofs.records.expressions.Reads as expressions-reads
@@ -100,6 +101,8 @@ primary-claims t = (
   token-by-reads.Learnt,
   occurrence-reads.Asked,
   occurrence-reads.Learnt,
+  any-byte-reads.Asked,
+  any-byte-reads.Learnt,
   terminal-reads.Asked,
   terminal-reads.Learnt,
   choice-below t,
@@ -317,8 +320,9 @@ primary-returns-2 t c = prim-name (c .before .before .before .before .before .be
     (c .before .before .before .before .before .before .token-by .result) (c .before .before .before .before .before .before .token-by .ensures)
     (c .before .before .before .before .before .if1 .left) (c .before .before .before .before .if2 .taken) (c .before .before .occurrence .ensures)
 
-primary-terminal-requires : (t : ℕ) → primary-lts.Need-terminal-requires (primary-claims t) (primary-at t) primary.Post
-primary-terminal-requires t c κs = (
+primary-any-byte-requires : (t : ℕ) → primary-lts.Need-any-byte-requires (primary-claims t) (primary-at t) primary.Post
+primary-any-byte-requires t c κs = (
+  c .before .if3 .taken,
   start-in (c .before .before .before .before .before .before .before .args .mode) (c .before .before .before .before .before .before .before .args .text .now)
       (c .before .before .before .before .before .before .before .args .at) (c .before .before .before .before .token-by .result) (c .before .before .before .before .token-by .ensures)
       (c .before .before .before .if1 .left),
@@ -333,55 +337,76 @@ primary-returns-3 t c = prim-terminal (c .before .before .before .before .before
     (c .before .before .before .before .before .before .before .before .before .before .args .text .now)
     (c .before .before .before .before .before .before .before .before .before .before .args .at) (c .before .before .before .before .before .before .before .token-by .result)
     (c .before .before .before .before .before .before .before .token-by .ensures) (c .before .before .before .before .before .before .if1 .left)
-    (c .before .before .before .before .before .if2 .left) (c .before .before .before .before .if3 .taken) (c .before .before .terminal .ensures)
+    (c .before .before .before .before .before .if2 .left) (omega (arith, c .before .before .before .before .if3 .taken)) (c .before .before .any-byte .ensures)
+
+primary-terminal-requires : (t : ℕ) → primary-lts.Need-terminal-requires (primary-claims t) (primary-at t) primary.Post
+primary-terminal-requires t c κs = (
+  start-in (c .before .before .before .before .before .before .before .before .args .mode) (c .before .before .before .before .before .before .before .before .args .text .now)
+      (c .before .before .before .before .before .before .before .before .args .at) (c .before .before .before .before .before .token-by .result)
+      (c .before .before .before .before .before .token-by .ensures)
+      (c .before .before .before .before .if1 .left),
+  c .before .before .before .before .before .before .before .before .pre .1 .1,
+)
+
+primary-same-length-3 : (t : ℕ) → primary-lts.Need-same-length-3 (primary-claims t) (primary-at t) primary.Post
+primary-same-length-3 t c = search needs
+
+primary-returns-4 : (t : ℕ) → primary-lts.Need-returns-4 (primary-claims t) (primary-at t) primary.Post
+primary-returns-4 t c = prim-terminal (c .before .before .before .before .before .before .before .before .before .before .before .args .mode)
+    (c .before .before .before .before .before .before .before .before .before .before .before .args .text .now)
+    (c .before .before .before .before .before .before .before .before .before .before .before .args .at) (c .before .before .before .before .before .before .before .before .token-by .result)
+    (c .before .before .before .before .before .before .before .before .token-by .ensures) (c .before .before .before .before .before .before .before .if1 .left)
+    (c .before .before .before .before .before .before .if2 .left) (c .before .before .before .before .if4 .taken) (c .before .before .terminal .ensures)
 
 primary-choice-requires : (t : ℕ) → primary-lts.Need-choice-requires (primary-claims t) (primary-at t) primary.Post
 primary-choice-requires t c κs = (
   omega (
     arith,
-    c .before .before .before .before .before .before .before .before .pre .0,
+    c .before .before .before .before .before .before .before .before .before .pre .0,
     long-next
-        (c .before .before .before .before .before .before .before .before .args .mode) (c .before .before .before .before .before .before .before .before .args .text .now)
-        (c .before .before .before .before .before .before .before .before .args .at) (c .before .before .before .before .before .token-by .result)
-        (c .before .before .before .before .before .token-by .ensures) (c .before .before .before .before .if1 .left),
+        (c .before .before .before .before .before .before .before .before .before .args .mode) (c .before .before .before .before .before .before .before .before .before .args .text .now)
+        (c .before .before .before .before .before .before .before .before .before .args .at) (c .before .before .before .before .before .before .token-by .result)
+        (c .before .before .before .before .before .before .token-by .ensures) (c .before .before .before .before .before .if1 .left),
     over-next
-        (c .before .before .before .before .before .before .before .before .args .mode) (c .before .before .before .before .before .before .before .before .args .text .now)
-        (c .before .before .before .before .before .before .before .before .args .at) (c .before .before .before .before .before .token-by .result)
-        (c .before .before .before .before .before .token-by .ensures) (c .before .before .before .before .if1 .left) .high,
+        (c .before .before .before .before .before .before .before .before .before .args .mode) (c .before .before .before .before .before .before .before .before .before .args .text .now)
+        (c .before .before .before .before .before .before .before .before .before .args .at) (c .before .before .before .before .before .before .token-by .result)
+        (c .before .before .before .before .before .before .token-by .ensures) (c .before .before .before .before .before .if1 .left) .high,
   ),
   (
     over-next
-        (c .before .before .before .before .before .before .before .before .args .mode) (c .before .before .before .before .before .before .before .before .args .text .now)
-        (c .before .before .before .before .before .before .before .before .args .at) (c .before .before .before .before .before .token-by .result)
-        (c .before .before .before .before .before .token-by .ensures)
-        (c .before .before .before .before .if1 .left) .high,
-    c .before .before .before .before .before .before .before .before .pre .1 .1,
-    c .before .before .before .before .before .before .before .before .pre .1 .2,
+        (c .before .before .before .before .before .before .before .before .before .args .mode) (c .before .before .before .before .before .before .before .before .before .args .text .now)
+        (c .before .before .before .before .before .before .before .before .before .args .at) (c .before .before .before .before .before .before .token-by .result)
+        (c .before .before .before .before .before .before .token-by .ensures)
+        (c .before .before .before .before .before .if1 .left) .high,
+    c .before .before .before .before .before .before .before .before .before .pre .1 .1,
+    c .before .before .before .before .before .before .before .before .before .pre .1 .2,
   ),
 )
 
 primary-over-requires : (t : ℕ) → primary-lts.Need-over-requires (primary-claims t) (primary-at t) primary.Post
-primary-over-requires t c κs = (c .before .before .choice .ensures .high, c .before .before .before .before .before .before .before .before .before .before .before .pre .1 .2)
+primary-over-requires t c κs = (c .before .before .choice .ensures .high, c .before .before .before .before .before .before .before .before .before .before .before .before .pre .1 .2)
 
-primary-same-length-3 : (t : ℕ) → primary-lts.Need-same-length-3 (primary-claims t) (primary-at t) primary.Post
-primary-same-length-3 t c = c .before .before .before .choice .kept .1 .1 .1 .0
-
-primary-returns-4 : (t : ℕ) → primary-lts.Need-returns-4 (primary-claims t) (primary-at t) primary.Post
-primary-returns-4 t c = grouped (sym (kind-there (c .before .before .before .before .before .before .before .before .before .before .before .before .args .mode)
-    (c .before .before .before .before .before .before .before .before .before .before .before .before .args .text .now)
-    (c .before .before .before .before .before .before .before .before .before .before .before .before .args .at)
-    (c .before .before .before .before .before .before .before .before .before .token-by .result)
-    (c .before .before .before .before .before .before .before .before .before .token-by .ensures)) ∙ c .before .before .before .before .before .if4 .taken) (over-next
-    (c .before .before .before .before .before .before .before .before .before .before .before .before .args .mode)
-    (c .before .before .before .before .before .before .before .before .before .before .before .before .args .text .now)
-    (c .before .before .before .before .before .before .before .before .before .before .before .before .args .at)
-    (c .before .before .before .before .before .before .before .before .before .token-by .result) (c .before .before .before .before .before .before .before .before .before .token-by .ensures)
-    (c .before .before .before .before .before .before .before .before .if1 .left)) (c .before .before .before .choice .ensures) (c .over .ensures)
+primary-same-length-4 : (t : ℕ) → primary-lts.Need-same-length-4 (primary-claims t) (primary-at t) primary.Post
+primary-same-length-4 t c = c .before .before .before .choice .kept .1 .1 .1 .0
 
 primary-returns-5 : (t : ℕ) → primary-lts.Need-returns-5 (primary-claims t) (primary-at t) primary.Post
-primary-returns-5 t c = prim-bad (c .before .before .before .before .before .before .before .args .mode) (c .before .before .before .before .before .before .before .args .text .now)
-    (c .before .before .before .before .before .before .before .args .at) (c .before .before .before .before .token-by .result) (c .before .before .before .before .token-by .ensures)
-    (c .before .before .before .if1 .left) (c .before .if3 .left) (c .if4 .left)
+primary-returns-5 t c = grouped (sym (kind-there (c .before .before .before .before .before .before .before .before .before .before .before .before .before .args .mode)
+    (c .before .before .before .before .before .before .before .before .before .before .before .before .before .args .text .now)
+    (c .before .before .before .before .before .before .before .before .before .before .before .before .before .args .at)
+    (c .before .before .before .before .before .before .before .before .before .before .token-by .result)
+    (c .before .before .before .before .before .before .before .before .before .before .token-by .ensures)) ∙ c .before .before .before .before .before .if5 .taken) (over-next
+    (c .before .before .before .before .before .before .before .before .before .before .before .before .before .args .mode)
+    (c .before .before .before .before .before .before .before .before .before .before .before .before .before .args .text .now)
+    (c .before .before .before .before .before .before .before .before .before .before .before .before .before .args .at)
+    (c .before .before .before .before .before .before .before .before .before .before .token-by .result)
+    (c .before .before .before .before .before .before .before .before .before .before .token-by .ensures)
+    (c .before .before .before .before .before .before .before .before .before .if1 .left)) (c .before .before .before .choice .ensures) (c .over .ensures)
+
+primary-returns-6 : (t : ℕ) → primary-lts.Need-returns-6 (primary-claims t) (primary-at t) primary.Post
+primary-returns-6 t c = prim-bad (c .before .before .before .before .before .before .before .before .args .mode) (c .before .before .before .before .before .before .before .before .args .text .now)
+    (c .before .before .before .before .before .before .before .before .args .at) (c .before .before .before .before .before .token-by .result)
+    (c .before .before .before .before .before .token-by .ensures)
+    (c .before .before .before .before .if1 .left) (c .before .if4 .left) (c .if5 .left)
 
 abbrev sequence-Inv-loop : sequence-lts.InvT-loop
 sequence-Inv-loop mode text at t₀ kinds i₀ t i = (i₀ ≤ i) × (i ≤ length text) × (length t ≡ length t₀) × LoopS mode text i₀ t₀ i t
@@ -486,14 +511,17 @@ pub +choice+prefix+primary+sequence-spec : {M : Type 1} → statement M
     (primary-occurrence-requires t)
     (primary-same-length t)
     (primary-returns-2 t)
-    (primary-terminal-requires t)
+    (primary-any-byte-requires t)
     (primary-same-length-2 t)
     (primary-returns-3 t)
-    (primary-choice-requires t)
-    (primary-over-requires t)
+    (primary-terminal-requires t)
     (primary-same-length-3 t)
     (primary-returns-4 t)
-    (primary-returns-5 t))
+    (primary-choice-requires t)
+    (primary-over-requires t)
+    (primary-same-length-4 t)
+    (primary-returns-5 t)
+    (primary-returns-6 t))
     λ t. sequence-lts.spec (sequence-claims t) (sequence-at t) sequence.Post sequence-Inv-loop sequence-μ-loop
     (sequence-prefix-requires t)
     (sequence-loop-holds t)

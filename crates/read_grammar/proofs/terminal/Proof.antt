@@ -2,13 +2,12 @@
 use Prim.Native.Nat.{ℕ, suc, _+_, _-_, _*_, _≤_, _<_}
 use mathlib.Core.Path.{_≡_, refl, sym, ap, _∙_}
 use native.Mathlib.Omega.{arith}
-use Rattle.read_grammar.specs.laws.Found.{matches, matches-full, matches-any}
+use Rattle.read_grammar.specs.laws.Found.{matches, matches-full}
 use borrow.Author.Needs.{needs}
 use Rattle.read_grammar.proofs.terminal.Statement.{statement}
 use Rattle.read_grammar.proofs.terminal.Tie as tie
 use Rattle.read_grammar.proofs.terminal.Reads as reads
 use Rattle.read_grammar.proofs.terminal.Lts as lts
-use Rattle.grammar_table.proofs.records.leaf_kind.Reads as leaf-kind-reads
 use Rattle.grammar_table.proofs.records.terminals.Reads as terminals-reads
 use Rattle.read_entries.proofs.entries.note_leaf.Reads as note-leaf-reads
 use Rattle.read_entries.proofs.parts.add_part.Reads as add-part-reads
@@ -25,37 +24,17 @@ same-length c = search needs
 returns : tie.Need-returns
 returns c = matches-full (sym (c .before .before .before .before .before .terminals .ensures .0) ∙ c .before .before .before .before .if1 .taken) (c .before .before .add-part .ensures)
 
-leaf-kind-requires : tie.Need-leaf-kind-requires
-leaf-kind-requires c κs = search needs
+note-leaf-requires : tie.Need-note-leaf-requires
+note-leaf-requires c κs = search needs
 
 add-part-requires-2 : tie.Need-add-part-requires-2
-add-part-requires-2 c κs = search needs
+add-part-requires-2 c κs = (omega arith, omega (arith, c .before .before .before .note-leaf .ensures .small), omega arith)
 
 same-length-2 : tie.Need-same-length-2
 same-length-2 c = search needs
 
 returns-2 : tie.Need-returns-2
-returns-2 c =
-    matches-any (c .before .before .before .before .before .before .before .before .if2 .taken)
-    (omega (
-      arith,
-      c .before .before .before .before .before .before .before .before .before .before .terminals .ensures .0,
-      c .before .before .before .before .before .before .before .if3 .taken,
-    ))
-    (sym (c .before .before .before .before .before .leaf-kind .ensures .0) ∙ c .before .before .before .before .if4 .taken)
-    (c .before .before .add-part2 .ensures)
-
-note-leaf-requires : tie.Need-note-leaf-requires
-note-leaf-requires c κs = search needs
-
-add-part-requires-3 : tie.Need-add-part-requires-3
-add-part-requires-3 c κs = (omega arith, omega (arith, c .before .before .before .note-leaf .ensures .small), omega arith)
-
-same-length-3 : tie.Need-same-length-3
-same-length-3 c = search needs
-
-returns-3 : tie.Need-returns-3
-returns-3 c = matches (c .before .before .before .before .before .before .note-leaf .ensures) (c .before .before .add-part3 .ensures)
+returns-2 c = matches (c .before .before .before .before .before .before .note-leaf .ensures) (c .before .before .add-part2 .ensures)
 
 pub terminal-spec : {M : Type 1} → statement M
 terminal-spec =
@@ -65,11 +44,7 @@ terminal-spec =
     add-part-requires
     same-length
     returns
-    leaf-kind-requires
+    note-leaf-requires
     add-part-requires-2
     same-length-2
-    returns-2
-    note-leaf-requires
-    add-part-requires-3
-    same-length-3
-    returns-3)
+    returns-2)
