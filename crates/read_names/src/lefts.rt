@@ -1,7 +1,7 @@
 // Refusals 4 and 5 (01, Refusal numbers): the names of the left sides in order, a range of them at a time, each range with one more pass over the text. A
 // name of a range is found by halving; a left side that is not found there would make the functions give up, and the walks of `read_walks` would answer.
 ghost use mathlib.Core.Path.{_≡_};
-ghost use mathlib.Core.Bool.{Bool, true};
+ghost use mathlib.Core.Bool.{Bool, true, false};
 ghost use mathlib.Core.List.{[]};
 ghost use Prim.Native.Nat.{_≤_, _<_};
 ghost use lib.ListN.{length, set};
@@ -39,6 +39,18 @@ const FINE: usize = 0;
 const BAD: usize = 1;
 
 const LOST: usize = 2;
+
+// What is found of a token for refusal 4, and whether it may be the use of a name of the range.
+pub struct Meeting {
+    pub found: usize,
+    pub used: bool,
+}
+
+// How far a walk for refusal 4 came, and whether it may have passed a use of a name of the range.
+pub struct Passed {
+    pub place: usize,
+    pub used: bool,
+}
 
 // More ranges than there can be.
 const RANGES: usize = 64;
@@ -94,46 +106,80 @@ fn meet(
     a: &Room,
     c: Range,
     marks: &mut Marks,
-) -> usize
+) -> Meeting
     requires { ⌜ TokenOf mode (now text) at t (Ranged (now text) (now a) (c .low) (c .high) (c .count)) ⌝ }
-    ensures { λ r. ⌜ MetAll mode (now (text .entry)) at (now (a .entry)) (c .low) (c .high) (c .count) r (now (marks .entry)) (now (marks .exit)) ⌝ }
+    ensures { λ r.
+        ⌜ MetAll mode (now (text .entry)) at (now (a .entry)) (c .low) (c .high) (c .count) (r .found) (now (marks .entry)) (now (marks .exit))
+        × (r .used ≡ false → UsedAll mode (now (text .entry)) at (c .low) (c .high) 0) ⌝ }
 {
     let kind = t.kind;
     if 2 < kind {
-        return FINE;
+        return Meeting {
+            found: FINE,
+            used: false,
+        };
     }
     let from = name_start(kind, t.start);
     let size = t.size;
     let v = pack(text, kind, from, size);
     if v == NONE {
-        return LOST;
+        return Meeting {
+            found: LOST,
+            used: true,
+        };
     }
     if !in_range(text, c.low, c.high, v) {
-        return FINE;
+        return Meeting {
+            found: FINE,
+            used: false,
+        };
     }
     if reserved_name(mode, text, from, size) {
-        return BAD;
+        return Meeting {
+            found: BAD,
+            used: true,
+        };
     }
     if !is_left(mode, text, t.next) {
-        return FINE;
+        return Meeting {
+            found: FINE,
+            used: true,
+        };
     }
-    enter(text, a, c.count, v, marks)
+    let found = enter(text, a, c.count, v, marks);
+    Meeting { found, used: false }
 }
 
-// The place before the first symbol of a range that refusal 4 is for, or the limit.
-fn sweep(mode: Mode, text: &[u8], a: &Room, c: Range, limit: usize, marks: &mut Marks) -> usize
+fn either(a: bool, b: bool) -> bool
+    ensures { λ r. ⌜ (r ≡ false → (a ≡ false) × (b ≡ false)) ⌝ }
+{
+    if a {
+        return true;
+    }
+    b
+}
+
+// The place before the first symbol of a range that refusal 4 is for, or the limit. Where no use of the range's names was passed, there is no refusal 5 in
+// it either: a text of left sides alone needs no walk for that.
+fn sweep(mode: Mode, text: &[u8], a: &Room, c: Range, limit: usize, marks: &mut Marks) -> Passed
     requires { ⌜ Walked (now text) (now a) (c .low) (c .high) (c .count) limit (Finds (now text) (now a) (c .low) (c .high) (c .count) [] (now marks)) ⌝ }
-    ensures { λ r. ⌜ ((r ≡ 4294967296 → ⊥) → Answer mode (now (text .entry)) (now (a .entry)) (c .low) (c .high) (c .count) limit r (now (marks .exit))) ⌝ }
+    ensures { λ r.
+        ⌜ ((r .place ≡ 4294967296 → ⊥) → Answer mode (now (text .entry)) (now (a .entry)) (c .low) (c .high) (c .count) limit (r .place) (now (marks .exit))
+        × (r .used ≡ false → Swept5 mode (now (text .entry)) (c .low) (c .high) limit limit)) ⌝ }
 {
     let low = c.low;
     let high = c.high;
     let count = c.count;
     let kinds = laid_out();
+    let mut used = false;
     let mut at: usize = 0;
     while at < limit {
         let t = token_by(mode, text, at, &kinds);
         if t.kind == 0 {
-            return limit;
+            return Passed {
+                place: limit,
+                used: used,
+            };
         }
         let d = Range {
             low: low,
@@ -141,15 +187,22 @@ fn sweep(mode: Mode, text: &[u8], a: &Room, c: Range, limit: usize, marks: &mut 
             count: count,
         };
         let r = meet(mode, text, at, t, a, d, marks);
-        if r == BAD {
-            return at;
+        used = either(used, r.used);
+        if r.found == BAD {
+            return Passed {
+                place: at,
+                used: true,
+            };
         }
-        if r != FINE {
-            return GIVEN_UP;
+        if r.found != FINE {
+            return Passed {
+                place: GIVEN_UP,
+                used: true,
+            };
         }
         at = t.next;
     }
-    limit
+    Passed { place: limit, used }
 }
 
 fn second_in(mode: Mode, text: &[u8], a: &Room, c: Range, limit: usize) -> usize
@@ -157,7 +210,8 @@ fn second_in(mode: Mode, text: &[u8], a: &Room, c: Range, limit: usize) -> usize
     ensures { λ r. ⌜ ((r ≡ 4294967296 → ⊥) → Swept4 mode (now (text .entry)) (c .low) (c .high) limit r) ⌝ }
 {
     let mut marks: Marks = [false; 19456];
-    sweep(mode, text, a, c, limit, &mut marks)
+    let r = sweep(mode, text, a, c, limit, &mut marks);
+    r.place
 }
 
 // ── refusal 5 ──
@@ -226,8 +280,11 @@ fn unruled_in(mode: Mode, text: &[u8], a: &Room, c: Range, limit: usize) -> usiz
 {
     let mut marks: Marks = [false; 19456];
     let r = sweep(mode, text, a, c, text.len(), &mut marks);
-    if r != text.len() {
+    if r.place != text.len() {
         return GIVEN_UP;
+    }
+    if !r.used {
+        return limit;
     }
     uses(mode, text, a, c, limit, &marks)
 }

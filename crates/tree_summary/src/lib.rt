@@ -34,7 +34,7 @@ pub struct Change {
 pub struct Sweep {
     pub place: usize,
     pub change: Change,
-    pub reach: [u32; 64],
+    pub reach: [u16; 64],
 }
 
 // For how many symbols a record was written.
@@ -120,18 +120,31 @@ fn bytes_added(far: usize, p: usize, q: usize) -> usize
     0
 }
 
-// The farthest ends once a node of symbol r ends at q.
-fn reached(reach: [u32; 64], r: usize, q: usize) -> [u32; 64]
-    requires { ⌜ q < 4294967296 ⌝ }
-    ensures { λ a. ⌜ a ≡ set reach r (max q (getD reach r 0)) ⌝ }
+fn wide(x: u16) -> usize
+    ensures { λ r. ⌜ r ≡ x ⌝ }
 {
-    let mut a = reach;
-    let far = base_words::word(&a, r);
+    x as usize
+}
+
+// The farthest end of the nodes of symbol r.
+fn farthest(reach: &[u16; 64], r: usize) -> usize
+    requires { ⌜ r < 64 ⌝ }
+    ensures { λ far. ⌜ far ≡ getD (now (reach .entry)) r 0 ⌝ }
+{
+    let x = reach[r];
+    wide(x)
+}
+
+// The farthest ends once a node of symbol r ends at q.
+fn reach_to(reach: &mut [u16; 64], r: usize, q: usize)
+    requires { ⌜ (r < 64) × (q < 65536) ⌝ }
+    ensures { λ _. ⌜ now (reach .exit) ≡ set (now (reach .entry)) r (max q (getD (now (reach .entry)) r 0)) ⌝ }
+{
+    let far = farthest(reach, r);
     if q <= far {
-        return a;
+        return;
     }
-    base_words::put(&mut a, r, q);
-    a
+    reach[r] = q as u16;
 }
 
 // Step i: the first steps make the records absent, one each, then one adds each node.
@@ -139,7 +152,7 @@ fn step(nodes: &[u32], symbols: usize, s: Sweep, i: usize) -> Sweep
     requires { ⌜ (s ≡ sweepAt (now nodes) symbols i) × Sweepable (now nodes) symbols (suc i) ⌝ }
     ensures { λ r. ⌜ r ≡ sweepAt (now (nodes .entry)) symbols (suc i) ⌝ }
 {
-    let reach = s.reach;
+    let mut reach = s.reach;
     if i < symbols {
         return Sweep {
             place: i,
@@ -157,9 +170,9 @@ fn step(nodes: &[u32], symbols: usize, s: Sweep, i: usize) -> Sweep
     let r = x.symbol;
     let p = x.start;
     let q = x.end;
-    let far = base_words::word(&reach, r);
+    let far = farthest(&reach, r);
     let bytes = bytes_added(far, p, q);
-    let reach = reached(reach, r, q);
+    reach_to(&mut reach, r, q);
     Sweep {
         place: r,
         change: Change {

@@ -4,7 +4,9 @@ use mathlib.Core.Path.{_≡_, refl, sym, ap, ap₂, _∙_, subst}
 use mathlib.Core.Bool.{Bool, true, false, cond, not, _&&_, _||_, false≢true, and-false}
 use mathlib.Core.List.{List, [], _∷_}
 use mathlib.Core.Option.{Option, none, some}
+use mathlib.Core.Logic.{⊎-elim}
 use native.Mathlib.Omega.{arith}
+use native.Mathlib.Nat.{eq-or-lt-of-le}
 use lib.ListN.{length, getD, set, replicate, length-replicate, getD-replicate, List·getD-eq-default}
 use lib.Seq.{getD-set-same, getD-set-other}
 use lib.Dec.{eqb, ltb}
@@ -305,3 +307,12 @@ module _ (m : Mode) (s : List ℕ) (at : ℕ) (t : Token) (e : t ≡ coded (toke
 
       pub used-bad : r ≡ false → UsedAll m s at low high 1
       used-bad z u q = record { fine = λ i. absurd (omega (arith, i)); bad = λ i. sym (told u q) ∙ ap not z }
+
+  -- a symbol whose name is of another range
+  pub out-unused : t .kind ≤ 2 → (from : ℕ) → from ≡ begun (t .kind) (t .start) → (v : ℕ) → Packs s (t .kind) from (t .size) v → false ≡ within s low high (symbolIn s v)
+      → UsedAll m s at low high 0
+  out-unused h from o v p w =
+      ⊎-elim (λ (g : t .kind ≡ 2). used-other (λ z. omega (arith, g, z)))
+      (λ (l : t .kind < 2). ⊎-elim (λ (g : t .kind ≡ 1). used-out g v (subst (λ (j : ℕ). Packs s (t .kind) j (t .size) v) (o ∙ ap (λ (k : ℕ). begun k (t .start)) g) p) w)
+      (λ (z : t .kind < 1). used-other (λ g. omega (arith, g, z))) (eq-or-lt-of-le (omega (arith, l))))
+      (eq-or-lt-of-le h)

@@ -152,6 +152,10 @@ module _ (m : Mode) (s : List ℕ) where
     pub swept-limit : {at : ℕ} (g : Going at) (limit : ℕ) → limit ≤ at → Swept m s bad names limit limit
     swept-limit g limit l = record { less = omega arith; clear = clear-place (g .k) limit (g .clear) (omega (arith, g .place, l)); why = inl refl }
 
+    -- nothing is bad up to a place, so up to one before it
+    pub swept-sooner : (limit n : ℕ) → limit ≤ n → Swept m s bad names n n → Swept m s bad names limit limit
+    swept-sooner limit n l g = record { less = omega arith; clear = λ j h p q w. g .clear j h (omega (arith, p, l)) q w; why = inl refl }
+
 -- ── the walk for 4 in a range ──
 module _ (m : Mode) (s a : List ℕ) (low high n : ℕ) where
   abbrev names : Symbol → Bool

@@ -113,11 +113,14 @@ module _ (ws : List ℕ) (R : ℕ) where
       pub added-forward : x .node .start ≤ x .node .end
       added-forward = rw node-is (sound .1)
 
-      pub added-fits : x .node .end < 4294967296
+      pub added-fits : x .node .end < 65536
       added-fits = rw node-is (omega (arith, sound .2, can .short))
 
       few : nodeAt ws (i - R) .symbol < 64
       few = omega (arith, sound .0, can .few)
+
+      pub added-few : x .node .symbol < 64
+      added-few = rw node-is few
 
       bytes-are : (far b : ℕ) → far ≡ getD (s .reach) (x .node .symbol) 0 → b ≡ cond (leb far (x .node .start)) (x .node .end - x .node .start) 0
           → b ≡ bytesAdded (nodesAt ws 0 (i - R)) (nodeAt ws (i - R))

@@ -48,7 +48,7 @@ pub record Sweepable (ws : List ℕ) (R steps : ℕ) : Type 0 where
   pub n : ℕ
   pub good : badNode R n ws ≡ none
   pub few : R ≤ 64
-  pub short : n < 4294967296
+  pub short : n < 65536
   pub long : length ws < 18446744073709551616
   pub within : steps ≤ R + roomOf ws
 

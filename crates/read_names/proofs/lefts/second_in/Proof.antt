@@ -10,7 +10,7 @@ sweep-requires : tie.Need-sweep-requires
 sweep-requires c κs = (c .before .before .pre .0, c .before .before .pre .1, c .before .before .pre .2, knows-none (c .before .before .args .text .now) (c .before .before .args .a .now) _ _ _ 19456)
 
 returns : tie.Need-returns
-returns c = λ z. c .sweep .ensures z .0
+returns c = λ z. c .sweep .ensures z .0 .0
 
 pub second-in-spec : {M : Type 1} → statement M
 second-in-spec = tie.close (tie.spec sweep-requires returns)
