@@ -324,6 +324,7 @@ def long_texts(size):
     yield "parentheses", cut(["a<-"] + ["(" * 33 + "." + ")" * 33] * (size // 67), size)
     yield "comment", "a<-b b<-.#".ljust(size, "#")
     yield "blanks", "a<-b b<-.".ljust(size)
+    yield "short_names_used", cut(itertools.chain(["a<-."], (f"{name}<-a " for name in maker.random.sample(short, len(short)))), size)
 
 
 def random_name(maker):
