@@ -290,7 +290,7 @@ const KINDS: [u8; 256] = [
     0,
 ];
 
-// The table as an array to lend. Wherever a constant array is named its bytes are laid out on the stack: so a token names it once, and each look-up borrows it.
+// The table as an array to lend. Wherever a constant array is named its bytes are laid out on the stack: so a walk names it once, and each look-up borrows it.
 pub fn laid_out() -> [u8; 256]
     ensures { λ r. ⌜ Tabled r ⌝ }
 {

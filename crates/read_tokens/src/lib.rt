@@ -221,7 +221,7 @@ fn spaces(text: &[u8], at: usize) -> usize
 {
     let mut i = at;
     while i < text.len() {
-        if text[i] != 32 {
+        if text[i] != b' ' {
             return i;
         }
         i += 1;
@@ -229,15 +229,20 @@ fn spaces(text: &[u8], at: usize) -> usize
     i
 }
 
+// The two bytes of the arrow, `<-`.
+const LESS_THAN: u32 = 60;
+
+const HYPHEN: u32 = 45;
+
 // Whether the token at a place is the arrow. It is asked of every name, and mostly the arrow stands there or behind a space: no table is laid out then.
 pub fn arrow_at(mode: Mode, text: &[u8], at: usize) -> bool
     ensures { λ r. ⌜ r ≡ eqb (kindOf (tokenAt mode (now (text .entry)) at .is)) 11 ⌝ }
 {
     let i = spaces(text, at);
     let b = byte_at(text, i);
-    if b == 60 {
+    if b == LESS_THAN {
         let d = byte_at(text, i + 1);
-        return d == 45;
+        return d == HYPHEN;
     }
     let t = token_at(mode, text, i);
     t.kind == ARROW
