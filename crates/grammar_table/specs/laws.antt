@@ -1,6 +1,7 @@
 -- Laws of the definitions beside this file.
 pub mod Caps
 pub mod Words
+pub mod Compared
 pub mod Rows
 pub mod Seeks
 pub mod Kept

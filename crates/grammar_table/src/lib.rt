@@ -2,10 +2,10 @@
 // where there is none. So symbols and terminals get their numbers (01, Notation: "by first use", "by first appearance").
 ghost use Prim.Native.Nat.{_+_, _*_, _<_, _≤_, _-_};
 ghost use mathlib.Core.Path.{_≡_};
-ghost use lib.ListN.{set, length};
+ghost use lib.ListN.{set, length, replicate};
 ghost use lib.Seq.{sets};
 ghost use Rattle.grammar.specs.Same.{sameBytes};
-ghost use Rattle.grammar_table.specs.Table.{wordsFrom};
+ghost use Rattle.grammar_table.specs.Table.{wordsFrom, tableWords};
 ghost use Rattle.grammar_table.specs.steps.Rows.{rowIs, seek, cap, Noted};
 ghost use Rattle.grammar_table.specs.Trees.{below};
 use base_words::put;
@@ -80,6 +80,13 @@ pub const PLUS: usize = 6;
 pub const AHEAD: usize = 7;
 
 pub const NEVER: usize = 8;
+
+// A table of zeros, whatever it was.
+pub fn renew(t: &mut Table)
+    ensures { λ r. ⌜ now (t .exit) ≡ replicate tableWords 0 ⌝ }
+{
+    *t = [0; WORDS];
+}
 
 // Whether the n words from i of a are those from j of b.
 fn same_words(a: &[u32], i: usize, b: &[u32], j: usize, n: usize) -> bool

@@ -3,7 +3,7 @@
 ghost use Prim.Native.Nat.{_+_, _*_, _<_};
 ghost use mathlib.Core.Path.{_≡_};
 ghost use lib.ListN.{getD, set};
-ghost use Rattle.grammar_table.specs.Table.{symbolCount, terminalCount, expressionCount, symbolWord, terminalWord};
+ghost use Rattle.grammar_table.specs.Table.{symbolCount, terminalCount, expressionCount, symbolWord, terminalWord, terminalsAt, terminalWords};
 ghost use Rattle.grammar_table.specs.Table.{opOf, leftOf, rightOf, symbolsAt, symbolWords, expressionsAt, expressionWords, nameAt, contentAt};
 use crate::BODY;
 use crate::CONTENT;
@@ -84,6 +84,14 @@ pub fn name_word(t: &[u32], r: usize, j: usize) -> usize
     ensures { λ v. ⌜ (v ≡ getD (now (t .entry)) (nameAt r + j) 0) × (v < 4294967296) ⌝ }
 {
     word(t, SYMBOLS_AT + SYMBOL_WORDS * r + NAME + j)
+}
+
+// Where the record of terminal x begins.
+pub fn leaf_at(x: usize) -> usize
+    requires { ⌜ x < 1125899906842624 ⌝ }
+    ensures { λ i. ⌜ i ≡ terminalsAt + terminalWords * x ⌝ }
+{
+    TERMINALS_AT + TERMINAL_WORDS * x
 }
 
 // The kind of terminal x, and the length of a literal.

@@ -14,10 +14,10 @@ use grammar_table::records::expressions;
 use grammar_table::records::leaf_kind;
 use grammar_table::records::symbols;
 use grammar_table::records::terminals;
-use read_entries::entries::note_any;
-use read_entries::entries::note_leaf;
 use read_entries::entries::note_symbol;
 use read_entries::entries::symbol_number;
+use read_entries::leaves::note_any;
+use read_entries::leaves::note_leaf;
 use read_entries::parts::add_over;
 use read_entries::parts::add_pair;
 use read_entries::parts::add_part;
@@ -143,7 +143,7 @@ fn occurrence(text: &[u8], kind: u8, start: usize, size: usize, t: &mut [u32])
 }
 
 // The use of a terminal. Where there are too many already no number counts, and it is not looked for: a text of 1 MiB can have a million of them. It is called
-// at two places, so that the compiler gives it a frame of its own, which is gone when parentheses nest.
+// at two places, so that the compiler gives it a frame of its own, which is gone when parentheses nest: the marks of a class are in it.
 fn terminal(mode: Mode, text: &[u8], kind: u8, start: usize, size: usize, t: &mut [u32])
     requires { ⌜ (start < length (now text)) × (length (now text) ≤ 1048576) ⌝ }
     ensures { λ r. ⌜ Matches mode (now (text .entry)) kind start size (now (t .entry)) (now (t .exit)) ⌝ }
@@ -325,7 +325,7 @@ fn fill(mode: Mode, text: &[u8], t: &mut [u32]) -> Counts
             expressions: 0,
         };
     }
-    let any = note_any(t);
+    let any = note_any(text, t);
     rules(mode, text, t);
     let x = terminals(t);
     let e = expressions(t);

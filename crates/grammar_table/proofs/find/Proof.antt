@@ -1,9 +1,9 @@
 -- `grammar_table::find` meets its contract. Assumes nothing.
-use Prim.Native.Nat.{ℕ, _+_, _-_, _*_, _≤_, _<_}
-use mathlib.Core.Path.{_≡_, refl, sym, ap, _∙_}
+use Prim.Native.Nat.{ℕ, _+_, _-_, _*_, _≤_}
+use mathlib.Core.Path.{_≡_, sym, ap, _∙_}
 use native.Mathlib.Omega.{arith}
 use Rattle.grammar_table.specs.steps.Rows.{seek}
-use Rattle.grammar_table.proofs.Steps.{seek-whole, seek-hit, seek-on, seek-end, left-on}
+use Rattle.grammar_table.specs.laws.Seeks.{seek-whole, seek-hit, seek-on, seek-end, left-on}
 use borrow.Author.Needs.{needs}
 use Rattle.grammar_table.proofs.find.Statement.{statement}
 use Rattle.grammar_table.proofs.find.Tie as tie

@@ -1,10 +1,9 @@
 -- `grammar_table::note` meets its contract. Assumes nothing.
-use Prim.Native.Nat.{ℕ, suc, _+_, _-_, _*_, _≤_, _<_}
-use mathlib.Core.Path.{_≡_, refl, sym, ap, _∙_}
+use Prim.Native.Nat.{suc, _-_}
 use native.Mathlib.Omega.{arith}
 use native.Mathlib.Nat.{mul-suc}
 use Rattle.grammar_table.specs.laws.Caps.{cap-le}
-use Rattle.grammar_table.proofs.Steps.{mul-le, noted-known, noted-added, noted-over}
+use Rattle.grammar_table.specs.laws.Seeks.{mul-le, noted-known, noted-added, noted-over}
 use borrow.Author.Needs.{needs}
 use Rattle.grammar_table.proofs.note.Statement.{statement}
 use Rattle.grammar_table.proofs.note.Tie as tie

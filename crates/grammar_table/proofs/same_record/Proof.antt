@@ -1,8 +1,7 @@
 -- `grammar_table::same_record` meets its contract. Assumes nothing.
-use Prim.Native.Nat.{ℕ, _+_, _-_, _*_, _≤_, _<_}
-use mathlib.Core.Path.{_≡_, refl, sym, ap, _∙_}
-use native.Mathlib.Omega.{arith}
-use Rattle.grammar_table.proofs.Steps.{row-first, row-rest}
+use Prim.Native.Nat.{_-_}
+use mathlib.Core.Path.{sym, _∙_}
+use Rattle.grammar_table.specs.laws.Compared.{row-first, row-rest}
 use borrow.Author.Needs.{needs}
 use Rattle.grammar_table.proofs.same_record.Statement.{statement}
 use Rattle.grammar_table.proofs.same_record.Tie as tie

@@ -12,7 +12,7 @@ use Rattle.read_grammar.proofs.fill.Statement.{statement}
 use Rattle.read_grammar.proofs.fill.Tie as tie
 use Rattle.read_grammar.proofs.fill.Reads as reads
 use Rattle.read_grammar.proofs.fill.Lts as lts
-use Rattle.read_entries.proofs.entries.note_any.Reads as note-any-reads
+use Rattle.read_entries.proofs.leaves.note_any.Reads as note-any-reads
 use Rattle.read_grammar.proofs.mark_all.Reads as mark-all-reads
 use Rattle.read_grammar.proofs.rules.Reads as rules-reads
 use Rattle.base_words.proofs.put.Reads as put-reads
@@ -66,7 +66,7 @@ expressions-requires : tie.Need-expressions-requires
 expressions-requires c κs = search needs
 
 same-length-2 : tie.Need-same-length-2
-same-length-2 c = c .before .before .before .before .before .before .rules .kept .1 .1 .0 ∙ c .before .before .before .before .before .before .before .before .before .before .note-any .kept .0 ∙
+same-length-2 c = c .before .before .before .before .before .before .rules .kept .1 .1 .0 ∙ c .before .before .before .before .before .before .before .before .before .before .note-any .kept .1 .0 ∙
     c .before .before .before .before .before .before .before .before .before .before .before .before .before .before .before .before .before .mark-all2 .kept .1 .1 .1 .0 ∙
     c .before .before .before .before .before .before .before .before .before .before .before .before .before .before .before .before .before .before .before .before .before .mark-all .kept .1 .1
     .1 .0 ∙

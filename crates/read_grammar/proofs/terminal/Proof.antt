@@ -9,7 +9,7 @@ use Rattle.read_grammar.proofs.terminal.Tie as tie
 use Rattle.read_grammar.proofs.terminal.Reads as reads
 use Rattle.read_grammar.proofs.terminal.Lts as lts
 use Rattle.grammar_table.proofs.records.terminals.Reads as terminals-reads
-use Rattle.read_entries.proofs.entries.note_leaf.Reads as note-leaf-reads
+use Rattle.read_entries.proofs.leaves.note_leaf.Reads as note-leaf-reads
 use Rattle.read_entries.proofs.parts.add_part.Reads as add-part-reads
 
 terminals-requires : tie.Need-terminals-requires
