@@ -34,7 +34,7 @@ HERE = os.path.join(TOP, "tests", "library")
 ARM = platform.machine() == "aarch64"
 RANDOM_COUNT, RANDOM_SEED = 10000, 12
 NODE_QUESTIONS, NAME_QUESTIONS, RECORD_QUESTIONS = 1000, 1000, 1000
-STACK_KIB = 512  # what the header asks for, and the harness gives its threads
+STACK_KIB = 360  # what the header asks for, and the harness gives its threads
 WRAPPER_COUNT = 300
 # the commands that the tests call, and Debian's packages that have them
 PACKAGES = {"gcc": ["gcc", "libc6-dev"], "node": ["nodejs"], "chromium": ["chromium"]}
@@ -95,7 +95,7 @@ def compile_harness(folder, machine):
     """The harness in C for a machine; linked whole, so that an emulator needs nothing beside it."""
     compiler = "gcc" if machine == platform.machine() else f"{machine}-linux-gnu-gcc"
     harness = os.path.join(folder, "harness-" + machine)
-    ended = run([compiler, "-O2", "-Wall", "-Wextra", "-Werror", "-static", "-pthread", "-I" + MADE, "-o", harness, os.path.join(HERE, "harness.c"),
+    ended = run([compiler, "-O2", "-Wall", "-Wextra", "-Werror", f"-DSTACK_KIB={STACK_KIB}", "-static", "-pthread", "-I" + MADE, "-o", harness, os.path.join(HERE, "harness.c"),
                  os.path.join(MADE, machine, "libgurkenmond.a")])
     if ended.returncode:
         wrong(f"harness for {machine}: {ended.stderr.decode()[-2000:]}")
@@ -628,4 +628,5 @@ def main():
     return 1 if problems else 0
 
 
-sys.exit(main())
+if __name__ == "__main__":
+    sys.exit(main())

@@ -2,15 +2,20 @@
 """The worst grammars within a narrow stack: no proof sees the stack, and a program that runs out of it is killed.
 
 stack.py [KIB]     the answers below, with KIB of stack (default: STACK_KIB)
-stack.py --least   the least stack, in steps of 64 KiB, with which each case still answers
+stack.py --least   what each public call of the library has used of a painted stack, the most on these cases, then the least stack, in steps of 64 KiB, with
+                   which the programs still answer each case
 """
+import os
+import platform
 import re
+import subprocess
 import sys
+import tempfile
 
 from matcher import Grammar, plain_text
-from programs import Programs
+from programs import TOP, Programs
 
-STACK_KIB = 960
+STACK_KIB = 640
 
 
 def nest(levels):
@@ -92,7 +97,20 @@ def plain_of(grammar, line):
     return plain_text(Grammar(grammar.encode()))
 
 
+def calls():
+    """Each kind of question, as `replay` names it, with the most bytes of stack that its call has used."""
+    import library  # which takes its worst questions from here
+
+    subprocess.run([os.path.join(TOP, "build"), platform.machine()], check=True)
+    with tempfile.TemporaryDirectory() as folder:
+        harness = library.compile_harness(folder, platform.machine())
+        asked = subprocess.run([harness, "paint"], input=library.lines(library.worst_questions()[0]), capture_output=True, check=True)
+    return [line.split() for line in asked.stderr.decode().splitlines()]
+
+
 def least():
+    for kind, used in calls():
+        print(f"{int(used) / 1024:7.1f} KiB  the call of `{kind}`")
     for name, grammar, text, lines in cases():
         low, high = 0, 8192 // 64
         while high - low > 1:
@@ -103,7 +121,7 @@ def least():
                 low = middle
             else:
                 high = middle
-        print(f"{64 * high:5} KiB  {name}")
+        print(f"{64 * high:7} KiB  {name}")
 
 
 if __name__ == "__main__":

@@ -1,8 +1,10 @@
-/* harness [THREADS] < QUESTIONS: answers replay's lines (crates/replay/src/main.rt) through the library, one line each; `unreadable` for what is no question.
+/* harness [THREADS | paint] < QUESTIONS: answers replay's lines (crates/replay/src/main.rt) through the library, one line each; `unreadable` for what is no question.
    MODE may be a byte's number too, and there is one question more, of where the text of a node is:
      span INPUT WORDS NODE    span START LENGTH
    Guard bytes stand on both sides of everything lent and read; a call that changes one, or more of a room than it may, is answered by `broken`.
-   With THREADS so many threads answer all the questions at once, each on STACK bytes; their answers must be the same. */
+   With THREADS so many threads answer all the questions at once, each on STACK_KIB of stack; their answers must be the same.
+   With `paint` one thread answers on a wide stack that is painted before each question; the most that each kind of question has used of it, in bytes, is
+   printed on the error stream, with what the harness needs itself (some 2,000 bytes). */
 #include <pthread.h>
 #include <stdbool.h>
 #include <stdio.h>
@@ -10,7 +12,7 @@
 #include <string.h>
 #include "gurkenmond.h"
 
-enum { STACK = 512 << 10, GUARD = 32, GUARD_BYTE = 0xA5, ROOM_BYTE = 0xEE, FIELDS = 8, RECORDS = 96, BEHIND = offsetof(gm_summary, present) + 1 };
+enum { STACK = STACK_KIB << 10, WIDE = 4 << 20, GUARD = 32, PAINT = 0x5A, KINDS = 16, GUARD_BYTE = 0xA5, ROOM_BYTE = 0xEE, FIELDS = 8, RECORDS = 96, BEHIND = offsetof(gm_summary, present) + 1 };
 static const uint32_t FRESH = 3735928559u;
 /* A record as it is lent: of one node and absent, which no symbol is. What lies behind `present` is no part of it. */
 static const uint8_t MARK[sizeof(gm_summary)] = {1, [BEHIND] = ROOM_BYTE, ROOM_BYTE, ROOM_BYTE, ROOM_BYTE, ROOM_BYTE, ROOM_BYTE, ROOM_BYTE};
@@ -230,27 +232,52 @@ static void answer(Text *t, char *line) {
     take_back(out);
 }
 
+/* ── the stack ── */
+static uint8_t *painted;
+static struct { char kind[16]; size_t most; } used[KINDS];
+/* All below the frame that asks; the call's own frames are built on it. */
+static void __attribute__((noinline)) paint(void) {
+    uint8_t here;
+    memset(painted, PAINT, (size_t)(&here - painted) - 1024);
+}
+static void look(const char *kind) {
+    uint8_t here, *low = painted;
+    int i = 0;
+    while (*low == PAINT) low++;
+    while (used[i].kind[0] && strcmp(used[i].kind, kind)) i++;
+    strcpy(used[i].kind, kind);
+    if (used[i].most < (size_t)(&here - low)) used[i].most = (size_t)(&here - low);
+}
+
 static Text questions;
 static void *answer_all(void *into) {
     Text *t = into;
     char *copy = malloc(questions.length + 1), *line = copy;
     memcpy(copy, questions.at, questions.length), copy[questions.length] = 0;
-    for (char *end; (end = strchr(line, '\n')); line = end + 1) *end = 0, answer(t, line);
+    for (char *end; (end = strchr(line, '\n')); line = end + 1) {
+        *end = 0;
+        if (painted) paint();
+        answer(t, line);
+        if (painted) look(line);
+    }
     return free(copy), NULL;
 }
 int main(int count, char **words) {
     char chunk[65536];
     for (size_t n; (n = fread(chunk, 1, sizeof chunk, stdin));) put(&questions, chunk, n);
-    int threads = count > 1 ? atoi(words[1]) : 1;
+    bool paints = count > 1 && !strcmp(words[1], "paint");
+    int threads = count > 1 && !paints ? atoi(words[1]) : 1;
     pthread_t id[16];
     Text said[16] = {{0}};
     pthread_attr_t narrow;
     pthread_attr_init(&narrow), pthread_attr_setstacksize(&narrow, STACK);
+    if (paints) painted = aligned_alloc(4096, WIDE), pthread_attr_setstack(&narrow, painted, WIDE);
     if (threads < 1 || threads > 16) return 2;
     for (int i = 0; i < threads; i++) if (pthread_create(&id[i], &narrow, answer_all, &said[i])) return 2;
     for (int i = 0; i < threads; i++) pthread_join(id[i], NULL);
     for (int i = 1; i < threads; i++)
         if (said[i].length != said[0].length || memcmp(said[i].at, said[0].at, said[0].length)) return puts("threads differ"), 1;
     fwrite(said[0].at, 1, said[0].length, stdout);
+    for (int i = 0; i < KINDS && used[i].kind[0]; i++) fprintf(stderr, "%s %zu\n", used[i].kind, used[i].most);
     return 0;
 }

@@ -54,9 +54,8 @@ pub struct Spot {
 pub fn read(mode: Mode, text: &[u8]) -> Counted
     ensures { λ r. ⌜ SaysRead r mode (now (text .entry)) ⌝ }
 {
-    let mut t: Table = [0; grammar_table::WORDS];
-    let mut out: Table = [0; grammar_table::WORDS];
-    prepare::plainly(mode, text, &mut t, &mut out)
+    let mut plain: Table = [0; grammar_table::WORDS];
+    prepare::plain_only(mode, text, &mut plain)
 }
 
 // A refusal, handed on.
@@ -81,7 +80,6 @@ pub fn sets(mode: Mode, text: &[u8], e: usize) -> SetsOf
 {
     let mut t: Table = [0; grammar_table::WORDS];
     let mut mid: Table = [0; grammar_table::WORDS];
-    let mut out: Table = [0; grammar_table::WORDS];
     let mut marks = [false; 64];
     let mut sets: [[u64; 2]; 1024] = [[0, 0]; 1024];
     let mut eps = [false; 1024];
@@ -97,7 +95,7 @@ pub fn sets(mode: Mode, text: &[u8], e: usize) -> SetsOf
         &mut succ,
         &mut alts,
     );
-    let p = prepare::finish(r, made, &mid, &alts, &mut out);
+    let p = prepare::finish(r, made, &mid, &alts, &mut t);
     let c = p.counted;
     let v = c.verdict;
     if prepare::is_refused(v) {
@@ -130,7 +128,6 @@ pub fn cannot_skip(mode: Mode, text: &[u8]) -> Lakes
 {
     let mut t: Table = [0; grammar_table::WORDS];
     let mut mid: Table = [0; grammar_table::WORDS];
-    let mut out: Table = [0; grammar_table::WORDS];
     let mut marks = [false; 64];
     let mut sets: [[u64; 2]; 1024] = [[0, 0]; 1024];
     let mut eps = [false; 1024];
@@ -146,7 +143,7 @@ pub fn cannot_skip(mode: Mode, text: &[u8]) -> Lakes
         &mut succ,
         &mut alts,
     );
-    let p = prepare::finish(r, made, &mid, &alts, &mut out);
+    let p = prepare::finish(r, made, &mid, &alts, &mut t);
     let c = p.counted;
     let v = c.verdict;
     if prepare::is_refused(v) {
@@ -180,9 +177,8 @@ pub fn write_own(mode: Mode, text: &[u8], out: &mut [u8]) -> Written
 pub fn write_plain(mode: Mode, text: &[u8], out: &mut [u8]) -> Written
     ensures { λ r. ⌜ SaysText r (now (out .exit)) (writePlainOf mode (now (text .entry)) (now (out .entry))) ⌝ }
 {
-    let mut t: Table = [0; grammar_table::WORDS];
     let mut plain: Table = [0; grammar_table::WORDS];
-    let c = prepare::plainly(mode, text, &mut t, &mut plain);
+    let c = prepare::plain_only(mode, text, &mut plain);
     let v = c.verdict;
     if prepare::is_refused(v) {
         return write_put::not_written(v);
@@ -257,14 +253,13 @@ pub fn lake_at(
 ) -> LakeWay
     ensures { λ r. ⌜ SaysWay r (now (cells .exit)) (lakeOf mode (now (text .entry)) (now (input .entry)) (now (cells .entry)) lake place) ⌝ }
 {
-    let mut t: Table = [0; grammar_table::WORDS];
-    let mut plain: Table = [0; grammar_table::WORDS];
-    let l = match_ask::look(mode, text, lake, &mut t, &mut plain);
+    let mut table: Table = [0; grammar_table::WORDS];
+    let l = match_ask::look(mode, text, lake, &mut table);
     let v = l.verdict;
     if prepare::is_refused(v) {
         return match_ask::not_asked(v);
     }
-    match_ask::ask(&t, &plain, l, input, cells, place)
+    match_ask::ask(mode, text, &mut table, l, input, cells, place)
 }
 
 // A node list as JSON text (02, par. 1); the list is all words handed over.

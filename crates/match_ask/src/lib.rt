@@ -1,9 +1,8 @@
 // The lake question on the tables of a grammar: refusals 9, 10 and 14, the cells, then how the lake matches (01, "Other calls").
 ghost use mathlib.Core.Path.{_≡_};
 ghost use Prim.Native.Nat.{_≤_};
-ghost use lib.ListN.{length};
-ghost use Rattle.grammar_table.specs.Table.{tableWords};
-ghost use Rattle.match_ask.specs.steps.Asks.{notAsked, wayOf, noLake, LakeIn, Looked, Standing, Asked};
+ghost use Rattle.prepare.specs.Prepare.{prepared};
+ghost use Rattle.match_ask.specs.steps.Asks.{notAsked, wayOf, noLake, LakeIn, Stood, Looked, lent, askedOf};
 use grammar_table::Table;
 use match_eval::memory::Memory;
 use prepare::Verdict;
@@ -82,16 +81,15 @@ fn lake_in(mid: &Table, alts: &[[u64; 2]; 1024], n: usize, symbol: usize) -> Lak
     }
 }
 
-// The grammar of a text, its plain form, and what is asked of a symbol. The intermediate table and all ALT are needed no longer: their room is free for the
+// The plain form of a text's grammar, and what is asked of a symbol. The intermediate table and all ALT are needed no longer: their room is free for the
 // match's memory.
-pub fn look(mode: Mode, text: &[u8], symbol: usize, t: &mut Table, plain: &mut Table) -> LakeAlt
-    requires { ⌜ length (now t) ≡ tableWords ⌝ }
-    ensures { λ r. ⌜ Looked mode (now (text .entry)) (now (t .exit)) (now (plain .exit)) symbol r ⌝ }
+pub fn look(mode: Mode, text: &[u8], symbol: usize, plain: &mut Table) -> LakeAlt
+    ensures { λ r. ⌜ Looked mode (now (text .entry)) (now (plain .exit)) symbol r ⌝ }
 {
     let mut mid: Table = [0; grammar_table::WORDS];
     let mut alts: [[u64; 2]; 1024] = [[0, 0]; 1024];
-    let r = prepare::load(mode, text, t);
-    let made = prepare::alternatives(t, &mut mid, &mut alts);
+    let r = prepare::load(mode, text, plain);
+    let made = prepare::alternatives(plain, &mut mid, &mut alts);
     let p = prepare::finish(r, made, &mid, &alts, plain);
     let c = p.counted;
     let v = c.verdict;
@@ -102,18 +100,20 @@ pub fn look(mode: Mode, text: &[u8], symbol: usize, t: &mut Table, plain: &mut T
     lake_in(&mid, &alts, n, symbol)
 }
 
-// The lake question on the tables of a grammar: 9, 10, then 14; then the cells are filled.
+// The lake question on the plain form of an accepted text's grammar: 9, 10, then 14; then the cells are filled. How the lake matches is asked of the grammar
+// itself, for which the table is free then.
 pub fn ask(
-    t: &Table,
-    plain: &Table,
+    mode: Mode,
+    text: &[u8],
+    table: &mut Table,
     l: LakeAlt,
     input: &[u8],
     cells: &mut [u32],
     place: usize,
 ) -> LakeWay
-    requires { ⌜ Standing (now t) (now plain) l ⌝ }
+    requires { ⌜ Stood mode (now text) (now table) l ⌝ }
     ensures { λ r.
-        ⌜ Asked (now (t .entry)) (now (plain .entry)) l (now (input .entry)) (now (cells .entry)) place (now (cells .exit)) r ⌝ }
+        ⌜ lent r (now (cells .exit)) ≡ askedOf (prepared mode (now (text .entry))) (now (input .entry)) (now (cells .entry)) (l .symbol) place ⌝ }
 {
     if 65535 < input.len() {
         return not_asked(Verdict::Refused {
@@ -121,7 +121,7 @@ pub fn ask(
             place: 65535,
         });
     }
-    let n = prepare::symbols(plain);
+    let n = prepare::symbols(table);
     let need = n * (input.len() + 1);
     if cells.len() < need {
         return not_asked(Verdict::Refused {
@@ -142,11 +142,12 @@ pub fn ask(
         });
     }
     let mut mem: Memory = [0; match_eval::memory::WORDS];
-    match_cells::filling::fill(plain, input, cells, &mut mem);
+    match_cells::filling::fill(table, input, cells, &mut mem);
     // what filling remembered is about the plain table
     mem = [0; match_eval::memory::WORDS];
+    prepare::own_again(mode, text, table);
     let a = l.alt;
-    let w = match_lake::way(t, input, cells, &mem, a, l.symbol, place);
+    let w = match_lake::way(table, input, cells, &mem, a, l.symbol, place);
     let how = way_of(w);
     LakeWay {
         way: how,

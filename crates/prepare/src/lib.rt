@@ -2,7 +2,12 @@
 // its sets, and that a plain grammar; or a refusal with number and place.
 ghost use mathlib.Core.Path.{_≡_};
 ghost use lib.ListN.{length};
+ghost use mathlib.Core.Option.{none};
+ghost use Rattle.grammar.specs.Numbers.{numbered};
+ghost use Rattle.grammar_table.specs.Holds.{Holds};
 ghost use Rattle.grammar_table.specs.Table.{tableWords, symbolCount, expressionCount};
+ghost use Rattle.read_syntax.specs.Reading.{rulesOf};
+ghost use Rattle.prepare.specs.Prepare.{refuses};
 ghost use Rattle.lake_calls.specs.steps.Marks.{LoopedAll};
 ghost use Rattle.read_tokens.specs.Bounds.{expressionBound};
 ghost use Rattle.prepare.specs.Reads.{isRefused};
@@ -15,6 +20,7 @@ pub mod refusals;
 
 use grammar_table::Table;
 use grammar_table::records;
+use grammar_table::renew;
 use read_tokens::Mode;
 
 // A grammar is accepted, or refused with number and place.
@@ -78,13 +84,13 @@ fn gather(mode: Mode, text: &[u8], t: &mut Table) -> Counted
 
 // Refusals 1 to 6, or the counts of a grammar, which the table then holds.
 pub fn load(mode: Mode, text: &[u8], t: &mut Table) -> Counted
-    requires { ⌜ length (now t) ≡ tableWords ⌝ }
     ensures { λ r. ⌜ Loads mode (now (text .entry)) (now (t .exit)) r ⌝ }
 {
-    let f = refusals::refused(mode, text);
+    let f = refusals::refused(mode, text, t);
     if f.number != 0 {
         return refusal(f.number, f.place);
     }
+    renew(t);
     gather(mode, text, t)
 }
 
@@ -228,32 +234,53 @@ pub fn finish(
     }
 }
 
-// The grammar and its plain form, or a refusal 1 to 8. Refusals 1 to 5 are asked for here and in `load`: what two places call has a frame of its own, which is
-// gone when the grammar is gathered.
-pub fn plainly(mode: Mode, text: &[u8], t: &mut Table, out: &mut Table) -> Counted
-    requires { ⌜ length (now t) ≡ tableWords ⌝ }
-    ensures { λ r. ⌜ Plainly mode (now (text .entry)) (now (t .exit)) (now (out .exit)) r ⌝ }
+// A grammar's plain form, or a refusal 1 to 8. `out` has the grammar until its intermediate form stands in `mid`: two tables are enough. Refusals 1 to 5 are
+// asked for here and in `load`: what two places call has a frame of its own, which is gone when the grammar is gathered.
+fn translated(mode: Mode, text: &[u8], mid: &mut Table, out: &mut Table) -> Counted
+    ensures { λ r. ⌜ PlainOnly mode (now (text .entry)) (now (out .exit)) r ⌝ }
 {
-    let f = refusals::refused(mode, text);
+    let f = refusals::refused(mode, text, out);
     if f.number != 0 {
         return refusal(f.number, f.place);
     }
-    let r = gather(mode, text, t);
+    renew(out);
+    let r = gather(mode, text, out);
     let v = r.verdict;
     if is_refused(v) {
         return r;
     }
-    let mut mid: Table = [0; grammar_table::WORDS];
     let mut alts: [[u64; 2]; 1024] = [[0, 0]; 1024];
-    let made = alternatives(t, &mut mid, &mut alts);
-    let p = finish(r, made, &mid, &alts, out);
+    let made = alternatives(out, mid, &mut alts);
+    let p = finish(r, made, mid, &alts, out);
     p.counted
 }
 
-// The same for the plain form alone: the grammar's own table is needed no longer.
+// The plain form alone.
 pub fn plain_only(mode: Mode, text: &[u8], out: &mut Table) -> Counted
     ensures { λ r. ⌜ PlainOnly mode (now (text .entry)) (now (out .exit)) r ⌝ }
 {
-    let mut t: Table = [0; grammar_table::WORDS];
-    plainly(mode, text, &mut t, out)
+    let mut mid: Table = [0; grammar_table::WORDS];
+    translated(mode, text, &mut mid, out)
+}
+
+// The grammar of a text that is accepted, in a table that has served otherwise.
+pub fn own_again(mode: Mode, text: &[u8], t: &mut Table)
+    requires { ⌜ refuses mode (now text) ≡ none ⌝ }
+    ensures { λ r. ⌜ Holds (now (t .exit)) (numbered (rulesOf mode (now (text .entry)))) ⌝ }
+{
+    renew(t);
+    let counts = gather(mode, text, t);
+}
+
+// The grammar and its plain form, or a refusal 1 to 8: the grammar is gathered again when its table has served as the intermediate one.
+pub fn plainly(mode: Mode, text: &[u8], t: &mut Table, out: &mut Table) -> Counted
+    ensures { λ r. ⌜ Plainly mode (now (text .entry)) (now (t .exit)) (now (out .exit)) r ⌝ }
+{
+    let c = translated(mode, text, t, out);
+    let v = c.verdict;
+    if is_refused(v) {
+        return c;
+    }
+    own_again(mode, text, t);
+    c
 }

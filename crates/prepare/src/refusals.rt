@@ -3,6 +3,7 @@ ghost use mathlib.Core.Path.{_≡_};
 ghost use Rattle.read_tokens.specs.Bounds.{textBound};
 ghost use Rattle.read_syntax.specs.steps.Found.{found};
 ghost use Rattle.prepare.specs.steps.Scanned.{scanned};
+use grammar_table::Table;
 use read_syntax::syntax;
 use read_syntax::syntax::Found;
 use read_tokens::Mode;
@@ -16,8 +17,9 @@ fn text_bound(mode: Mode) -> usize
     }
 }
 
-// Refusals 1 to 5 in order of check; number 0 where there is none.
-pub fn refused(mode: Mode, text: &[u8]) -> Found
+// Refusals 1 to 5 in order of check; number 0 where there is none. The names are ordered in a table that nothing is in yet: its words may be any, before and
+// after.
+pub fn refused(mode: Mode, text: &[u8], room: &mut Table) -> Found
     ensures { λ r. ⌜ r ≡ found (scanned mode (now (text .entry))) ⌝ }
 {
     let bound = text_bound(mode);
@@ -28,7 +30,7 @@ pub fn refused(mode: Mode, text: &[u8]) -> Found
     if f.number != 0 {
         return f;
     }
-    let names = read_names::lefts::refused(mode, text);
+    let names = read_names::lefts::refused(mode, text, room);
     let p = names.second;
     if p != 0 {
         return syntax::refuse(4, p - 1);

@@ -7,11 +7,13 @@ ghost use Prim.Native.Nat.{_≤_, _<_};
 ghost use lib.ListN.{length, set};
 ghost use Rattle.read_tokens.specs.Tokens.{tokenAt, lexemes};
 ghost use Rattle.read_syntax.specs.Reading.{second};
+ghost use Rattle.grammar_table.specs.Table.{tableWords};
 ghost use Rattle.read_walks.specs.steps.Names.{placed};
 ghost use Rattle.read_order.specs.steps.Order.{symbolIn, inText, Fits, TokenOf};
 ghost use Rattle.read_names.specs.steps.Lefts.{markedName, Finds, Ranged, Entered, MetAll, UsedAll, placeBy};
 ghost use Rattle.read_names.specs.steps.Lefts.{Walked, Swept4, Swept5, Whole, Held, Answer, second4, Upto, Told};
 use base_words::word;
+use grammar_table::renew;
 use read_order::NONE;
 use read_order::Range;
 use read_order::Room;
@@ -31,7 +33,7 @@ use read_walks::second_walked;
 use read_walks::unruled_walked;
 
 // Which names of a range have been passed.
-pub type Marks = [bool; 19456];
+pub type Marks = [bool; read_order::ROOM];
 
 // What is found of a token: that it is not refused, that it is, or nothing.
 const FINE: usize = 0;
@@ -67,7 +69,7 @@ fn set_mark(marks: &mut [bool], j: usize)
 
 // Marks a name.
 fn enter(text: &[u8], a: &Room, count: usize, v: usize, marks: &mut Marks) -> usize
-    requires { ⌜ Fits (now text) (now a) × inText (now text) v × (count ≤ 19456) ⌝ }
+    requires { ⌜ Fits (now text) (now a) × inText (now text) v × (count ≤ tableWords) ⌝ }
     ensures { λ r. ⌜ Entered (now (text .entry)) (now (a .entry)) count (symbolIn (now (text .entry)) v) r (now (marks .entry)) (now (marks .exit)) ⌝ }
 {
     let j = find(text, a, count, v);
@@ -84,7 +86,7 @@ fn enter(text: &[u8], a: &Room, count: usize, v: usize, marks: &mut Marks) -> us
 
 // Whether a name is marked.
 fn known(text: &[u8], a: &Room, count: usize, v: usize, marks: &Marks) -> bool
-    requires { ⌜ Fits (now text) (now a) × inText (now text) v × (count ≤ 19456) ⌝ }
+    requires { ⌜ Fits (now text) (now a) × inText (now text) v × (count ≤ tableWords) ⌝ }
     ensures { λ r. ⌜ r ≡ markedName (now (text .entry)) (now (a .entry)) count (symbolIn (now (text .entry)) v) (now (marks .entry)) ⌝ }
 {
     let j = find(text, a, count, v);
@@ -209,7 +211,7 @@ fn second_in(mode: Mode, text: &[u8], a: &Room, c: Range, limit: usize) -> usize
     requires { ⌜ (length (now text) < 4294967296) × Ranged (now text) (now a) (c .low) (c .high) (c .count) × (limit ≤ length (now text)) ⌝ }
     ensures { λ r. ⌜ ((r ≡ 4294967296 → ⊥) → Swept4 mode (now (text .entry)) (c .low) (c .high) limit r) ⌝ }
 {
-    let mut marks: Marks = [false; 19456];
+    let mut marks: Marks = [false; read_order::ROOM];
     let r = sweep(mode, text, a, c, limit, &mut marks);
     r.place
 }
@@ -278,7 +280,7 @@ fn unruled_in(mode: Mode, text: &[u8], a: &Room, c: Range, limit: usize) -> usiz
         → Swept5 mode (now (text .entry)) (c .low) (c .high) limit r
         × Swept4 mode (now (text .entry)) (c .low) (c .high) (length (now (text .entry))) (length (now (text .entry)))) ⌝ }
 {
-    let mut marks: Marks = [false; 19456];
+    let mut marks: Marks = [false; read_order::ROOM];
     let r = sweep(mode, text, a, c, text.len(), &mut marks);
     if r.place != text.len() {
         return GIVEN_UP;
@@ -351,19 +353,20 @@ fn walked(mode: Mode, text: &[u8], p: usize) -> Places
 }
 
 // One order of the names serves both refusals. Where a range shows that there is refusal 4, the leftmost place is sought in this range and those behind it.
-pub fn refused(mode: Mode, text: &[u8]) -> Places
+// The room's words may be any, before and after.
+pub fn refused(mode: Mode, text: &[u8], a: &mut Room) -> Places
     requires { ⌜ length (now text) < 4294967296 ⌝ }
     ensures { λ r. ⌜ Told mode (now (text .entry)) r ⌝ }
 {
-    let mut a: Room = [0; 19456];
+    renew(a);
     let mut low: usize = 0;
     let mut limit = text.len();
     let mut passed: usize = 0;
     while passed < RANGES {
-        let c = gather(mode, text, low, &mut a);
-        limit = unruled_in(mode, text, &a, c, limit);
+        let c = gather(mode, text, low, a);
+        limit = unruled_in(mode, text, a, c, limit);
         if limit == GIVEN_UP {
-            let p = second_from(mode, text, low, &mut a);
+            let p = second_from(mode, text, low, a);
             return walked(mode, text, p);
         }
         low = c.high;

@@ -26,16 +26,14 @@ is-refused-requires : tie.Need-is-refused-requires
 is-refused-requires c κs = search needs
 
 returns : tie.Need-returns
-returns c = lakes-told (c .before .before .before .before .before .before .before .before .before .before .before .before .before .before .before .before
-    .before .before .args .mode)
-    (c .before .before .before .before .before .before .before .before .before .before .before .before .before .before .before .before .before .before .args
-    .text .now) (skip-refused (c .before .before .before .before .before .before .before .before .before .before .before .before .before .before .before
-    .before .before .before .args .mode)
-    (c .before .before .before .before .before .before .before .before .before .before .before .before .before .before .before .before .before .before .args
-    .text .now) (c .before .before .before .finish .result .counted) ((c .before .before .before .finish .ensures .ready
-    (c .before .before .before .before .before .before .before .before .before .before .before .before .before .before .before .before .before .before .args
-    .mode) (c .before .before .before .before .before .before .before .before .before .before .before .before .before .before .before .before .before .before
-    .args .text .now) _ _ _ _ _
+returns c = lakes-told (c .before .before .before .before .before .before .before .before .before .before .before .before .before .before .before .before .before .before .args .mode)
+    (c .before .before .before .before .before .before .before .before .before .before .before .before .before .before .before .before .before .before .args .text .now)
+    (skip-refused (c .before .before .before .before .before .before .before .before .before .before .before .before .before .before .before .before .before .before .args .mode)
+    (c .before .before .before .before .before .before .before .before .before .before .before .before .before .before .before .before .before .before .args .text .now)
+    (c .before .before .before .finish .result .counted) ((c .before .before .before .finish .ensures .ready
+    (c .before .before .before .before .before .before .before .before .before .before .before .before .before .before .before .before .before .before .args .mode)
+    (c .before .before .before .before .before .before .before .before .before .before .before .before .before .before .before .before .before .before .args .text .now) _ _ _ _
+    _
     (c .before .before .before .before .before .before .before .before .before .before .before .before .before .before .before .load .ensures)
     (c .before .before .before .before .before .before .before .analyse .ensures)) .answer) (sym (c .before .is-refused .ensures) ∙ c .if1 .taken))
 
@@ -43,21 +41,19 @@ cannot-skip-requires : tie.Need-cannot-skip-requires
 cannot-skip-requires c κs = search needs
 
 returns-2 : tie.Need-returns-2
-returns-2 c = lakes-told (c .before .before .before .before .before .before .before .before .before .before .before .before .before .before .before .before
-    .before .before .before .before .before .before .args .mode)
-    (c .before .before .before .before .before .before .before .before .before .before .before .before .before .before .before .before .before .before .before
-    .before .before .before .args .text .now) (skip-is
-    (c .before .before .before .before .before .before .before .before .before .before .before .before .before .before .before .before .before .before .before
-    .before .before .before .args .mode)
-    (c .before .before .before .before .before .before .before .before .before .before .before .before .before .before .before .before .before .before .before
-    .before .before .before .args .text .now) _ _ _ _ _ _ _ _ (c .before .before .before .before .before .before .before .finish .result .rounds)
+returns-2 c = lakes-told
+    (c .before .before .before .before .before .before .before .before .before .before .before .before .before .before .before .before .before .before .before .before .before .before .args .mode)
+    (c .before .before .before .before .before .before .before .before .before .before .before .before .before .before .before .before .before .before .before .before .before
+    .before .args .text .now) (skip-is
+    (c .before .before .before .before .before .before .before .before .before .before .before .before .before .before .before .before .before .before .before .before .before .before .args .mode)
+    (c .before .before .before .before .before .before .before .before .before .before .before .before .before .before .before .before .before .before .before .before .before
+    .before .args .text .now) _ _ _ _ _ _ _ _ (c .before .before .before .before .before .before .before .finish .result .rounds)
     ((c .before .before .before .before .before .before .before .finish .ensures .ready
-    (c .before .before .before .before .before .before .before .before .before .before .before .before .before .before .before .before .before .before .before
-    .before .before .before .args .mode)
-    (c .before .before .before .before .before .before .before .before .before .before .before .before .before .before .before .before .before .before .before
-    .before .before .before .args .text .now) _ _ _ _ _
-    (c .before .before .before .before .before .before .before .before .before .before .before .before .before .before .before .before .before .before .before
-    .load .ensures) (c .before .before .before .before .before .before .before .before .before .before .before .analyse .ensures)) .stands (sym
+    (c .before .before .before .before .before .before .before .before .before .before .before .before .before .before .before .before .before .before .before .before .before .before .args .mode)
+    (c .before .before .before .before .before .before .before .before .before .before .before .before .before .before .before .before .before .before .before .before .before
+    .before .args .text .now) _ _ _ _ _
+    (c .before .before .before .before .before .before .before .before .before .before .before .before .before .before .before .before .before .before .before .load .ensures)
+    (c .before .before .before .before .before .before .before .before .before .before .before .analyse .ensures)) .stands (sym
     (c .before .before .before .before .before .is-refused .ensures) ∙ c .before .before .before .before .if1 .left)) (c .cannot-skip .result) (c .cannot-skip .ensures))
 
 pub cannot-skip-spec : {M : Type 1} → statement M

@@ -21,33 +21,30 @@ not-asked-requires : tie.Need-not-asked-requires
 not-asked-requires c κs = search needs
 
 returns : tie.Need-returns
-returns c = as-way (c .not-asked .ensures) (lake-refused (c .before .before .before .before .before .before .before .before .before .args .mode)
-    (c .before .before .before .before .before .before .before .before .before .args .text .now)
-    (c .before .before .before .before .before .before .before .before .before .args .input .now)
-    (c .before .before .before .before .before .before .before .before .before .args .cells .now)
-    (c .before .before .before .before .before .before .before .before .before .args .lake) (c .before .before .before .before .before .before .before .before .before .args .place)
+returns c = as-way (c .not-asked .ensures) (lake-refused (c .before .before .before .before .before .before .before .before .args .mode)
+    (c .before .before .before .before .before .before .before .before .args .text .now)
+    (c .before .before .before .before .before .before .before .before .args .input .now)
+    (c .before .before .before .before .before .before .before .before .args .cells .now)
+    (c .before .before .before .before .before .before .before .before .args .lake) (c .before .before .before .before .before .before .before .before .args .place)
     (c .before .before .before .look .result .verdict) (c .before .before .before .look .ensures .answer) (sym (c .before .before .is-refused .ensures) ∙ c .before .if1 .taken))
 
 ask-requires : tie.Need-ask-requires
-ask-requires c κs = record {
-  mode = c .before .before .before .before .before .before .before .before .before .before .before .args .mode;
-  text = c .before .before .before .before .before .before .before .before .before .before .before .args .text .now;
-  stood = c .before .before .before .before .before .look .ensures .stood (sym (c .before .before .before .before .is-refused .ensures) ∙ c .before .before .before .if1 .left);
-}
+ask-requires c κs = c .before .before .before .before .look .ensures .stood (sym (c .before .before .before .is-refused .ensures) ∙ c .before .before .if1 .left)
 
 same-length : tie.Need-same-length
 same-length c = search needs
 
 returns-2 : tie.Need-returns-2
-returns-2 c = lake-asked (c .before .before .before .before .before .before .before .before .before .before .before .before .before .before .args .mode)
-    (c .before .before .before .before .before .before .before .before .before .before .before .before .before .before .args .text .now)
-    (c .before .before .before .before .before .before .before .before .before .before .before .before .before .before .args .input .now)
-    (c .before .before .before .before .before .before .before .before .before .before .before .before .before .before .args .cells .now)
-    (c .before .before .before .before .before .before .before .before .before .before .before .before .before .before .args .lake)
-    (c .before .before .before .before .before .before .before .before .before .before .before .before .before .before .args .place)
-    _ _ (c .before .before .before .before .before .before .before .before .look .result) (c .before .before .before .before .before .before .before .before .look .ensures .stood
-    (sym (c .before .before .before .before .before .before .before .is-refused .ensures) ∙ c .before .before .before .before .before .before .if1 .left))
-    (c .before .before .before .before .before .before .before .before .look .ensures .symbol) _ (c .before .before .ask .result) (c .before .before .ask .ensures)
+returns-2 c = lake-asked (c .before .before .before .before .before .before .before .before .before .before .before .before .args .mode)
+    (c .before .before .before .before .before .before .before .before .before .before .before .before .args .text .now)
+    (c .before .before .before .before .before .before .before .before .before .before .before .before .args .input .now)
+    (c .before .before .before .before .before .before .before .before .before .before .before .before .args .cells .now)
+    (c .before .before .before .before .before .before .before .before .before .before .before .before .args .lake)
+    (c .before .before .before .before .before .before .before .before .before .before .before .before .args .place)
+    _ (c .before .before .before .before .before .before .before .look .result)
+    (c .before .before .before .before .before .before .before .look .ensures .stood
+    (sym (c .before .before .before .before .before .before .is-refused .ensures) ∙ c .before .before .before .before .before .if1 .left))
+    (c .before .before .before .before .before .before .before .look .ensures .symbol) _ (c .before .before .ask .result) (c .before .before .ask .ensures)
 
 pub lake-at-spec : {M : Type 1} → statement M
 lake-at-spec =

@@ -5,13 +5,13 @@ use Rattle.gurkenmond.proofs.read.Statement.{statement}
 use Rattle.gurkenmond.proofs.read.Tie as tie
 use Rattle.gurkenmond.proofs.read.Reads as reads
 use Rattle.gurkenmond.proofs.read.Lts as lts
-use Rattle.prepare.proofs.plainly.Reads as plainly-reads
+use Rattle.prepare.proofs.plain_only.Reads as plain-only-reads
 
-plainly-requires : tie.Need-plainly-requires
-plainly-requires c κs = search needs
+plain-only-requires : tie.Need-plain-only-requires
+plain-only-requires c κs = search needs
 
 returns : tie.Need-returns
-returns c = read-told (c .before .before .before .before .args .mode) (c .before .before .before .before .args .text .now) (c .plainly .result) (c .plainly .ensures .answer)
+returns c = read-told (c .before .before .before .args .mode) (c .before .before .before .args .text .now) (c .plain-only .result) (c .plain-only .ensures .answer)
 
 pub read-spec : {M : Type 1} → statement M
-read-spec = tie.close (tie.spec plainly-requires returns)
+read-spec = tie.close (tie.spec plain-only-requires returns)

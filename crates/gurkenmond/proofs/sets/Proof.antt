@@ -32,19 +32,18 @@ no-sets-requires : tie.Need-no-sets-requires
 no-sets-requires c κs = search needs
 
 returns : tie.Need-returns
-returns c = sets-told (c .before .before .before .before .before .before .before .before .before .before .before .before .before .before .before .before
-    .before .before .before .args .mode)
-    (c .before .before .before .before .before .before .before .before .before .before .before .before .before .before .before .before .before .before .before
-    .args .text .now) (c .before .before .before .before .before .before .before .before .before .before .before .before .before .before .before .before
-    .before .before .before .args .e) (c .no-sets .ensures ∙ sets-refused
-    (c .before .before .before .before .before .before .before .before .before .before .before .before .before .before .before .before .before .before .before
-    .args .mode) (c .before .before .before .before .before .before .before .before .before .before .before .before .before .before .before .before .before
-    .before .before .args .text .now) (c .before .before .before .before .finish .result .counted)
-    (c .before .before .before .before .before .before .before .before .before .before .before .before .before .before .before .before .before .before .before
-    .args .e) ((c .before .before .before .before .finish .ensures .ready
-    (c .before .before .before .before .before .before .before .before .before .before .before .before .before .before .before .before .before .before .before
-    .args .mode) (c .before .before .before .before .before .before .before .before .before .before .before .before .before .before .before .before .before
-    .before .before .args .text .now) _ _ _ _ _
+returns c = sets-told (c .before .before .before .before .before .before .before .before .before .before .before .before .before .before .before .before .before .before .before .args .mode)
+    (c .before .before .before .before .before .before .before .before .before .before .before .before .before .before .before .before .before .before .before .args .text .now)
+    (c .before .before .before .before .before .before .before .before .before .before .before .before .before .before .before .before .before .before .before .args .e)
+    (c .no-sets .ensures ∙ sets-refused
+    (c .before .before .before .before .before .before .before .before .before .before .before .before .before .before .before .before .before .before .before .args .mode)
+    (c .before .before .before .before .before .before .before .before .before .before .before .before .before .before .before .before .before .before .before .args .text .now)
+    (c .before .before .before .before .finish .result .counted)
+    (c .before .before .before .before .before .before .before .before .before .before .before .before .before .before .before .before .before .before .before .args .e)
+    ((c .before .before .before .before .finish .ensures .ready
+    (c .before .before .before .before .before .before .before .before .before .before .before .before .before .before .before .before .before .before .before .args .mode)
+    (c .before .before .before .before .before .before .before .before .before .before .before .before .before .before .before .before .before .before .before .args .text .now)
+    _ _ _ _ _
     (c .before .before .before .before .before .before .before .before .before .before .before .before .before .before .before .before .load .ensures)
     (c .before .before .before .before .before .before .before .before .analyse .ensures)) .answer) (sym (c .before .before .is-refused .ensures) ∙ c .before .if1 .taken))
 
@@ -55,80 +54,79 @@ no-sets-requires-2 : tie.Need-no-sets-requires-2
 no-sets-requires-2 c κs = search needs
 
 returns-2 : tie.Need-returns-2
-returns-2 c = sets-told (c .before .before .before .before .before .before .before .before .before .before .before .before .before .before .before .before
-    .before .before .before .before .before .before .args .mode)
-    (c .before .before .before .before .before .before .before .before .before .before .before .before .before .before .before .before .before .before .before
-    .before .before .before .args .text .now)
-    (c .before .before .before .before .before .before .before .before .before .before .before .before .before .before .before .before .before .before .before
-    .before .before .before .args .e) (c .no-sets2 .ensures ∙ sets-zero
-    (c .before .before .before .before .before .before .before .before .before .before .before .before .before .before .before .before .before .before .before
-    .before .before .before .args .mode)
-    (c .before .before .before .before .before .before .before .before .before .before .before .before .before .before .before .before .before .before .before
-    .before .before .before .args .text .now) _ _ _ _ _ _ _ _ (c .before .before .before .before .before .before .before .finish .result .rounds)
+returns-2 c = sets-told
+    (c .before .before .before .before .before .before .before .before .before .before .before .before .before .before .before .before .before .before .before .before .before .before .args .mode)
+    (c .before .before .before .before .before .before .before .before .before .before .before .before .before .before .before .before .before .before .before .before .before .before .args .text .now)
+    (c .before .before .before .before .before .before .before .before .before .before .before .before .before .before .before .before .before .before .before .before .before
+    .before .args .e) (c .no-sets2 .ensures ∙ sets-zero
+    (c .before .before .before .before .before .before .before .before .before .before .before .before .before .before .before .before .before .before .before .before .before .before .args .mode)
+    (c .before .before .before .before .before .before .before .before .before .before .before .before .before .before .before .before .before .before .before .before .before
+    .before .args .text .now) _ _ _ _ _ _ _ _ (c .before .before .before .before .before .before .before .finish .result .rounds)
     ((c .before .before .before .before .before .before .before .finish .ensures .ready
-    (c .before .before .before .before .before .before .before .before .before .before .before .before .before .before .before .before .before .before .before
-    .before .before .before .args .mode)
-    (c .before .before .before .before .before .before .before .before .before .before .before .before .before .before .before .before .before .before .before
-    .before .before .before .args .text .now) _ _ _ _ _
-    (c .before .before .before .before .before .before .before .before .before .before .before .before .before .before .before .before .before .before .before
-    .load .ensures) (c .before .before .before .before .before .before .before .before .before .before .before .analyse .ensures)) .stands (sym
+    (c .before .before .before .before .before .before .before .before .before .before .before .before .before .before .before .before .before .before .before .before .before .before .args .mode)
+    (c .before .before .before .before .before .before .before .before .before .before .before .before .before .before .before .before .before .before .before .before .before
+    .before .args .text .now) _ _ _ _ _
+    (c .before .before .before .before .before .before .before .before .before .before .before .before .before .before .before .before .before .before .before .load .ensures)
+    (c .before .before .before .before .before .before .before .before .before .before .before .analyse .ensures)) .stands (sym
     (c .before .before .before .before .before .is-refused .ensures) ∙ c .before .before .before .before .if1 .left))
-    (c .before .before .before .before .before .before .before .before .before .before .before .before .before .before .before .before .before .before .before
-    .before .before .before .args .e) (c .before .if2 .taken))
+    (c .before .before .before .before .before .before .before .before .before .before .before .before .before .before .before .before .before .before .before .before .before
+    .before .args .e) (c .before .if2 .taken))
 
 no-sets-requires-3 : tie.Need-no-sets-requires-3
 no-sets-requires-3 c κs = search needs
 
 returns-3 : tie.Need-returns-3
-returns-3 c = sets-told (c .before .before .before .before .before .before .before .before .before .before .before .before .before .before .before .before
-    .before .before .before .before .before .before .before .args .mode)
-    (c .before .before .before .before .before .before .before .before .before .before .before .before .before .before .before .before .before .before .before
-    .before .before .before .before .args .text .now)
-    (c .before .before .before .before .before .before .before .before .before .before .before .before .before .before .before .before .before .before .before
-    .before .before .before .before .args .e) (c .no-sets3 .ensures ∙ sets-past
-    (c .before .before .before .before .before .before .before .before .before .before .before .before .before .before .before .before .before .before .before
-    .before .before .before .before .args .mode)
-    (c .before .before .before .before .before .before .before .before .before .before .before .before .before .before .before .before .before .before .before
-    .before .before .before .before .args .text .now) _ _ _ _ _ _ _ _
+returns-3 c = sets-told
+    (c .before .before .before .before .before .before .before .before .before .before .before .before .before .before .before .before .before .before .before .before .before
+    .before .before .args .mode)
+    (c .before .before .before .before .before .before .before .before .before .before .before .before .before .before .before .before .before .before .before .before .before
+    .before .before .args .text .now)
+    (c .before .before .before .before .before .before .before .before .before .before .before .before .before .before .before .before .before .before .before .before .before
+    .before .before .args .e) (c .no-sets3 .ensures ∙ sets-past
+    (c .before .before .before .before .before .before .before .before .before .before .before .before .before .before .before .before .before .before .before .before .before
+    .before .before .args .mode)
+    (c .before .before .before .before .before .before .before .before .before .before .before .before .before .before .before .before .before .before .before .before .before
+    .before .before .args .text .now) _ _ _ _ _ _ _ _
     (c .before .before .before .before .before .before .before .before .finish .result .rounds)
     ((c .before .before .before .before .before .before .before .before .finish .ensures .ready
-    (c .before .before .before .before .before .before .before .before .before .before .before .before .before .before .before .before .before .before .before
-    .before .before .before .before .args .mode)
-    (c .before .before .before .before .before .before .before .before .before .before .before .before .before .before .before .before .before .before .before
-    .before .before .before .before .args .text .now) _ _ _ _ _
-    (c .before .before .before .before .before .before .before .before .before .before .before .before .before .before .before .before .before .before .before
-    .before .load .ensures) (c .before .before .before .before .before .before .before .before .before .before .before .before .analyse .ensures)) .stands
+    (c .before .before .before .before .before .before .before .before .before .before .before .before .before .before .before .before .before .before .before .before .before
+    .before .before .args .mode)
+    (c .before .before .before .before .before .before .before .before .before .before .before .before .before .before .before .before .before .before .before .before .before
+    .before .before .args .text .now) _ _ _ _ _
+    (c .before .before .before .before .before .before .before .before .before .before .before .before .before .before .before .before .before .before .before .before .load
+    .ensures) (c .before .before .before .before .before .before .before .before .before .before .before .before .analyse .ensures)) .stands
     (sym (c .before .before .before .before .before .before .is-refused .ensures) ∙ c .before .before .before .before .before .if1 .left))
-    (c .before .before .before .before .before .before .before .before .before .before .before .before .before .before .before .before .before .before .before
-    .before .before .before .before .args .e) (c .before .before .before .expressions .result) (c .before .before .before .expressions .ensures) (c .before .if3 .taken))
+    (c .before .before .before .before .before .before .before .before .before .before .before .before .before .before .before .before .before .before .before .before .before
+    .before .before .args .e) (c .before .before .before .expressions .result) (c .before .before .before .expressions .ensures) (c .before .if3 .taken))
 
 sets-at-requires : tie.Need-sets-at-requires
 sets-at-requires c κs = search needs
 
 returns-4 : tie.Need-returns-4
-returns-4 c = sets-told (c .before .before .before .before .before .before .before .before .before .before .before .before .before .before .before .before
-    .before .before .before .before .before .before .before .before .before .before .before .args .mode)
-    (c .before .before .before .before .before .before .before .before .before .before .before .before .before .before .before .before .before .before .before
-    .before .before .before .before .before .before .before .before .args .text .now)
-    (c .before .before .before .before .before .before .before .before .before .before .before .before .before .before .before .before .before .before .before
-    .before .before .before .before .before .before .before .before .args .e) (sets-are
-    (c .before .before .before .before .before .before .before .before .before .before .before .before .before .before .before .before .before .before .before
-    .before .before .before .before .before .before .before .before .args .mode)
-    (c .before .before .before .before .before .before .before .before .before .before .before .before .before .before .before .before .before .before .before
-    .before .before .before .before .before .before .before .before .args .text .now) _ _ _ _ _ _ _ _
+returns-4 c = sets-told
+    (c .before .before .before .before .before .before .before .before .before .before .before .before .before .before .before .before .before .before .before .before .before
+    .before .before .before .before .before .before .args .mode)
+    (c .before .before .before .before .before .before .before .before .before .before .before .before .before .before .before .before .before .before .before .before .before
+    .before .before .before .before .before .before .args .text .now)
+    (c .before .before .before .before .before .before .before .before .before .before .before .before .before .before .before .before .before .before .before .before .before
+    .before .before .before .before .before .before .args .e) (sets-are
+    (c .before .before .before .before .before .before .before .before .before .before .before .before .before .before .before .before .before .before .before .before .before
+    .before .before .before .before .before .before .args .mode)
+    (c .before .before .before .before .before .before .before .before .before .before .before .before .before .before .before .before .before .before .before .before .before
+    .before .before .before .before .before .before .args .text .now) _ _ _ _ _ _ _ _
     (c .before .before .before .before .before .before .before .before .before .before .before .before .finish .result .rounds)
     ((c .before .before .before .before .before .before .before .before .before .before .before .before .finish .ensures .ready
-    (c .before .before .before .before .before .before .before .before .before .before .before .before .before .before .before .before .before .before .before
-    .before .before .before .before .before .before .before .before .args .mode)
-    (c .before .before .before .before .before .before .before .before .before .before .before .before .before .before .before .before .before .before .before
-    .before .before .before .before .before .before .before .before .args .text .now) _ _ _ _ _
-    (c .before .before .before .before .before .before .before .before .before .before .before .before .before .before .before .before .before .before .before
-    .before .before .before .before .before .load .ensures)
+    (c .before .before .before .before .before .before .before .before .before .before .before .before .before .before .before .before .before .before .before .before .before
+    .before .before .before .before .before .before .args .mode)
+    (c .before .before .before .before .before .before .before .before .before .before .before .before .before .before .before .before .before .before .before .before .before
+    .before .before .before .before .before .before .args .text .now) _ _ _ _ _
+    (c .before .before .before .before .before .before .before .before .before .before .before .before .before .before .before .before .before .before .before .before .before
+    .before .before .before .load .ensures)
     (c .before .before .before .before .before .before .before .before .before .before .before .before .before .before .before .before .analyse .ensures))
     .stands (sym (c .before .before .before .before .before .before .before .before .before .before .is-refused .ensures)
     ∙ c .before .before .before .before .before .before .before .before .before .if1 .left))
-    (c .before .before .before .before .before .before .before .before .before .before .before .before .before .before .before .before .before .before .before
-    .before .before .before .before .before .before .before .before .args .e) (c .before .before .before .before .before .before .before .expressions .result)
+    (c .before .before .before .before .before .before .before .before .before .before .before .before .before .before .before .before .before .before .before .before .before
+    .before .before .before .before .before .before .args .e) (c .before .before .before .before .before .before .before .expressions .result)
     (c .sets-at .result) (c .before .before .before .before .before .before .before .expressions .ensures)
     (c .before .before .before .before .before .before .if2 .left) (omega (arith, c .before .before .before .before .before .if3 .left)) (c .sets-at .ensures))
 

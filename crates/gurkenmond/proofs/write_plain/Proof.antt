@@ -12,10 +12,10 @@ use Rattle.gurkenmond.proofs.write_plain.Lts as lts
 use Rattle.write_put.proofs.not_written.Reads as not-written-reads
 use Rattle.write_put.proofs.put_text.Reads as put-text-reads
 use Rattle.prepare.proofs.is_refused.Reads as is-refused-reads
-use Rattle.prepare.proofs.plainly.Reads as plainly-reads
+use Rattle.prepare.proofs.plain_only.Reads as plain-only-reads
 
-plainly-requires : tie.Need-plainly-requires
-plainly-requires c κs = search needs
+plain-only-requires : tie.Need-plain-only-requires
+plain-only-requires c κs = search needs
 
 is-refused-requires : tie.Need-is-refused-requires
 is-refused-requires c κs = search needs
@@ -24,10 +24,10 @@ not-written-requires : tie.Need-not-written-requires
 not-written-requires c κs = search needs
 
 returns : tie.Need-returns
-returns c = as-text (c .not-written .ensures) (plain-refuses (c .before .before .before .before .before .before .before .before .args .mode)
-    (c .before .before .before .before .before .before .before .before .args .text .now) (c .before .before .before .before .before .before .before .before .args .out .now)
-    (c .before .before .before .before .before .before .before .before .args .out .now) (c .before .before .before .plainly .result)
-    (c .before .before .before .plainly .ensures .answer) (sym (c .before .before .is-refused .ensures) ∙ c .before .if1 .taken) refl)
+returns c = as-text (c .not-written .ensures) (plain-refuses (c .before .before .before .before .before .before .before .args .mode)
+    (c .before .before .before .before .before .before .before .args .text .now) (c .before .before .before .before .before .before .before .args .out .now)
+    (c .before .before .before .before .before .before .before .args .out .now) (c .before .before .before .plain-only .result)
+    (c .before .before .before .plain-only .ensures .answer) (sym (c .before .before .is-refused .ensures) ∙ c .before .if1 .taken) refl)
 
 put-text-requires : tie.Need-put-text-requires
 put-text-requires c κs = search needs
@@ -36,21 +36,21 @@ same-length : tie.Need-same-length
 same-length c = search needs
 
 returns-2 : tie.Need-returns-2
-returns-2 c = plain-puts (c .before .before .before .before .before .before .before .before .before .before .before .before .args .mode)
-    (c .before .before .before .before .before .before .before .before .before .before .before .before .args .text .now)
-    (c .before .before .before .before .before .before .before .before .before .before .before .before .args .out .now) _
-    (bytes-of (c .before .before .before .before .before .before .before .before .before .before .before .before .args .text .now)
-    (λ i h. omega (arith, c .before .before .before .before .before .before .before .before .before .before .before .shared-slice-known .given i)))
-    (c .before .before .before .before .before .before .before .plainly .ensures .clear
+returns-2 c = plain-puts (c .before .before .before .before .before .before .before .before .before .before .before .args .mode)
+    (c .before .before .before .before .before .before .before .before .before .before .before .args .text .now)
+    (c .before .before .before .before .before .before .before .before .before .before .before .args .out .now) _
+    (bytes-of (c .before .before .before .before .before .before .before .before .before .before .before .args .text .now)
+    (λ i h. omega (arith, c .before .before .before .before .before .before .before .before .before .before .shared-slice-known .given i)))
+    (c .before .before .before .before .before .before .before .plain-only .ensures .clear
     (sym (c .before .before .before .before .before .before .is-refused .ensures) ∙ c .before .before .before .before .before .if1 .left)) _ (c .before .before .put-text .result)
-    (c .before .before .before .before .before .before .before .plainly .ensures .plain
+    (c .before .before .before .before .before .before .before .plain-only .ensures .plain
     (sym (c .before .before .before .before .before .before .is-refused .ensures) ∙ c .before .before .before .before .before .if1 .left)) (c .before .before .put-text .ensures)
 
 pub write-plain-spec : {M : Type 1} → statement M
 write-plain-spec =
     tie.close
     (tie.spec
-    plainly-requires
+    plain-only-requires
     is-refused-requires
     not-written-requires
     returns

@@ -1,7 +1,7 @@
 -- The answer of the lake question, from what it comes to on the tables. Assumes nothing.
 use Prim.Native.Nat.{ℕ}
 use mathlib.Core.Path.{_≡_, refl, sym, ap, _∙_}
-use mathlib.Core.Bool.{Bool, true, not, _&&_}
+use mathlib.Core.Bool.{true, not, _&&_}
 use mathlib.Core.List.{List}
 use mathlib.Core.Option.{Option, none, some}
 use lib.ListN.{length}
@@ -11,7 +11,7 @@ use Rattle.grammar.specs.Refusal.{Refusal, refuseIf, _▸_}
 use Rattle.lake_rules.specs.Analysis.{bodyAlt}
 use Rattle.match_ask.specs.declared.LakeAlt.{LakeAlt}
 use Rattle.match_ask.specs.declared.LakeWay.{LakeWay}
-use Rattle.match_ask.specs.steps.Asks.{notAsked, Lent, lent, askedAfter, askedOf, Stood, Asked}
+use Rattle.match_ask.specs.steps.Asks.{notAsked, Lent, lent, askedAfter, askedOf, Stood}
 use Rattle.prepare.specs.declared.Verdict.{Verdict}
 use Rattle.prepare.specs.Prepare.{Prepared, prepared}
 use Rattle.prepare.specs.Reads.{verdictOf, isRefused, readOf}
@@ -51,9 +51,9 @@ module _ (m : Mode) (s i cs : List ℕ) (l q : ℕ) where
       says-by (notAsked v) cs (lakeOf m s i cs l q)
       (ap (λ (v : Verdict). told (lent (notAsked v) cs)) (e ∙ w .2) ∙ sym (ap by-checks (w .1)))
 
-  pub lake-asked : (t out : List ℕ) (a : LakeAlt) → Stood m s t out a → a .symbol ≡ l → (new : List ℕ) (r : LakeWay) → Asked t out a i cs q new r
+  pub lake-asked : (out : List ℕ) (a : LakeAlt) → Stood m s out a → a .symbol ≡ l → (new : List ℕ) (r : LakeWay) → lent r new ≡ askedOf (prepared m s) i cs (a .symbol) q
       → SaysWay r new (lakeOf m s i cs l q)
   unfolding lakeOf
-  lake-asked t out a st e new r w =
+  lake-asked out a st e new r w =
       says-by r new (lakeOf m s i cs l q)
-      (ap told (w .are m s st ∙ ap (λ (k : ℕ). askedOf (prepared m s) i cs k q) e) ∙ asked-says checks (prepared m s) i cs l q ∙ sym (ap by-checks (st .clear)))
+      (ap told (w ∙ ap (λ (k : ℕ). askedOf (prepared m s) i cs k q) e) ∙ asked-says checks (prepared m s) i cs l q ∙ sym (ap by-checks (st .clear)))

@@ -15,7 +15,7 @@ use Rattle.read_tokens.specs.Token.{name}
 use Rattle.read_tokens.specs.declared.Mode.{Mode}
 use Rattle.grammar.specs.Numbers.{Grammar, numbered, isLake}
 use Rattle.grammar.specs.Refusal.{Refusal, refusal, refuseIf, _▸_}
-use Rattle.grammar_table.specs.Table.{symbolCount, terminalCount, nameIn, grammarIn}
+use Rattle.grammar_table.specs.Table.{symbolCount, nameIn, grammarIn}
 use Rattle.grammar_table.specs.Holds.{Holds}
 use Rattle.grammar_table.specs.laws.Lists.{up-length}
 use Rattle.read_syntax.specs.Reading.{rulesOf}
@@ -26,7 +26,7 @@ use Rattle.lake_analysis.specs.steps.Lent.{lakeIn}
 use Rattle.lake_analysis.specs.laws.Skip.{lake-is, alt-is}
 use Rattle.lake_step_two.specs.steps.Stepped.{plainOf}
 use Rattle.lake_calls.specs.laws.Trees.{bodies-are}
-use Rattle.match_cells.specs.steps.Runs.{Plain, Fills}
+use Rattle.match_cells.specs.steps.Runs.{Fills}
 use Rattle.match_lake.specs.Asking.{wayIn}
 use Rattle.match_lake.specs.laws.Tables.{way-is}
 use Rattle.match_run.specs.steps.Runs.{refusesRoom, filledBy}
@@ -42,7 +42,7 @@ use Rattle.match_ask.specs.declared.Way.{Way}
 use Rattle.match_ask.specs.declared.Way.the-variants.{BySkip}
 use Rattle.match_ask.specs.declared.LakeAlt.{LakeAlt}
 use Rattle.match_ask.specs.declared.LakeWay.{LakeWay}
-use Rattle.match_ask.specs.steps.Asks.{notAsked, wayOf, Lent, lent, isLakeOf, isThere, askedAfter, askedOf, noLake, LakeIn, Stood, Looked, Standing, Asked}
+use Rattle.match_ask.specs.steps.Asks.{notAsked, wayOf, Lent, lent, isLakeOf, isThere, askedAfter, askedOf, noLake, LakeIn, Stood, Looked}
 
 -- no smaller number is left
 pub by-skip : (k : ℕ) → (k ≡ 0 → ⊥) → (k ≡ 1 → ⊥) → (k ≡ 2 → ⊥) → BySkip ≡ wayOf k
@@ -113,23 +113,24 @@ module _ (m : Mode) (s : List ℕ) where
     inside : (b : Bool) → (ltb l n && b) ≡ true → l < n
     inside b h = ltb-true l n (and-left (ltb l n) b h)
 
-    pub stood : (r : LakeAlt) → LakeIn mid alts n l r → Stood m s t out r
+    pub stood : (r : LakeAlt) → LakeIn mid alts n l r → Stood m s out r
     stood r w = record {
       clear = st .clear;
-      table = st .table;
       plain = record { holds = st .worked .plain; sound = clear-sound m s (st .clear) };
       there = w .there ∙ there-is ∙ ap (isLakeOf p) (sym (w .symbol));
       alt = λ y. set-is (r .alt) (inside (lakeIn mid l) (sym (w .there) ∙ y)) (w .alt y) ∙ ap (bodyAlt (p .analysis)) (sym (w .symbol));
     }
 
-  module _ (t out : List ℕ) (a : LakeAlt) (st : Stood m s t out a) where
-    pub same-symbols : symbolCount out ≡ symbolCount t
-    same-symbols = symbols-of out _ (st .plain .holds) ∙ sym (symbols-of t g (st .table))
+  module _ (out : List ℕ) (a : LakeAlt) (st : Stood m s out a) where
+    -- the grammar's own table
+    module _ (t : List ℕ) (own : Holds t g) where
+      pub same-symbols : symbolCount out ≡ symbolCount t
+      same-symbols = symbols-of out _ (st .plain .holds) ∙ sym (symbols-of t g own)
 
-    pub within : a .there ≡ true → a .symbol < symbolCount t
-    unfolding prepared preparedBy
-    within h =
-        omega (arith, symbols-of t g (st .table), ltb-true (a .symbol) (length (p .grammar .names)) (and-left (ltb (a .symbol) (length (p .grammar .names))) _ (sym (st .there) ∙ h)))
+      pub within : a .there ≡ true → a .symbol < symbolCount t
+      unfolding prepared preparedBy
+      within h =
+          omega (arith, symbols-of t g own, ltb-true (a .symbol) (length (p .grammar .names)) (and-left (ltb (a .symbol) (length (p .grammar .names))) _ (sym (st .there) ∙ h)))
 
     module _ (i cs : List ℕ) (q : ℕ) where
       abbrev l : ℕ
@@ -165,7 +166,7 @@ module _ (m : Mode) (s : List ℕ) where
             pub behind : length i < q → lent (notAsked (VerdictRefused 14 0)) cs ≡ askedOf p i cs l q
             behind k = not-there (by-parts true false there (lt-leb q (length i) k))
 
-            module _ (in-text : q ≤ length i) (new : List ℕ) (fills : Fills out i cs new) where
+            module _ (in-text : q ≤ length i) (new : List ℕ) (fills : Fills out i cs new) (t : List ℕ) (own : Holds t g) where
               checks : refuseIf (not (isThere p i l q)) 14 0 ≡ none
               checks = ap (λ (b : Bool). refuseIf (not b) 14 0) (by-parts true true there (le-leb q (length i) in-text))
 
@@ -175,12 +176,12 @@ module _ (m : Mode) (s : List ℕ) where
 
               count-is : symbolCount t ≡ length (p .bodies)
               unfolding prepared preparedBy
-              count-is = sym same-symbols ∙ bodies-are out g (plainOf g) (st .plain .holds)
+              count-is = sym (same-symbols t own) ∙ bodies-are out g (plainOf g) (st .plain .holds)
 
               way-all : (w : ℕ) → w ≡ wayIn (grammarIn t) i new (symbolCount t) (a .alt) l q → w ≡ wayIn (p .grammar) i (filledBy (p .bodies) i cs) (length (p .bodies)) (bodyAlt (p .analysis) l) l q
               unfolding prepared preparedBy
               way-all w y =
-                  way-is t g (st .table) (clear-good m s (st .clear) .proper) i new (symbolCount t) (a .alt) l q w y
+                  way-is t g own (clear-good m s (st .clear) .proper) i new (symbolCount t) (a .alt) l q w y
                   ∙ ap (λ (z : List ℕ). wayIn g i new (symbolCount t) z l q) (st .alt there)
                   ∙ ap₂ (λ (cs : List ℕ) (k : ℕ). wayIn g i cs k (bodyAlt (analysis g) l) l q) cells-are count-is
 
@@ -190,7 +191,7 @@ module _ (m : Mode) (s : List ℕ) where
 
 -- ── as the code has it ──
 -- the verdict of a text that is refused, handed on
-pub looked-refused : {m : Mode} {s t out : List ℕ} {l : ℕ} {c : Counted} {r : LakeAlt} → r ≡ noLake l (c .verdict) → c ≡ readOf m s → isRefused (c .verdict) ≡ true → Looked m s t out l r
+pub looked-refused : {m : Mode} {s out : List ℕ} {l : ℕ} {c : Counted} {r : LakeAlt} → r ≡ noLake l (c .verdict) → c ≡ readOf m s → isRefused (c .verdict) ≡ true → Looked m s out l r
 looked-refused e f h = record {
   answer = ap (λ (r : LakeAlt). r .verdict) e ∙ ap (λ (c : Counted). c .verdict) f;
   symbol = ap (λ (r : LakeAlt). r .symbol) e;
@@ -198,7 +199,7 @@ looked-refused e f h = record {
 }
 
 pub looked-accepted : {m : Mode} {s t mid : List ℕ} {ms : List Bool} {sets : List (List ℕ)} {eps : List Bool} {succ alts : List (List ℕ)} {out : List ℕ} {rounds : ℕ} {c : Counted}
-    → Ready m s t mid ms sets eps succ alts out c rounds → isRefused (c .verdict) ≡ false → (n l : ℕ) → n ≡ symbolCount out → (r : LakeAlt) → LakeIn mid alts n l r → Looked m s t out l r
+    → Ready m s t mid ms sets eps succ alts out c rounds → isRefused (c .verdict) ≡ false → (n l : ℕ) → n ≡ symbolCount out → (r : LakeAlt) → LakeIn mid alts n l r → Looked m s out l r
 looked-accepted {m} {s} {t} {mid} {ms} {sets} {eps} {succ} {alts} {out} {rounds} {c} w h n l e r i = record {
   answer = i .verdict ∙ sym (accepted (c .verdict) h) ∙ ap (λ (c : Counted). c .verdict) (w .answer);
   symbol = i .symbol;
@@ -209,39 +210,6 @@ looked-accepted {m} {s} {t} {mid} {ms} {sets} {eps} {succ} {alts} {out} {rounds}
     accepted Accepted z = refl
     accepted (VerdictRefused k q) z = absurd (true≢false z)
 
-module _ {t out : List ℕ} {a : LakeAlt} (w : Standing t out a) where
-  pub standing-same : symbolCount out ≡ symbolCount t
-  standing-same = same-symbols (w .mode) (w .text) t out a (w .stood)
-
-  pub standing-few : symbolCount out ≤ 64
-  standing-few = w .stood .plain .holds .few-symbols
-
-  pub standing-terminals : terminalCount t ≤ 64
-  standing-terminals = w .stood .table .few-terminals
-
-  pub standing-within : a .there ≡ true → a .symbol < symbolCount t
-  standing-within = within (w .mode) (w .text) t out a (w .stood)
-
 -- the same answer beside the same cells
-same : {r r′ : LakeWay} {cs : List ℕ} {x : Lent} → r ≡ r′ → lent r′ cs ≡ x → lent r cs ≡ x
+pub same : {r r′ : LakeWay} {cs : List ℕ} {x : Lent} → r ≡ r′ → lent r′ cs ≡ x → lent r cs ≡ x
 same {cs = cs} e h = ap (λ (r : LakeWay). lent r cs) e ∙ h
-
-module _ {t out : List ℕ} {a : LakeAlt} (i cs : List ℕ) (q : ℕ) where
-  pub asked-long : {r : LakeWay} → r ≡ notAsked (VerdictRefused 9 65535) → 65535 < length i → Asked t out a i cs q cs r
-  asked-long e h = record { are = λ m s st. same e (long m s t out a st i cs q h) }
-
-  module _ (n need : ℕ) (e : n ≡ symbolCount out) (short : length i ≤ 65535) (f : need ≡ n * (length i + 1)) where
-    pub asked-few : {r : LakeWay} → r ≡ notAsked (VerdictRefused 10 need) → length cs < need → Asked t out a i cs q cs r
-    asked-few z h = record { are = λ m s st. same z (few m s t out a st i cs q n need e short f h) }
-
-    module _ (room : need ≤ length cs) where
-      pub asked-other : {r : LakeWay} → r ≡ notAsked (VerdictRefused 14 0) → a .there ≡ false → Asked t out a i cs q cs r
-      asked-other z h = record { are = λ m s st. same z (other m s t out a st i cs q n need e short f room h) }
-
-      module _ (there : a .there ≡ true) where
-        pub asked-behind : {r : LakeWay} → r ≡ notAsked (VerdictRefused 14 0) → length i < q → Asked t out a i cs q cs r
-        asked-behind z k = record { are = λ m s st. same z (behind m s t out a st i cs q n need e short f room there k) }
-
-        pub asked-all : q ≤ length i → (new : List ℕ) → Fills out i cs new → (w : ℕ) (r : Way) → w ≡ wayIn (grammarIn t) i new (symbolCount t) (a .alt) (a .symbol) q → r ≡ wayOf w
-            → Asked t out a i cs q new (record { way = r; verdict = Accepted })
-        asked-all k new fills w r y z = record { are = λ m s st. answered m s t out a st i cs q n need e short f room there k new fills w r y z }

@@ -10,7 +10,6 @@ use Rattle.read_tokens.specs.declared.Mode.{Mode}
 use Rattle.read_tokens.specs.Token.{name}
 use Rattle.grammar.specs.Numbers.{numbered, isLake}
 use Rattle.grammar.specs.Refusal.{Refusal, refuseIf, _▸_}
-use Rattle.grammar_table.specs.Holds.{Holds}
 use Rattle.read_syntax.specs.Reading.{rulesOf}
 use Rattle.base_words.specs.Set.{empty}
 use Rattle.lake_rules.specs.Analysis.{bodyAlt}
@@ -78,26 +77,15 @@ pub record LakeIn (mid : List ℕ) (alts : List (List ℕ)) (n l : ℕ) (r : Lak
   pub alt : r .there ≡ true → r .alt ≡ getD alts (rootIn mid l) empty
   pub verdict : r .verdict ≡ Accepted
 
--- of a text that is accepted: the tables of its grammar and of its plain form, and all that is asked of a symbol
-pub record Stood (m : Mode) (s t out : List ℕ) (r : LakeAlt) : Type 0 where
+-- of a text that is accepted: the table of its plain form, and all that is asked of a symbol
+pub record Stood (m : Mode) (s out : List ℕ) (r : LakeAlt) : Type 0 where
   pub clear : refuses m s ≡ none
-  pub table : Holds t (numbered (rulesOf m s))
   pub plain : Plain out (numbered (rulesOf m s)) (plainOf (numbered (rulesOf m s)))
   pub there : r .there ≡ isLakeOf (prepared m s) (r .symbol)
   pub alt : r .there ≡ true → r .alt ≡ bodyAlt (prepared m s .analysis) (r .symbol)
 
 -- the verdict on a text, and that where it is no refusal
-pub record Looked (m : Mode) (s t out : List ℕ) (l : ℕ) (r : LakeAlt) : Type 0 where
+pub record Looked (m : Mode) (s out : List ℕ) (l : ℕ) (r : LakeAlt) : Type 0 where
   pub answer : r .verdict ≡ readOf m s .verdict
   pub symbol : r .symbol ≡ l
-  pub stood : isRefused (r .verdict) ≡ false → Stood m s t out r
-
--- it is so of some text that is accepted
-pub record Standing (t out : List ℕ) (r : LakeAlt) : Type 0 where
-  pub mode : Mode
-  pub text : List ℕ
-  pub stood : Stood mode text t out r
-
--- for whatever text it is so of
-pub record Asked (t out : List ℕ) (a : LakeAlt) (input cs : List ℕ) (place : ℕ) (new : List ℕ) (r : LakeWay) : Type 0 where
-  pub are : (m : Mode) (s : List ℕ) → Stood m s t out a → lent r new ≡ askedOf (prepared m s) input cs (a .symbol) place
+  pub stood : isRefused (r .verdict) ≡ false → Stood m s out r

@@ -1,72 +1,31 @@
 -- `prepare::plainly` meets its contract. Assumes nothing.
-use mathlib.Core.Path.{_≡_, sym, ap, _∙_}
-use Rattle.read_syntax.specs.declared.syntax.Found.{Found}
-use Rattle.prepare.specs.declared.Counted.{Counted}
-use Rattle.prepare.specs.Reads.{isRefused}
-use Rattle.prepare.specs.laws.Loads.{early, loads-refused}
-use Rattle.prepare.specs.laws.Reads.{first-six, refused-plainly, as-plainly}
+use mathlib.Core.Path.{sym, _∙_}
+use Rattle.prepare.specs.laws.Reads.{with-own, refused-both}
 use borrow.Author.Needs.{needs}
 use Rattle.prepare.proofs.plainly.Statement.{statement}
 use Rattle.prepare.proofs.plainly.Tie as tie
 use Rattle.prepare.proofs.plainly.Reads as reads
 use Rattle.prepare.proofs.plainly.Lts as lts
-use Rattle.prepare.proofs.alternatives.Reads as alternatives-reads
-use Rattle.prepare.proofs.finish.Reads as finish-reads
-use Rattle.prepare.proofs.gather.Reads as gather-reads
 use Rattle.prepare.proofs.is_refused.Reads as is-refused-reads
-use Rattle.prepare.proofs.refusal.Reads as refusal-reads
-use Rattle.prepare.proofs.refusals.refused.Reads as refused-reads
+use Rattle.prepare.proofs.own_again.Reads as own-again-reads
+use Rattle.prepare.proofs.translated.Reads as translated-reads
 
-refused-requires : tie.Need-refused-requires
-refused-requires c κs = search needs
-
-refusal-requires : tie.Need-refusal-requires
-refusal-requires c κs = search needs
-
-returns : tie.Need-returns
-returns c = refused-plainly (c .before .before .before .before .before .args .mode) (c .before .before .before .before .before .args .text .now) _ _ (c .refusal .result)
-    (ap (λ (r : Counted). isRefused (r .verdict)) (c .refusal .ensures))
-    (first-six (c .before .before .before .before .before .args .mode) (c .before .before .before .before .before .args .text .now)
-    (c .before .before .before .before .before .args .t .now) (c .refusal .result)
-    (loads-refused (c .refusal .ensures) (early (c .before .before .before .before .before .args .mode) (c .before .before .before .before .before .args .text .now)
-    (c .before .before .before .refused .result) (c .before .before .before .refused .ensures) (c .before .if1 .taken))) (ap (λ (r : Counted). isRefused (r .verdict)) (c .refusal .ensures)))
-
-gather-requires : tie.Need-gather-requires
-gather-requires c κs = (c .before .before .before .before .before .pre, sym (ap (λ (f : Found). f .number) (c .before .before .before .refused .ensures)) ∙ c .before .if1 .left)
+translated-requires : tie.Need-translated-requires
+translated-requires c κs = search needs
 
 is-refused-requires : tie.Need-is-refused-requires
 is-refused-requires c κs = search needs
 
+returns : tie.Need-returns
+returns c = refused-both (c .before .before .translated .ensures) (sym (c .before .is-refused .ensures) ∙ c .if1 .taken)
+
+own-again-requires : tie.Need-own-again-requires
+own-again-requires c κs = c .before .before .before .translated .ensures .clear (sym (c .before .before .is-refused .ensures) ∙ c .before .if1 .left)
+
 returns-2 : tie.Need-returns-2
-returns-2 c = refused-plainly (c .before .before .before .before .before .before .before .before .args .mode)
-    (c .before .before .before .before .before .before .before .before .args .text .now) _ _ (c .before .before .gather .result)
-    (sym (c .before .is-refused .ensures) ∙ c .if2 .taken) (first-six (c .before .before .before .before .before .before .before .before .args .mode)
-    (c .before .before .before .before .before .before .before .before .args .text .now) _ (c .before .before .gather .result) (c .before .before .gather .ensures)
-    (sym (c .before .is-refused .ensures) ∙ c .if2 .taken))
-
-alternatives-requires : tie.Need-alternatives-requires
-alternatives-requires c κs = search needs
-
-finish-requires : tie.Need-finish-requires
-finish-requires c κs = search needs
-
-returns-3 : tie.Need-returns-3
-returns-3 c = as-plainly (c .before .finish .ensures .ready
-    (c .before .before .before .before .before .before .before .before .before .before .before .before .before .before .before .before .before .args .mode)
-    (c .before .before .before .before .before .before .before .before .before .before .before .before .before .before .before .before .before .args .text
-    .now) _ _ _ _ _ (c .before .before .before .before .before .before .before .before .before .before .before .gather .ensures)
-    (c .before .before .before .before .before .alternatives .ensures .between))
+returns-2 c = with-own (c .before .before .before .before .translated .ensures) (c .own-again .ensures)
 
 pub plainly-spec : {M : Type 1} → statement M
 plainly-spec =
     tie.close
-    (tie.spec
-    refused-requires
-    refusal-requires
-    returns
-    gather-requires
-    is-refused-requires
-    returns-2
-    alternatives-requires
-    finish-requires
-    returns-3)
+    (tie.spec translated-requires is-refused-requires returns own-again-requires returns-2)

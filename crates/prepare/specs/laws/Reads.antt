@@ -38,7 +38,7 @@ use Rattle.prepare.specs.declared.Prepared.{Prepared as Worth}
 use Rattle.prepare.specs.Prepare.{Prepared, prepared, preparedBy, refuses}
 use Rattle.prepare.specs.Reads.{verdictOf, isRefused}
 use Rattle.prepare.specs.Reads.{readBy, readOf}
-use Rattle.prepare.specs.steps.Loads.{readUpTo6, Good, Loads, Worked, Translated, Ready, Plainly}
+use Rattle.prepare.specs.steps.Loads.{readUpTo6, Good, Loads, Worked, Translated, Ready, PlainOnly, Plainly}
 use Rattle.prepare.specs.laws.Loads.{refused, clean, grammar-of, some-none}
 use Rattle.prepare.specs.laws.Translates.{good}
 
@@ -172,13 +172,27 @@ pub refusing : {m : Mode} {s t mid : List ℕ} {ms : List Bool} {sets : List (Li
 refusing {m} {s} {t} {mid} {ms} {sets} {eps} {succ} {alts} {out} {r} p q h e =
     subst (λ (x : Worth). Ready m s t mid ms sets eps succ alts out (x .counted) (x .rounds)) (sym q) (record { answer = e; stands = λ z. absurd (true≢false (sym h ∙ z)) })
 
-pub refused-plainly : (m : Mode) (s t out : List ℕ) (r : Counted) → isRefused (r .verdict) ≡ true → r ≡ readOf m s → Plainly m s t out r
-refused-plainly m s t out r h e =
-    record { answer = e; clear = λ z. absurd (true≢false (sym h ∙ z)); table = λ z. absurd (true≢false (sym h ∙ z)); plain = λ z. absurd (true≢false (sym h ∙ z)) }
+pub refused-plain : (m : Mode) (s out : List ℕ) (r : Counted) → isRefused (r .verdict) ≡ true → r ≡ readOf m s → PlainOnly m s out r
+refused-plain m s out r h e = record { answer = e; clear = λ z. absurd (true≢false (sym h ∙ z)); plain = λ z. absurd (true≢false (sym h ∙ z)) }
 
-pub as-plainly : {m : Mode} {s t mid : List ℕ} {ms : List Bool} {sets : List (List ℕ)} {eps : List Bool} {succ alts : List (List ℕ)} {out : List ℕ} {r : Counted} {rounds : ℕ}
-    → Ready m s t mid ms sets eps succ alts out r rounds → Plainly m s t out r
-as-plainly k = record { answer = k .answer; clear = λ h. k .stands h .clear; table = λ h. k .stands h .table; plain = λ h. k .stands h .worked .plain }
+pub as-plain : {m : Mode} {s t mid : List ℕ} {ms : List Bool} {sets : List (List ℕ)} {eps : List Bool} {succ alts : List (List ℕ)} {out : List ℕ} {r : Counted} {rounds : ℕ}
+    → Ready m s t mid ms sets eps succ alts out r rounds → PlainOnly m s out r
+as-plain k = record { answer = k .answer; clear = λ h. k .stands h .clear; plain = λ h. k .stands h .worked .plain }
+
+-- what is accepted is a grammar's text, which may be gathered again
+module _ (m : Mode) (s : List ℕ) (e : refuses m s ≡ none) where
+  pub none-by-text : refusesText m s ≡ none
+  unfolding rest
+  none-by-text = split (refusesText m s) (tooLarge (bodies m s) ▸ looping (bodies m s)) (sym (as-rest m s) ∙ e) .0
+
+  pub none-by-scan : found (scanned m s) .number ≡ 0
+  none-by-scan = ap (λ (o : Option Refusal). found o .number) (split (scanned m s) (tooMany m (rulesOf m s)) (sym (text-by-scan m s) ∙ none-by-text) .0)
+
+pub with-own : {m : Mode} {s t out : List ℕ} {r : Counted} → PlainOnly m s out r → Holds t (numbered (rulesOf m s)) → Plainly m s t out r
+with-own p h = record { answer = p .answer; clear = p .clear; table = λ _. h; plain = p .plain }
+
+pub refused-both : {m : Mode} {s t out : List ℕ} {r : Counted} → PlainOnly m s out r → isRefused (r .verdict) ≡ true → Plainly m s t out r
+refused-both p h = record { answer = p .answer; clear = p .clear; table = λ z. absurd (true≢false (sym h ∙ z)); plain = p .plain }
 
 module _ (m : Mode) (s t : List ℕ) (r : Counted) (a : Loads m s t r) where
   pub first-six : isRefused (r .verdict) ≡ true → r ≡ readOf m s
@@ -191,7 +205,8 @@ module _ (m : Mode) (s t : List ℕ) (r : Counted) (a : Loads m s t r) where
     abbrev g : Grammar
     g = numbered (rulesOf m s)
 
-    module _ (mid : List ℕ) (ms : List Bool) (sets : List (List ℕ)) (eps : List Bool) (succ alts : List (List ℕ)) (out : List ℕ) (n rounds : ℕ) (tr : Translated t mid ms sets eps succ alts out n rounds) where
+    module _ (mid : List ℕ) (ms : List Bool) (sets : List (List ℕ)) (eps : List Bool) (succ alts : List (List ℕ)) (out : List ℕ) (n rounds : ℕ)
+        (tr : Translated t mid ms sets eps succ alts out n rounds) where
       pub by-seven : 1024 < n → refused 7 1025 ≡ readOf m s
       by-seven l = seven m s ok (tr .over g (a .table ok) (is-good m s ok) l)
 

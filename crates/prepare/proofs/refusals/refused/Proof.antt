@@ -36,9 +36,9 @@ returns-2 c = syntax-refuses (c .before .before .before .before .before .before 
 refused-requires : tie.Need-refused-requires
 refused-requires c κs = omega (
   arith,
-  bound-small (c .before .before .before .before .before .before .args .mode),
-  c .before .before .before .before .text-bound .ensures,
-  c .before .before .before .if1 .left,
+  bound-small (c .before .before .before .before .before .before .before .args .mode),
+  c .before .before .before .before .before .text-bound .ensures,
+  c .before .before .before .before .if1 .left,
 )
 
 sub-refuse : tie.Need-sub-refuse
@@ -48,11 +48,11 @@ refuse-requires-2 : tie.Need-refuse-requires-2
 refuse-requires-2 c κs = search needs
 
 returns-3 : tie.Need-returns-3
-returns-3 c = c .refuse2 .ensures ∙ second-refuses (c .before .before .before .before .before .before .before .before .before .args .mode)
-    (c .before .before .before .before .before .before .before .before .before .args .text .now)
-    (c .before .before .before .before .before .before .before .text-bound .result) (c .before .before .before .before .before .before .before .text-bound .ensures)
-    (omega (arith, c .before .before .before .before .before .before .if1 .left))
-    (c .before .before .before .before .before .offending .result) (c .before .before .before .before .before .offending .ensures) (c .before .before .before .if2 .left)
+returns-3 c = c .refuse2 .ensures ∙ second-refuses (c .before .before .before .before .before .before .before .before .before .before .args .mode)
+    (c .before .before .before .before .before .before .before .before .before .before .args .text .now)
+    (c .before .before .before .before .before .before .before .before .text-bound .result) (c .before .before .before .before .before .before .before .before .text-bound .ensures)
+    (omega (arith, c .before .before .before .before .before .before .before .if1 .left))
+    (c .before .before .before .before .before .before .offending .result) (c .before .before .before .before .before .before .offending .ensures) (c .before .before .before .before .if2 .left)
     (c .before .before .refused .result .second) (c .before .before .refused .ensures .four) (c .before .if3 .taken)
 
 sub-refuse-2 : tie.Need-sub-refuse-2
@@ -62,24 +62,24 @@ refuse-requires-3 : tie.Need-refuse-requires-3
 refuse-requires-3 c κs = search needs
 
 returns-4 : tie.Need-returns-4
-returns-4 c = c .refuse3 .ensures ∙ unruled-refuses (c .before .before .before .before .before .before .before .before .before .before .args .mode)
-    (c .before .before .before .before .before .before .before .before .before .before .args .text .now)
-    (c .before .before .before .before .before .before .before .before .text-bound .result)
-    (c .before .before .before .before .before .before .before .before .text-bound .ensures) (omega (arith, c .before .before .before .before .before .before .before .if1 .left))
-    (c .before .before .before .before .before .before .offending .result) (c .before .before .before .before .before .before .offending .ensures)
-    (c .before .before .before .before .if2 .left) (c .before .before .before .refused .result .second) (c .before .before .before .refused .ensures .four) (c .before .before .if3 .left)
+returns-4 c = c .refuse3 .ensures ∙ unruled-refuses (c .before .before .before .before .before .before .before .before .before .before .before .args .mode)
+    (c .before .before .before .before .before .before .before .before .before .before .before .args .text .now)
+    (c .before .before .before .before .before .before .before .before .before .text-bound .result)
+    (c .before .before .before .before .before .before .before .before .before .text-bound .ensures) (omega (arith, c .before .before .before .before .before .before .before .before .if1 .left))
+    (c .before .before .before .before .before .before .before .offending .result) (c .before .before .before .before .before .before .before .offending .ensures)
+    (c .before .before .before .before .before .if2 .left) (c .before .before .before .refused .result .second) (c .before .before .before .refused .ensures .four) (c .before .before .if3 .left)
     (c .before .before .before .refused .result .unruled) (c .before .before .before .refused .ensures .five (c .before .before .if3 .left)) (c .before .if4 .taken)
 
 refuse-requires-4 : tie.Need-refuse-requires-4
 refuse-requires-4 c κs = search needs
 
 returns-5 : tie.Need-returns-5
-returns-5 c = c .refuse4 .ensures ∙ none-refuses (c .before .before .before .before .before .before .before .before .before .before .args .mode)
-    (c .before .before .before .before .before .before .before .before .before .before .args .text .now)
-    (c .before .before .before .before .before .before .before .before .text-bound .result)
-    (c .before .before .before .before .before .before .before .before .text-bound .ensures) (omega (arith, c .before .before .before .before .before .before .before .if1 .left))
-    (c .before .before .before .before .before .before .offending .result) (c .before .before .before .before .before .before .offending .ensures)
-    (c .before .before .before .before .if2 .left) (c .before .before .before .refused .result .second) (c .before .before .before .refused .ensures .four) (c .before .before .if3 .left)
+returns-5 c = c .refuse4 .ensures ∙ none-refuses (c .before .before .before .before .before .before .before .before .before .before .before .args .mode)
+    (c .before .before .before .before .before .before .before .before .before .before .before .args .text .now)
+    (c .before .before .before .before .before .before .before .before .before .text-bound .result)
+    (c .before .before .before .before .before .before .before .before .before .text-bound .ensures) (omega (arith, c .before .before .before .before .before .before .before .before .if1 .left))
+    (c .before .before .before .before .before .before .before .offending .result) (c .before .before .before .before .before .before .before .offending .ensures)
+    (c .before .before .before .before .before .if2 .left) (c .before .before .before .refused .result .second) (c .before .before .before .refused .ensures .four) (c .before .before .if3 .left)
     (c .before .before .before .refused .result .unruled) (c .before .before .before .refused .ensures .five (c .before .before .if3 .left)) (c .before .if4 .left)
 
 pub refused-spec : {M : Type 1} → statement M

@@ -3,6 +3,7 @@ use mathlib.Core.Path.{_≡_, refl, sym, ap, _∙_, subst}
 use native.Mathlib.Omega.{arith}
 use Prim.Native.Nat.{ℕ}
 use lib.ListN.{length}
+use Rattle.grammar_table.specs.Table.{tableWords}
 use borrow.Author.Tests.{not-true}
 use Rattle.read_order.specs.steps.Order.{within}
 use Rattle.read_names.specs.steps.Lefts.{Swept4, lacks5}
@@ -17,7 +18,7 @@ use Rattle.read_names.proofs.lefts.sweep.Reads as sweep-reads
 use Rattle.read_names.proofs.lefts.uses.Reads as uses-reads
 
 sweep-requires : tie.Need-sweep-requires
-sweep-requires c κs = (c .before .before .pre .0, c .before .before .pre .1, omega arith, knows-none (c .before .before .args .text .now) (c .before .before .args .a .now) _ _ _ 19456)
+sweep-requires c κs = (c .before .before .pre .0, c .before .before .pre .1, omega arith, knows-none (c .before .before .args .text .now) (c .before .before .args .a .now) _ _ _ tableWords)
 
 returns : tie.Need-returns
 returns c = λ z. absurd (z refl)
