@@ -12,8 +12,8 @@ from programs import Programs
 
 SHORT, LONG = 4000, 16000
 RATIO = 4.4
-RUNS = 5
-ASKED = 4
+RUNS, MOST_RUNS = 3, 12  # where it seems to take longer, it is measured again: others use the processors too
+ASKED = 4  # of the long text, and as many bytes of the short one, so that both take the same time
 CASES = [
     ("a body that looks far ahead", "s <- t*\nt <- 'x'* 'y' / .\n"),
     ("a guard that looks far ahead", "s <- t*\nt <- !('x'* 'y') .\n"),
@@ -40,33 +40,42 @@ def nodes(size):
 
 
 def taken(programs, rules, size):
-    """The least processor time of some runs, or what is wrong."""
-    least = None
-    for _ in range(RUNS):
-        before = resource.getrusage(resource.RUSAGE_CHILDREN)
-        try:
-            lines = programs.run("replay", b"", (question(rules, size) * ASKED).encode()).decode().split("\n")[:-1]
-        except subprocess.TimeoutExpired as late:
-            return None, f"{size} bytes: no answer in {late.timeout} s"
-        after = resource.getrusage(resource.RUSAGE_CHILDREN)
-        if len(lines) != ASKED or any(not line.startswith(answer(size)) or not line.endswith(nodes(size)) for line in lines):
-            return None, f"{size} bytes: {lines[0][:60] if lines else 'no answer'}"
-        time = after.ru_utime + after.ru_stime - before.ru_utime - before.ru_stime
-        least = time if least is None else min(least, time)
-    return least, None
+    """The processor time of one run, or what is wrong."""
+    asked = ASKED * LONG // size
+    before = resource.getrusage(resource.RUSAGE_CHILDREN)
+    try:
+        lines = programs.run("replay", b"", (question(rules, size) * asked).encode()).decode().split("\n")[:-1]
+    except subprocess.TimeoutExpired as late:
+        return None, f"{size} bytes: no answer in {late.timeout} s"
+    after = resource.getrusage(resource.RUSAGE_CHILDREN)
+    if len(lines) != asked or any(not line.startswith(answer(size)) or not line.endswith(nodes(size)) for line in lines):
+        return None, f"{size} bytes: {lines[0][:60] if lines else 'no answer'}"
+    return after.ru_utime + after.ru_stime - before.ru_utime - before.ru_stime, None
+
+
+def growth(programs, rules):
+    """How many times as long the long text takes, by the least times of some runs by turns, or what is wrong."""
+    least = {}
+    for run in range(MOST_RUNS):
+        for size in (SHORT, LONG):
+            time, problem = taken(programs, rules, size)
+            if problem:
+                return None, problem
+            least[size] = min(time, least.get(size, time))
+        times = LONG / SHORT * least[LONG] / least[SHORT]
+        if run + 1 >= RUNS and times <= RATIO:
+            return times, None
+        if times > 2 * RATIO:
+            break
+    return times, f"{times:.2f} times as long for {LONG} bytes as for {SHORT}"
 
 
 def main():
     wrong, worst = 0, 0
     with Programs() as programs:
         for name, rules in CASES:
-            short, problem = taken(programs, rules, SHORT)
-            if not problem:
-                long, problem = taken(programs, rules, LONG)
-            if not problem:
-                worst = max(worst, long / short)
-                if long > RATIO * short:
-                    problem = f"{long:.2f} s for {LONG} bytes, {short:.2f} s for {SHORT}"
+            times, problem = growth(programs, rules)
+            worst = max(worst, times or 0)
             wrong += bool(problem)
             if problem:
                 print(f"growth: {name}: {problem}")
