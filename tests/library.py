@@ -231,7 +231,7 @@ def worst_questions():
         questions += [f"match lake {rules} {given} {cells} 4096", f"lake lake {rules} {given} {cells} 1 0", f"lake lake {rules} {given} {cells} 2 0",
                       f"sets lake {rules} 1", f"skip lake {rules}", f"read lake {rules}", f"own lake {rules} 100000", f"plain lake {rules} 200000", f"plain plain {rules} 200000",
                       f"name lake {rules} 1 34", f"name plain {rules} 0 38", f"json lake {rules} {given} {deep} 100000", f"unjson lake {rules} {given} 7b 4096",
-                      f"summary lake {rules} {given} {deep} 64", f"where {given} {len(text)}"]
+                      f"summary lake {rules} {given} {deep} 64", f"where {given} {len(text)}", f"sound {deep} 255 {len(text)}", f"text {given} {deep} 255"]
         firsts.append(expected[0])
     return questions, firsts
 

@@ -8,7 +8,7 @@ use lib.ListN.{getD, set}
 use lib.Seq.{sets}
 use Rattle.grammar.specs.Same.{sameBytes}
 use Rattle.grammar_table.specs.Table.{wordsFrom}
-use Rattle.grammar_table.specs.laws.Compared.{same-cons, same-not}
+use Rattle.grammar_table.specs.laws.Compared.{compared-on, compared-not}
 use Rattle.grammar_table.specs.laws.Words.{words-here, words-at, words-none}
 
 -- ── words ──
@@ -23,11 +23,17 @@ module _ (a : List ℕ) (i : ℕ) (b : List ℕ) (j n : ℕ) where
       rest-by : (x x′ y y′ z z′ : ℕ) → x ≡ x′ → y ≡ y′ → z ≡ z′ → sameBytes (wordsFrom a x z) (wordsFrom b y z) ≡ sameBytes (wordsFrom a x′ z′) (wordsFrom b y′ z′)
       rest-by x x′ y y′ z z′ p q r = rw (p, q, r)
 
+  -- the list that is compared with, its next word in front
+  behind : (k : ℕ) → List ℕ
+  behind k = wordsFrom b (j + (k + 1)) (n - (k + 1))
+
   pub rest-on : (k : ℕ) → k < n → getD a (i + k) 0 ≡ getD b (j + k) 0 → rest a i b j n k ≡ rest a i b j n (k + 1)
-  rest-on k h e = rw (words-at a i k n h, words-at b j k n h) (same-cons (getD a (i + k) 0) (getD b (j + k) 0) (wordsFrom a (i + (k + 1)) (n - (k + 1))) (wordsFrom b (j + (k + 1)) (n - (k + 1))) e)
+  unfolding behind
+  rest-on k h e = ap (sameBytes (wordsFrom a (i + k) (n - k))) (words-at b j k n h) ∙ compared-on a i k n (getD b (j + k) 0) (behind k) h e
 
   pub rest-not : (k : ℕ) → k < n → (getD a (i + k) 0 ≡ getD b (j + k) 0 → ⊥) → rest a i b j n k ≡ false
-  rest-not k h e = rw (words-at a i k n h, words-at b j k n h) (same-not (getD a (i + k) 0) (getD b (j + k) 0) (wordsFrom a (i + (k + 1)) (n - (k + 1))) (wordsFrom b (j + (k + 1)) (n - (k + 1))) e)
+  unfolding behind
+  rest-not k h e = ap (sameBytes (wordsFrom a (i + k) (n - k))) (words-at b j k n h) ∙ compared-not a i k n (getD b (j + k) 0) (behind k) h e
 
   pub rest-end : (k : ℕ) → n ≤ k → rest a i b j n k ≡ true
   unfolding sameBytes

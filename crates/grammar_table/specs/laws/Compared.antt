@@ -11,11 +11,11 @@ use Rattle.grammar_table.specs.steps.Rows.{rowIs}
 use Rattle.grammar_table.specs.laws.Words.{words-at, words-none}
 
 -- ── words ──
-pub same-cons : (x y : ℕ) (s t : List ℕ) → x ≡ y → sameBytes (x ∷ s) (y ∷ t) ≡ sameBytes s t
+same-cons : (x y : ℕ) (s t : List ℕ) → x ≡ y → sameBytes (x ∷ s) (y ∷ t) ≡ sameBytes s t
 unfolding sameBytes
 same-cons x y s t e = ap (λ (b : Bool). b && sameBytes s t) (eq-eqb x y e)
 
-pub same-not : (x y : ℕ) (s t : List ℕ) → (x ≡ y → ⊥) → sameBytes (x ∷ s) (y ∷ t) ≡ false
+same-not : (x y : ℕ) (s t : List ℕ) → (x ≡ y → ⊥) → sameBytes (x ∷ s) (y ∷ t) ≡ false
 unfolding sameBytes
 same-not x y s t e = ap (λ (b : Bool). b && sameBytes s t) (ne-eqb x y e)
 

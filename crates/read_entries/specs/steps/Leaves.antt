@@ -15,7 +15,8 @@ zeros n = replicate n 0
 unfoldable pub spelled : ℕ → ℕ → List ℕ → ℕ → List ℕ
 spelled n z s p = literalFrom n s p ++ zeros z
 
--- what follows a record's kind and length: a class's marks, or a literal's characters and zeros
+-- what follows a record's kind and length (grammar_table, Table.antt): the marks of a class, which is kind 2; the characters of a literal and zeros behind
+-- them; of `.` zeros alone, as of a literal without a character
 unfoldable pub contentWords : List ℕ → ℕ → ℕ → ℕ → List Bool → List ℕ
 contentWords s kind n from marks = cond (eqb kind 2) (map bitOf marks) (spelled n (256 - n) s from)
 
