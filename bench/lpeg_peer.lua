@@ -10,7 +10,7 @@
 --  * LPeg's `#e` keeps e's captures; `&e` makes no nodes. So `&e` is `-(-e)`.
 --  * LPeg refuses a repeat whose part may take nothing; document 01 ends it there and drops that round. So the part becomes `some(e)`:
 --    e where it takes at least a byte, else failure. It is worked out form by form below; a symbol gets a second rule for it, with the
---    same captures. For a lake, `!. / !(a / b) .` becomes `!(a / b) .`; `some` of what cannot be empty is the part itself.
+--    same captures; `some` of what cannot be empty is the part itself.
 local lpeg = require "lpeg"
 local P, R, V, Cc, Cg, Cp, Ct = lpeg.P, lpeg.R, lpeg.V, lpeg.Cc, lpeg.Cg, lpeg.Cp, lpeg.Ct
 lpeg.setmaxstack(1000000)

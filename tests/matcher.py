@@ -1,4 +1,4 @@
-"""An independent reader, translator, writer and matcher of lake grammars, from document 01 alone: small, recursive and slow.
+"""An independent reader, translator, writer and matcher of lake grammars, from documents 01 and 02 (par. 4) alone: small, recursive and slow.
 
 It takes grammars that are in the notation and within the bounds of 01 (refusals 1 to 7 are not its business). An expression is an `Exp`, so that every
 occurrence has an identity of its own; a symbol is its name, a lake's with `<` and `>`.
@@ -137,7 +137,7 @@ class Reader:
         return rules
 
 
-# ── lakes made plain (01) ──
+# ── lakes made plain (01; 02, par. 4) ──
 
 def same_terminal(exp):
     return (exp.op, exp.value)
@@ -160,19 +160,18 @@ class Grammar:
             for exp in leaves(body):
                 if exp.op != "symbol" and same_terminal(exp) not in self.terminals:
                     self.terminals.append(same_terminal(exp))
-        water = self.rules.get("water")
-        self.water = None if plain else water or Exp("!", Exp("any"))
+        self.water = None if plain else self.rules.get("water")
         self.bodies = {name: self.step_one(name) for name in self.symbols}
         self.find_eps()
         self.find_sets()
+        self.stops = {name: self.find_stops(name) for name in self.symbols}
         self.plain = {name: self.step_two(name) for name in self.symbols}
 
     def step_one(self, name):
-        body = self.rules.get(name)
-        if not name.startswith("<"):
-            return body.copy()
-        water = self.water.copy()
-        return Exp("choice", body.copy(), water) if body else water
+        """A nonterminal's right side; a lake's, then water's, as far as there are such: None where there is neither."""
+        parts = [self.rules.get(name), self.water if name.startswith("<") else None]
+        there = [part.copy() for part in parts if part]
+        return Exp("choice", *there) if there[1:] else there[0] if there else None
 
     def has_eps(self, exp):
         if exp.op in ("&", "!", "?", "*"):
@@ -189,7 +188,7 @@ class Grammar:
         self.eps, last = set(), None
         while self.eps != last:
             last = self.eps
-            self.eps = {name for name in self.symbols if self.has_eps(self.bodies[name])}
+            self.eps = {name for name, body in self.bodies.items() if body and self.has_eps(body)}
 
     def beginning(self, exp):
         """Without ε."""
@@ -206,7 +205,8 @@ class Grammar:
     def hand_on(self, exp):
         """What the parts of an expression get from it: (part, SUCCEED, ALT)."""
         if exp.op == "symbol":
-            yield self.bodies[exp.value], exp.succeed, exp.alt
+            if self.bodies[exp.value]:
+                yield self.bodies[exp.value], exp.succeed, exp.alt
         elif exp.op == "sequence":
             a, b = exp.parts
             yield a, self.beginning(b) | (exp.succeed if self.has_eps(b) else set()), exp.alt
@@ -220,33 +220,35 @@ class Grammar:
             again = set() if exp.op == "?" else self.beginning(inner)
             yield inner, exp.succeed | again, exp.alt | exp.succeed
 
+    def expressions(self):
+        return [exp for body in self.bodies.values() if body for exp in body.all()]
+
     def find_sets(self):
         changed = True
         while changed:
             changed = False
-            for body in self.bodies.values():
-                for exp in body.all():
-                    for part, succeed, alt in self.hand_on(exp):
-                        if not (succeed <= part.succeed and alt <= part.alt):
-                            changed = True
-                            part.succeed |= succeed
-                            part.alt |= alt
+            for exp in self.expressions():
+                for part, succeed, alt in self.hand_on(exp):
+                    if not (succeed <= part.succeed and alt <= part.alt):
+                        changed = True
+                        part.succeed |= succeed
+                        part.alt |= alt
 
-    def stops(self, name):
+    def find_stops(self, name):
         """The alternative symbols of a lake, lakes dropped: nonterminals by number, then terminals by number."""
-        alt = self.bodies[name].alt
+        alt = set().union(*[exp.alt for exp in self.expressions() if exp.op == "symbol" and exp.value == name])
         symbols = [Exp("symbol", value=s) for s in self.symbols if s in alt and not s.startswith("<")]
         return symbols + [Exp(op, value=value) for op, value in self.terminals if (op, value) in alt]
 
     def step_two(self, name):
-        body = self.bodies[name].copy()
+        body = self.bodies[name]
         if not name.startswith("<"):
-            return body
+            return body.copy()
         guard = None
-        for stop in self.stops(name):
+        for stop in self.stops[name]:
             guard = Exp("choice", guard, stop) if guard else stop
         skip = Exp("sequence", Exp("!", guard), Exp("any")) if guard else Exp("any")
-        return Exp("choice", body, skip)
+        return Exp("choice", body.copy(), skip) if body else skip
 
     def first_calls(self, exp):
         if exp.op == "symbol":
@@ -366,7 +368,7 @@ class Matcher:
             answer = self.match(body, p) if body else None
             if answer:
                 return way, answer
-        if p < len(self.text) and not any(self.match(stop, p) for stop in self.grammar.stops(name)):
+        if p < len(self.text) and not any(self.match(stop, p) for stop in self.grammar.stops[name]):
             return 3, (p + 1, [])
         return 0, None
 

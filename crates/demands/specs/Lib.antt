@@ -5,5 +5,6 @@ pub mod Texts
 pub mod Rows
 pub mod Checks
 pub mod Meets
+pub mod Before
 pub mod Demands
 pub mod laws

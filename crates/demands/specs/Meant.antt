@@ -10,9 +10,9 @@ use Rattle.read_tokens.specs.declared.Mode.{Mode}
 use Rattle.read_tokens.specs.Token.{name}
 use Rattle.grammar.specs.Exp.{Exp}
 use Rattle.grammar.specs.Numbers.{Grammar, isLake}
-use Rattle.lake_step_one.specs.Intermediate.{waterIn, rightOr}
-use Rattle.lake_rules.specs.Analysis.{Analysis, bodyAlt}
-use Rattle.lake_plain.specs.Plain.{alternatives}
+use Rattle.lake_step_one.specs.Intermediate.{waterIn}
+use Rattle.lake_rules.specs.Analysis.{Analysis, lakeAlt}
+use Rattle.lake_plain.specs.Plain.{alternatives, rightOr}
 use Rattle.match_meaning.specs.Meaning.{SymbolBody, rule, lake, Meant}
 use Rattle.match_eval.specs.Eval.{nowhere}
 use Rattle.prepare.specs.Prepare.{prepared}
@@ -29,7 +29,7 @@ rightAt g r = getD (g .rights) r none
 -- "the s being the nonterminals of ALT(b) by number, then its terminals by number. Lakes in ALT(b) are dropped; only the s are the lake's alternative
 -- symbols, in the match too"
 abbrev pub alternativesAt : Grammar → Analysis → ℕ → List (Exp ℕ)
-alternativesAt g a r = alternatives g (bodyAlt a r)
+alternativesAt g a r = alternatives g (lakeAlt a r)
 
 -- a symbol that there is not matches nowhere
 abbrev pub standsIn : Bool → Grammar → Analysis → ℕ → SymbolBody

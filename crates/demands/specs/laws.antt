@@ -12,6 +12,7 @@ pub mod Refused
 pub mod Late
 pub mod Sets
 pub mod Skips
+pub mod Before
 pub mod Unique
 pub mod Meets
 pub mod MeetsLake

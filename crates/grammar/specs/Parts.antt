@@ -32,8 +32,3 @@ module _ (t : Leaf → ℕ) where
   unfoldable pub partsAll : ℕ → List (Exp ℕ) → List Part
   partsAll o [] = []
   partsAll o (e ∷ es) = partsOf o e ++ partsAll (o + size e) es
-
--- the number of each symbol's body
-unfoldable pub rootsOf : ℕ → List (Exp ℕ) → List ℕ
-rootsOf o [] = []
-rootsOf o (e ∷ es) = last o e ∷ rootsOf (o + size e) es

@@ -15,7 +15,7 @@ use Rattle.grammar.specs.Numbers.{isLake}
 use Rattle.grammar.specs.Refusal.{Refusal, refusal, refuseIf, refuseAt, _▸_}
 use Rattle.base_words.specs.Set.{empty}
 use Rattle.lake_sets.specs.declared.Sets.{Sets}
-use Rattle.lake_rules.specs.Analysis.{Analysis, isExpression, bodyAlt, cannotSkip}
+use Rattle.lake_rules.specs.Analysis.{Analysis, isExpression, lakeAlt, cannotSkip}
 use Rattle.lake_sets.specs.SetsAt.{setsAt}
 use Rattle.lake_plain.specs.Plain.{plainRules}
 use Rattle.lake_plain.specs.Calls.{order}
@@ -145,7 +145,7 @@ lakeAnswer w o cs = record { way = w; verdict = o; cells = cs }
 abbrev pub lakeAfter : Option Refusal → Prepared → List ℕ → List ℕ → ℕ → ℕ → LakeAnswer
 lakeAfter (some r) p s cs l q = lakeAnswer 0 (some r) cs
 lakeAfter none p s cs l q =
-    lakeAnswer (wayIn (p .grammar) s (filled p s cs) (length (p .bodies)) (bodyAlt (p .analysis) l) l q) none (filled p s cs)
+    lakeAnswer (wayIn (p .grammar) s (filled p s cs) (length (p .bodies)) (lakeAlt (p .analysis) l) l q) none (filled p s cs)
 
 unfoldable pub lakeOf : Mode → List ℕ → List ℕ → List ℕ → ℕ → ℕ → LakeAnswer
 lakeOf m t s cs l q =

@@ -5,8 +5,6 @@ ghost use Prim.Native.Nat.{ℕ, _+_, _-_, _*_, _^_, _<_, _≤_};
 ghost use lib.ListN.{length, getD, set, take};
 ghost use Rattle.lake_analysis.specs.steps.Lent.{Begins, Parted, Fronted, SetsOf, lakeIn, hitIn, blockedIn, skipIn, skipsIn, CannotSkip};
 ghost use mathlib.Core.Bool.{cond, _||_};
-ghost use Rattle.lake_sets.specs.steps.Steps.{rootIn};
-ghost use Rattle.base_words.specs.Set.{empty as none};
 use grammar_table::records;
 
 // ε marks by symbol, then BEGINNING of every expression (01, Lakes made plain).
@@ -165,23 +163,13 @@ fn blocked(t: &grammar_table::Table, marks: &[bool], s: [u64; 2], r: usize) -> b
     found
 }
 
-// ALT of the body of symbol n.
-pub fn alt_of(t: &grammar_table::Table, alts: &[[u64; 2]; 1024], n: usize) -> [u64; 2]
-    requires { ⌜ n < 64 ⌝ }
-    ensures { λ r. ⌜ r ≡ getD (now (alts .entry)) (rootIn (now (t .entry)) n) none ⌝ }
-{
-    let i = lake_sets::root(t, n);
-    lake_sets::set_at(alts, i)
-}
-
 // Whether lake n cannot skip.
 fn stuck(t: &grammar_table::Table, marks: &[bool], alts: &[[u64; 2]], r: usize, n: usize) -> bool
     requires { ⌜ (r ≤ 64) × (n < 64) ⌝ }
     ensures { λ u. ⌜ u ≡ skipIn (now (t .entry)) (now (marks .entry)) (now (alts .entry)) r n ⌝ }
 {
     if is_lake(t, n) {
-        let i = lake_sets::root(t, n);
-        let s = lake_sets::set_at(alts, i);
+        let s = lake_sets::alt_of(t, alts, n);
         return blocked(t, marks, s, r);
     }
     false

@@ -1,12 +1,13 @@
--- Step 2: the plain body of each symbol, and the plain grammar with its names (01, Lakes made plain; 01, Writing: "`<x>` is written `lake__x` in plain").
+-- Step 2: the plain body of each symbol, and the plain grammar with its names (01, Lakes made plain; 02, §4; 01, Writing: "`<x>` is written `lake__x` in
+-- plain").
 -- Assumes nothing: these are definitions.
 use Prim.Native.Nat.{ℕ, zero, suc, _+_}
 use mathlib.Core.Bool.{Bool, true, false, not, _&&_}
 use mathlib.Core.List.{List, [], _∷_, _++_}
-use mathlib.Core.Option.{Option}
+use mathlib.Core.Option.{Option, none, some}
 use lib.ListN.{length, getD}
 use lib.Dec.{ltb}
-use Rattle.read_tokens.specs.Token.{Symbol, Leaf, name}
+use Rattle.read_tokens.specs.Token.{Symbol, Leaf, name, any}
 use Rattle.grammar.specs.Exp.{Exp, Rule, sym, ter, size, rename}
 use Rattle.grammar.specs.Numbers.{Grammar, isLake}
 use Rattle.grammar.specs.Lakes.{stepTwo, plainName}
@@ -14,7 +15,7 @@ use Rattle.grammar.specs.Refusal.{Refusal, refuseIf}
 use Rattle.read_tokens.specs.Bounds.{plainBound}
 use Rattle.base_words.specs.Set.{memberOf}
 use Rattle.lake_step_one.specs.Intermediate.{intermediate}
-use Rattle.lake_rules.specs.Analysis.{Analysis, bodyAlt}
+use Rattle.lake_rules.specs.Analysis.{Analysis, lakeAlt}
 
 -- "the nonterminals of ALT(b) by number": those of the names, numbered from i on; "lakes in ALT(b) are dropped"
 unfoldable pub nonterminalsIn : List ℕ → ℕ → List Symbol → List (Exp ℕ)
@@ -30,15 +31,20 @@ terminalsIn s i (x ∷ xs) = elim (memberOf s (64 + i)) [ true ↦ ter x ∷ ter
 unfoldable pub alternatives : Grammar → List ℕ → List (Exp ℕ)
 alternatives g s = nonterminalsIn s 0 (g .names) ++ terminalsIn s 0 (g .terminals)
 
-abbrev pub plainBy : Bool → Exp ℕ → List (Exp ℕ) → Exp ℕ
-plainBy true b ss = stepTwo b ss
-plainBy false b ss = b
+-- a nonterminal's right side; refusal 5 sees to it that there is one
+abbrev pub rightOr : Option (Exp ℕ) → Exp ℕ
+rightOr none = ter any
+rightOr (some e) = e
+
+abbrev pub plainBy : Bool → Option (Exp ℕ) → List (Exp ℕ) → Exp ℕ
+plainBy true o ss = stepTwo o ss
+plainBy false o ss = rightOr o
 
 -- by symbol number, from r on, of the intermediate bodies
-unfoldable pub plainFrom : Grammar → Analysis → ℕ → List Symbol → List (Exp ℕ) → List (Exp ℕ)
-plainFrom g a r [] bs = []
+unfoldable pub plainFrom : Grammar → Analysis → ℕ → List Symbol → List (Option (Exp ℕ)) → List (Exp ℕ)
+plainFrom g a r [] os = []
 plainFrom g a r (h ∷ hs) [] = []
-plainFrom g a r (h ∷ hs) (b ∷ bs) = plainBy (isLake h) b (alternatives g (bodyAlt a r)) ∷ plainFrom g a (suc r) hs bs
+plainFrom g a r (h ∷ hs) (o ∷ os) = plainBy (isLake h) o (alternatives g (lakeAlt a r)) ∷ plainFrom g a (suc r) hs os
 
 unfoldable pub plainBodies : Grammar → Analysis → List (Exp ℕ)
 plainBodies g a = plainFrom g a 0 (g .names) (intermediate g)

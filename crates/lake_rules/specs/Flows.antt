@@ -1,6 +1,6 @@
 -- SUCCEED and ALT (01, Lakes made plain): what each expression gives its parts at once, and what it hands on of its own set.
--- A body "gets the set of each occurrence". Assumes nothing: these are definitions.
-use Prim.Native.Nat.{ℕ, suc}
+-- A body "gets the set of each occurrence"; a lake may have none (02, §4). Assumes nothing: these are definitions.
+use Prim.Native.Nat.{ℕ, zero, suc}
 use mathlib.Core.Bool.{Bool, true, false}
 use mathlib.Core.List.{List, [], _∷_, _++_}
 use lib.ListN.{getD, set, replicate}
@@ -25,7 +25,12 @@ abbrev pub when : {A : Type 0} → Bool → A → List A
 when true x = x ∷ []
 when false x = []
 
--- bs: the beginnings; root: the number of a symbol's body
+-- into a symbol's body by its root: none where it has none
+abbrev pub edgeInto : ℕ → ℕ → List Edge
+edgeInto i zero = []
+edgeInto i (suc e) = edge i e ∷ []
+
+-- bs: the beginnings; root: 0 for a symbol without a body, else 1 + the number of its body
 module _ (bs : ℕ → Beginning) (root : ℕ → ℕ) where
   -- SUCCEED. "In a b: a gets B(b)"; "`*`, `+`: e gets B(e)"
   abbrev pub succeedGifts : ℕ → Part → List Gift
@@ -42,7 +47,7 @@ module _ (bs : ℕ → Beginning) (root : ℕ → ℕ) where
   -- "b gets the sequence's; a .. the sequence's if b has ε. Choice, `?`: parts get the whole's. `*`, `+`: .. the whole's. Under `&` and `!`: nothing"
   abbrev pub succeedEdges : ℕ → Part → List Edge
   succeedEdges i (terminal t) = []
-  succeedEdges i (occurs r) = edge i (root r) ∷ []
+  succeedEdges i (occurs r) = edgeInto i (root r)
   succeedEdges i (sequence a b) = edge i b ∷ when (bs b .eps) (edge i a)
   succeedEdges i (choice a b) = edge i a ∷ edge i b ∷ []
   succeedEdges i (option e) = edge i e ∷ []
@@ -67,7 +72,7 @@ module _ (bs : ℕ → Beginning) (root : ℕ → ℕ) where
   -- and `!`: nothing"
   abbrev pub altEdges : ℕ → Part → List Edge
   altEdges i (terminal t) = []
-  altEdges i (occurs r) = edge i (root r) ∷ []
+  altEdges i (occurs r) = edgeInto i (root r)
   altEdges i (sequence a b) = edge i a ∷ when (bs a .eps) (edge i b)
   altEdges i (choice a b) = edge i a ∷ edge i b ∷ []
   altEdges i (option e) = edge i e ∷ []

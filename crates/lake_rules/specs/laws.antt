@@ -7,3 +7,4 @@ pub mod Rules
 pub mod Marks
 pub mod Beginning
 pub mod Least
+pub mod Uses

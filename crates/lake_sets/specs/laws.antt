@@ -2,4 +2,5 @@
 pub mod Begins
 pub mod Fills
 pub mod Edges
+pub mod Alts
 pub mod Told

@@ -1,15 +1,16 @@
 ghost use mathlib.Core.Path.{_≡_};
-ghost use mathlib.Core.Bool.{Bool, true, false};
+ghost use mathlib.Core.Bool.{Bool, true, false, cond};
 ghost use mathlib.Core.List.{List, [], _∷_};
 ghost use Prim.Native.Nat.{ℕ, _+_, _-_, _*_, _^_, _<_, _≤_};
 ghost use lib.ListN.{length, getD, set, replicate, take};
 ghost use Rattle.base_words.specs.Set.{empty, unionOf};
 ghost use Rattle.grammar_table.specs.Table.{partBy, partIn, upTo, symbolWord};
-ghost use Rattle.lake_rules.specs.Beginning.{nothing, marked, beginBy};
+ghost use Rattle.lake_rules.specs.Beginning.{nothing, marked, rootEps, beginBy};
+ghost use Rattle.lake_rules.specs.Analysis.{isUse, usesAlt};
 ghost use Rattle.lake_sets.specs.steps.Steps.{pairAt, rootIn, Small, Tame, Begun, BegunAll, MarkedOnce, MarkedAll, kept, edgesBy, Grown};
-ghost use Rattle.lake_sets.specs.steps.Steps.{handed, succeedGiven, altGiven, Fine, Gave, FlowedAlong, FlowedFrom, RoundsAsk};
+ghost use Rattle.lake_sets.specs.steps.Steps.{handed, succeedGiven, altGiven, Fine, Gave, FlowedAlong, FlowedFrom, RoundsAsk, altIn};
 ghost use Rattle.lake_rules.specs.laws.Reached.{Flowed};
-ghost use Rattle.lake_rules.specs.Flows.{edge as edgeTo, gift as giftTo, succeedGifts, altGifts, given, when};
+ghost use Rattle.lake_rules.specs.Flows.{edge as edgeTo, edgeInto, gift as giftTo, succeedGifts, altGifts, given, when};
 ghost use Rattle.base_rounds.specs.laws.Sys.{empties, edges, Solved};
 ghost use Rattle.base_rounds.specs.laws.Pair.{Set2};
 ghost use Rattle.base_rounds.specs.laws.Flow.{Inside};
@@ -171,24 +172,27 @@ pub fn begin_all(t: &grammar_table::Table, marks: &[bool], sets: &mut [[u64; 2]]
     }
 }
 
-// The number of the body of symbol r.
-pub fn root(t: &grammar_table::Table, r: usize) -> usize
+// Whether the body of symbol r has ε; a lake without one has none (02, §4).
+fn body_eps(t: &grammar_table::Table, eps: &[bool], r: usize) -> bool
     requires { ⌜ r < 4294967296 ⌝ }
-    ensures { λ u. ⌜ u ≡ rootIn (now (t .entry)) r ⌝ }
+    ensures { λ u. ⌜ u ≡ rootEps (pairAt [] (now (eps .entry))) (rootIn (now (t .entry)) r) ⌝ }
 {
-    let w = records::body(t, r);
-    if w == 0 { 0 } else { w - 1 }
+    let b = records::body(t, r);
+    if b == 0 {
+        return false;
+    }
+    flag_at(eps, b - 1)
 }
 
 // The ε of each symbol's body.
 fn gather(t: &grammar_table::Table, eps: &[bool], marks: &mut [bool])
     requires { ⌜ length (now marks) ≤ 64 ⌝ }
-    ensures { λ u. ⌜ now (marks .exit) ≡ upTo (λ r. getD (now (eps .entry)) (rootIn (now (t .entry)) r) false) (length (now (marks .entry))) ⌝ }
+    ensures { λ u. ⌜ now (marks .exit)
+        ≡ upTo (λ r. rootEps (pairAt [] (now (eps .entry))) (rootIn (now (t .entry)) r)) (length (now (marks .entry))) ⌝ }
 {
     let mut r = 0;
     while r < marks.len() {
-        let i = root(t, r);
-        marks[r] = flag_at(eps, i);
+        marks[r] = body_eps(t, eps, r);
         r += 1;
     }
 }
@@ -296,6 +300,27 @@ fn hand_on(
     add(src, dst, m, from, x, n)
 }
 
+// The edge from one expression into the body of symbol r; none where it has none.
+fn add_body(
+    t: &grammar_table::Table,
+    src: &mut [usize; 2048],
+    dst: &mut [usize; 2048],
+    m: usize,
+    from: usize,
+    r: usize,
+    n: usize,
+) -> usize
+    requires { ⌜ (m < 2048) × (r < 4294967296) ⌝ }
+    ensures { λ u.
+        ⌜ Grown (now (src .entry)) (now (dst .entry)) m (kept n (edgeInto from (rootIn (now (t .entry)) r))) (now (src .exit)) (now (dst .exit)) u ⌝ }
+{
+    let b = records::body(t, r);
+    if b == 0 {
+        return m;
+    }
+    add(src, dst, m, from, b - 1, n)
+}
+
 // The edges of expression e, one of as many as there are ε marks: of SUCCEED where `back`, else of ALT.
 fn hand(
     t: &grammar_table::Table,
@@ -322,8 +347,7 @@ fn hand(
             return m;
         }
         grammar_table::SYMBOL => {
-            let i = root(t, l);
-            return add(src, dst, m, e, i, n);
+            return add_body(t, src, dst, m, e, l, n);
         }
         grammar_table::SEQUENCE => {
             if back {
@@ -589,4 +613,57 @@ pub fn alt_all(
 {
     alt_base(t, sets, eps, succ, base);
     flow(t, eps, false, base, cur)
+}
+
+// Whether expression e is a use of symbol r.
+fn is_use(t: &[u32], e: usize, r: usize) -> bool
+    requires { ⌜ e < 4294967296 ⌝ }
+    ensures { λ u. ⌜ u ≡ isUse (partIn (now (t .entry)) e) r ⌝ }
+{
+    let op = records::op(t, e);
+    if op != grammar_table::SYMBOL {
+        return false;
+    }
+    let l = records::left(t, e);
+    l == r
+}
+
+// The union s, and ALT of expression e where it is a use of symbol r.
+fn join_use(t: &[u32], alts: &[[u64; 2]], r: usize, e: usize, s: [u64; 2]) -> [u64; 2]
+    requires { ⌜ e < 4294967296 ⌝ }
+    ensures { λ u. ⌜ u ≡ cond (isUse (partIn (now (t .entry)) e) r) (unionOf s (getD (now (alts .entry)) e empty)) s ⌝ }
+{
+    if is_use(t, e, r) {
+        let a = set_at(alts, e);
+        return base_words::union(s, a);
+    }
+    s
+}
+
+// The union of ALT over the uses of symbol r among the first n expressions.
+fn uses_alt(t: &[u32], alts: &[[u64; 2]], r: usize, n: usize) -> [u64; 2]
+    requires { ⌜ n < 4294967296 ⌝ }
+    ensures { λ u. ⌜ u ≡ usesAlt (partIn (now (t .entry))) (λ i. getD (now (alts .entry)) i empty) r n ⌝ }
+{
+    let mut s: [u64; 2] = [0, 0];
+    let mut e: usize = 0;
+    while e < n {
+        let u = join_use(t, alts, r, e, s);
+        s = u;
+        e += 1;
+    }
+    s
+}
+
+// ALT of symbol r: of its body, and "without a body .. the union over the lake's occurrences" (02, §4).
+pub fn alt_of(t: &[u32], alts: &[[u64; 2]], r: usize) -> [u64; 2]
+    requires { ⌜ r < 4294967296 ⌝ }
+    ensures { λ u. ⌜ u ≡ altIn (now (t .entry)) (now (alts .entry)) r ⌝ }
+{
+    let b = records::body(t, r);
+    if b == 0 {
+        let n = records::expressions(t);
+        return uses_alt(t, alts, r, n);
+    }
+    set_at(alts, b - 1)
 }

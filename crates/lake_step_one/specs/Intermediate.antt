@@ -1,11 +1,11 @@
--- Step 1: the intermediate body of each symbol (01, Lakes made plain). Assumes nothing: these are definitions.
+-- Step 1: the intermediate body of each symbol (01, Lakes made plain; 02, §4). Assumes nothing: these are definitions.
 use Prim.Native.Nat.{ℕ}
 use mathlib.Core.Bool.{Bool, true, false}
 use mathlib.Core.List.{List, [], _∷_}
-use mathlib.Core.Option.{Option, none, some}
+use mathlib.Core.Option.{Option, none}
 use lib.ListN.{getD}
-use Rattle.read_tokens.specs.Token.{Symbol, name, any}
-use Rattle.grammar.specs.Exp.{Exp, ter}
+use Rattle.read_tokens.specs.Token.{Symbol, name}
+use Rattle.grammar.specs.Exp.{Exp}
 use Rattle.grammar.specs.Same.{sameSymbol, indexOf}
 use Rattle.grammar.specs.Numbers.{Grammar, isLake}
 use Rattle.grammar.specs.Lakes.{stepOne}
@@ -18,20 +18,15 @@ waterName = name (119 ∷ 97 ∷ 116 ∷ 101 ∷ 114 ∷ [])
 unfoldable pub waterIn : Grammar → Option (Exp ℕ)
 waterIn g = getD (g .rights) (indexOf sameSymbol waterName (g .names)) none
 
--- a nonterminal's right side; refusal 5 sees to it that there is one
-abbrev pub rightOr : Option (Exp ℕ) → Exp ℕ
-rightOr none = ter any
-rightOr (some e) = e
-
-abbrev pub intermediateBy : Bool → Option (Exp ℕ) → Option (Exp ℕ) → Exp ℕ
+abbrev pub intermediateBy : Bool → Option (Exp ℕ) → Option (Exp ℕ) → Option (Exp ℕ)
 intermediateBy true w o = stepOne w o
-intermediateBy false w o = rightOr o
+intermediateBy false w o = o
 
--- by symbol number: a nonterminal's right side, and each lake's by step 1
-unfoldable pub bodiesBy : Option (Exp ℕ) → List Symbol → List (Option (Exp ℕ)) → List (Exp ℕ)
+-- by symbol number: a nonterminal's right side, and each lake's by step 1; a lake may have none (02, §4)
+unfoldable pub bodiesBy : Option (Exp ℕ) → List Symbol → List (Option (Exp ℕ)) → List (Option (Exp ℕ))
 bodiesBy w [] os = []
 bodiesBy w (h ∷ hs) [] = []
 bodiesBy w (h ∷ hs) (o ∷ os) = intermediateBy (isLake h) w o ∷ bodiesBy w hs os
 
-unfoldable pub intermediate : Grammar → List (Exp ℕ)
+unfoldable pub intermediate : Grammar → List (Option (Exp ℕ))
 intermediate g = bodiesBy (waterIn g) (g .names) (g .rights)

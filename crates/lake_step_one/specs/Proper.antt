@@ -3,12 +3,13 @@
 use Prim.Native.Nat.{ℕ, _<_}
 use mathlib.Core.Path.{_≡_}
 use mathlib.Core.Bool.{false}
-use mathlib.Core.List.{List, [], _∷_, map}
-use mathlib.Core.Option.{some}
+use mathlib.Core.List.{List, [], _∷_}
+use mathlib.Core.Option.{Option}
 use lib.ListN.{length}
 use Rattle.read_tokens.specs.Token.{Leaf}
 use Rattle.grammar.specs.Exp.{Exp, sym, ter, seq, alt, opt, star, plus, ahead, never}
 use Rattle.grammar.specs.Empty.{emptyLeaf}
+use Rattle.grammar_table.specs.Holds.{present}
 use Rattle.lake_step_one.specs.Intermediate.{intermediate}
 use Rattle.grammar.specs.Numbers.{Grammar, terminalIn}
 
@@ -29,10 +30,18 @@ module _ (number : Leaf → ℕ) (r x : ℕ) where
   SoundAll [] = Unit {0}
   SoundAll (e ∷ es) = Sound e × SoundAll es
 
+-- g with other right sides
+abbrev pub withRights : Grammar → List (Option (Exp ℕ)) → Grammar
+withRights g rights = record { names = g .names; rights = rights; terminals = g .terminals }
+
+-- the intermediate grammar
+abbrev pub middle : Grammar → Grammar
+middle g = withRights g (intermediate g)
+
+-- of the right sides as they are
+abbrev pub ProperIn : Grammar → Type 0
+ProperIn g = SoundAll (terminalIn g) (length (g .names)) (length (g .terminals)) (present (g .rights))
+
 -- of the intermediate grammar
 abbrev pub Proper : Grammar → Type 0
-Proper g = SoundAll (terminalIn g) (length (g .names)) (length (g .terminals)) (intermediate g)
-
--- the intermediate grammar: every symbol has a body
-abbrev pub middle : Grammar → Grammar
-middle g = record { names = g .names; rights = map some (intermediate g); terminals = g .terminals }
+Proper g = ProperIn (middle g)

@@ -4,7 +4,7 @@ ghost use mathlib.Core.List.{List, [], _∷_};
 ghost use Prim.Native.Nat.{ℕ, _+_, _-_, _*_, _^_, _<_, _≤_};
 ghost use lib.ListN.{length, getD, set};
 ghost use lib.Dec.{eqb};
-ghost use Rattle.lake_step_one.specs.steps.Runs.{Near, CopiedOne, CopiedRun, WaterTo, BodyTo};
+ghost use Rattle.lake_step_one.specs.steps.Runs.{Near, CopiedOne, CopiedRun, CopiedBody, BodyTo, EndWord};
 ghost use Rattle.lake_step_one.specs.steps.Runs.{moved as movedTo};
 ghost use Rattle.lake_step_one.specs.steps.Made.{nextBy, lakeAt, MadeNext, WaterAt, SteppedOne, BuiltAll};
 ghost use Rattle.grammar_table.specs.Table.{expressionsAt, symbolWord, nameAt, nameIn};
@@ -82,60 +82,39 @@ pub struct Extent {
     pub end: usize,
 }
 
-// "w is a copy of the right side of `water`, or `!.` where there is no such rule" (01, step 1).
-fn water_copy(t: &[u32], mid: &mut [u32], water: Extent, m: usize) -> usize
-    requires { ⌜ (water .from < 4294967296) × (water .end < 4294967296) × (m < 140737488355328) ⌝ }
-    ensures { λ u. ⌜ (u ≤ m + 4294967296) × WaterTo (now (t .entry)) (water .from) (water .end) (now (mid .entry)) m (now (mid .exit)) u ⌝ }
+// A body, if there is one, copied behind the first m: "Copies are expressions of their own" (01, step 1).
+fn copy_body(t: &[u32], mid: &mut [u32], own: Extent, m: usize) -> usize
+    requires { ⌜ (own .from < 4294967296) × (own .end < 4294967296) × (m < 140737488355328) ⌝ }
+    ensures { λ u. ⌜ (u ≤ m + 4294967296) × CopiedBody (now (t .entry)) (own .from) (own .end) (now (mid .entry)) m (now (mid .exit)) u ⌝ }
 {
-    let a = water.from;
-    let b = water.end;
+    let a = own.from;
+    let b = own.end;
     if b == 0 {
-        records::store_expression(mid, m, grammar_table::TERMINAL, 0, 0);
-        let x = cap(m);
-        records::store_expression(mid, m + 1, grammar_table::NEVER, x, 0);
-        return m + 2;
+        return m;
     }
     let k = span(a, b);
     copy_run(t, mid, a, k, m);
     m + k
 }
 
-// "each lake body becomes `e / w`"; "a lake without a rule becomes `w`".
+// "each lake body becomes `e / w`"; "a lake without a rule becomes `w`" (01); without a `water` rule it "is its own rule or none" (02, §4).
 fn lake_body(t: &[u32], mid: &mut [u32], own: Extent, water: Extent, m: usize) -> usize
     requires { ⌜ (own .from < 4294967296) × (own .end < 4294967296) × (water .from < 4294967296) × (water .end < 4294967296) × (m < 70368744177664) ⌝ }
     ensures { λ u. ⌜ (u ≤ m + 12884901888)
         × BodyTo (now (t .entry)) true (own .from) (own .end) (water .from) (water .end) (now (mid .entry)) m (now (mid .exit)) u ⌝ }
 {
-    let a = own.from;
-    let b = own.end;
-    if b == 0 {
-        return water_copy(t, mid, water, m);
+    let q = copy_body(t, mid, own, m);
+    let p = copy_body(t, mid, water, q);
+    if own.end == 0 {
+        return p;
     }
-    let k = span(a, b);
-    copy_run(t, mid, a, k, m);
-    let q = m + k;
-    let p = water_copy(t, mid, water, q);
+    if water.end == 0 {
+        return p;
+    }
     let x = cap(span(1, q));
     let y = cap(span(1, p));
     records::store_expression(mid, p, grammar_table::CHOICE, x, y);
     p + 1
-}
-
-// A nonterminal's right side.
-fn plain_body(t: &[u32], mid: &mut [u32], own: Extent, m: usize) -> usize
-    requires { ⌜ (own .from < 4294967296) × (own .end < 4294967296) × (m < 70368744177664) ⌝ }
-    ensures { λ u. ⌜ (u ≤ m + 12884901888)
-        × ((wa wb : ℕ) → BodyTo (now (t .entry)) false (own .from) (own .end) wa wb (now (mid .entry)) m (now (mid .exit)) u) ⌝ }
-{
-    let a = own.from;
-    let b = own.end;
-    if b == 0 {
-        records::store_expression(mid, m, grammar_table::TERMINAL, 0, 0);
-        return m + 1;
-    }
-    let k = span(a, b);
-    copy_run(t, mid, a, k, m);
-    m + k
 }
 
 // The intermediate body of one symbol.
@@ -147,7 +126,7 @@ fn body(t: &[u32], mid: &mut [u32], lake: bool, own: Extent, water: Extent, m: u
     if lake {
         return lake_body(t, mid, own, water, m);
     }
-    plain_body(t, mid, own, m)
+    copy_body(t, mid, own, m)
 }
 
 // How far step 1 has come in both tables.
@@ -165,6 +144,16 @@ pub fn next_from(from: usize, b: usize) -> usize
     b
 }
 
+// The word of a body whose expressions, behind the first m, end at p; 0 where there are none.
+fn end_word(m: usize, p: usize) -> usize
+    ensures { λ v. ⌜ (v < 4294967296) × EndWord m p v ⌝ }
+{
+    if p == m {
+        return 0;
+    }
+    cap(p)
+}
+
 // The intermediate body of symbol r, its expressions from `from` on in t, behind the first m.
 fn symbol(t: &[u32], mid: &mut [u32], r: usize, water: Extent, from: usize, m: usize) -> Reached
     requires { ⌜ (r < 64) × (water .from < 4294967296) × (water .end < 4294967296) × (from < 4294967296) × (m < 70368744177664) ⌝ }
@@ -175,7 +164,7 @@ fn symbol(t: &[u32], mid: &mut [u32], r: usize, water: Extent, from: usize, m: u
     let b = records::body(t, r);
     let own = Extent { from: from, end: b };
     let p = body(t, mid, kind != 0, own, water, m);
-    records::store_body(mid, r, cap(p));
+    records::store_body(mid, r, end_word(m, p));
     let f = next_from(from, b);
     Reached { from: f, count: p }
 }

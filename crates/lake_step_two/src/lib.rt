@@ -95,7 +95,7 @@ fn choice(t: &[u32], out: &mut [u32], s: [u64; 2], r: usize, x: usize, m: usize)
     add_terminals(out, s, x, m, p)
 }
 
-// `!(s1 / .. / sn) .`; "With n = 0 it is `b / .`".
+// `!(s1 / .. / sn) .`; "`.` when no alternatives are left" (02, §4).
 fn skip(t: &[u32], out: &mut [u32], s: [u64; 2], r: usize, x: usize, m: usize) -> usize
     requires { ⌜ (r ≤ 64) × (x ≤ 64) × (m < 70368744200000) ⌝ }
     ensures { λ u. ⌜ (u ≤ m + 259) × SkipTo (now (t .entry)) s r x (now (out .entry)) m (now (out .exit)) u ⌝ }
@@ -120,7 +120,7 @@ struct Sizes {
     terminals: usize,
 }
 
-// "Lake body b becomes `b / !(s1 / .. / sn) .`"
+// "Lake body b becomes `b / !(s1 / .. / sn) .`" (01); "or just `!(..) .`" (02, §4).
 fn lake_body(t: &[u32], out: &mut [u32], s: [u64; 2], among: Sizes, own: Extent, m: usize) -> usize
     requires { ⌜ (among .symbols ≤ 64) × (among .terminals ≤ 64) × (own .from < 4294967296) × (own .end < 4294967296) × (m < 70364449210368) ⌝ }
     ensures { λ u. ⌜ (u ≤ m + 4294967556)
@@ -130,6 +130,9 @@ fn lake_body(t: &[u32], out: &mut [u32], s: [u64; 2], among: Sizes, own: Extent,
     let x = among.terminals;
     let a = own.from;
     let b = own.end;
+    if b == 0 {
+        return skip(t, out, s, r, x, m);
+    }
     let k = lake_step_one::span(a, b);
     lake_step_one::copy_run(t, out, a, k, m);
     let q = m + k;
@@ -140,7 +143,24 @@ fn lake_body(t: &[u32], out: &mut [u32], s: [u64; 2], among: Sizes, own: Extent,
     p + 1
 }
 
-// The plain body of one symbol, its intermediate body the run from a to b.
+// A nonterminal's right side; refusal 5 sees to it that there is one.
+fn right_side(t: &[u32], out: &mut [u32], own: Extent, m: usize) -> usize
+    requires { ⌜ (own .from < 4294967296) × (own .end < 4294967296) × (m < 70364449210368) ⌝ }
+    ensures { λ u. ⌜ (u ≤ m + 4294967556)
+        × ((s : List ℕ) (r x : ℕ) → PlainTo (now (t .entry)) false s r x (own .from) (own .end) (now (out .entry)) m (now (out .exit)) u) ⌝ }
+{
+    let a = own.from;
+    let b = own.end;
+    if b == 0 {
+        records::store_expression(out, m, grammar_table::TERMINAL, 0, 0);
+        return m + 1;
+    }
+    let k = lake_step_one::span(a, b);
+    lake_step_one::copy_run(t, out, a, k, m);
+    m + k
+}
+
+// The plain body of one symbol, its intermediate body the run from a to b, if it has one.
 fn body(
     t: &[u32],
     out: &mut [u32],
@@ -157,11 +177,7 @@ fn body(
     if lake {
         return lake_body(t, out, s, among, own, m);
     }
-    let a = own.from;
-    let b = own.end;
-    let k = lake_step_one::span(a, b);
-    lake_step_one::copy_run(t, out, a, k, m);
-    m + k
+    right_side(t, out, own, m)
 }
 
 // The plain body of symbol s, its intermediate expressions from `from` on in t, behind the first m.
@@ -181,8 +197,7 @@ fn symbol(
 {
     let kind = records::kind(t, s);
     let b = records::body(t, s);
-    let e = lake_step_one::span(1, b);
-    let alt = lake_sets::set_at(alts, e);
+    let alt = lake_sets::alt_of(t, alts, s);
     let own = Extent { from: from, end: b };
     let p = body(t, out, kind != 0, alt, among, own, m);
     records::store_body(out, s, lake_step_one::cap(p));

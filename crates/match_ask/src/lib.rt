@@ -72,7 +72,7 @@ fn lake_in(mid: &Table, alts: &[[u64; 2]; 1024], n: usize, symbol: usize) -> Lak
     if !lake_analysis::is_lake(mid, symbol) {
         return no_lake(symbol, Verdict::Accepted);
     }
-    let a = lake_analysis::alt_of(mid, alts, symbol);
+    let a = lake_sets::alt_of(mid, alts, symbol);
     LakeAlt {
         symbol: symbol,
         there: true,

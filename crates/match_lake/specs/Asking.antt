@@ -7,7 +7,6 @@ use lib.ListN.{length, getD}
 use lib.Dec.{ltb, eqb}
 use Rattle.read_tokens.specs.Token.{Symbol, Leaf}
 use Rattle.grammar.specs.Exp.{Exp, sym, ter}
-use Rattle.grammar.specs.Lakes.{waterOf}
 use Rattle.grammar.specs.Numbers.{Grammar, isLake}
 use Rattle.base_words.specs.Set.{memberOf}
 use Rattle.lake_step_one.specs.Intermediate.{waterIn}
@@ -19,6 +18,7 @@ unfoldable pub noneMatches : List ℕ → List ℕ → ℕ → List (Exp ℕ) �
 noneMatches s cs n [] p = true
 noneMatches s cs n (e ∷ es) p = eqb (ev s cs n e p) 0 && noneMatches s cs n es p
 
+-- a right side, if there is one, matches at p
 abbrev pub ownTakes : List ℕ → List ℕ → ℕ → Option (Exp ℕ) → ℕ → Bool
 ownTakes s cs n none p = false
 ownTakes s cs n (some e) p = not (eqb (ev s cs n e p) 0)
@@ -29,7 +29,7 @@ wayNumber s cs n own water ss p =
     elim (ownTakes s cs n own p) [
       | true ↦ 1
       | false ↦
-          elim (ownTakes s cs n (some (waterOf water)) p) [
+          elim (ownTakes s cs n water p) [
             | true ↦ 2
             | false ↦
                 elim (ltb p (length s) && noneMatches s cs n ss p) [ true ↦ 3 | false ↦ 0 ]

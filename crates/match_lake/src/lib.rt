@@ -3,9 +3,7 @@ ghost use Prim.Native.Nat.{ℕ, _+_, _≤_, _<_};
 ghost use mathlib.Core.Path.{_≡_};
 ghost use mathlib.Core.Bool.{Bool, true, false};
 ghost use mathlib.Core.List.{List};
-ghost use mathlib.Core.Option.{some};
 ghost use lib.ListN.{length, drop};
-ghost use Rattle.grammar.specs.Lakes.{waterOf};
 ghost use Rattle.grammar.specs.Same.{sameSymbol, indexOf};
 ghost use Rattle.grammar.specs.Numbers.{isLake};
 ghost use Rattle.grammar_table.specs.Table.{upTo, symbolCount, terminalCount, nameIn, leafIn, bodyBy, grammarIn};
@@ -59,19 +57,13 @@ fn water_body(t: &[u32], n: usize) -> usize
     0
 }
 
-// Whether `water` matches at p: "`!.` where there is no such rule".
+// Whether `water` matches at p: nowhere where there is no such rule (02, §4).
 fn water_takes(t: &Table, s: &[u8], cells: &[u32], mem: &Memory, n: usize, p: usize) -> bool
     requires { ⌜ ((n ≡ symbolCount (now t)) × (n ≤ 64) × (length (now s) ≤ 65535) × (p ≤ length (now s)))
         × Knows (now t) (now s) (now cells) n (now mem) 0 p ⌝ }
-    ensures { λ r. ⌜ r ≡ ownTakes (now (s .entry)) (now (cells .entry)) n (some (waterOf (waterIn (grammarIn (now (t .entry)))))) p ⌝ }
+    ensures { λ r. ⌜ r ≡ ownTakes (now (s .entry)) (now (cells .entry)) n (waterIn (grammarIn (now (t .entry)))) p ⌝ }
 {
     let b = water_body(t, n);
-    if b == 0 {
-        if s.len() <= p {
-            return true;
-        }
-        return false;
-    }
     takes(t, s, cells, mem, n, b, p)
 }
 

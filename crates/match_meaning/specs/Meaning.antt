@@ -97,9 +97,8 @@ pub data Tries (g : Meant) (s : List ℕ) : ℕ → Ask → ℕ → ℕ → List
       → Tries g s d (wet (g .water)) p 0 js → Tries g s d (some-of ss) p 0 is → length s ≤ p → Tries g s d (inside (lake o ss)) p 0 []
   own-none : {d p : ℕ} → Tries g s d (own none) p 0 []
   own-is : {d p x : ℕ} {e : Exp ℕ} {ns : List Node} → Tries g s d (exp e) p x ns → Tries g s d (own (some e)) p x ns
-  -- "`!.` where there is no such rule": then there is water only at the text's end, and it is empty
-  dry-end : {d p : ℕ} → length s ≤ p → Tries g s d (wet none) p 1 []
-  dry : {d p : ℕ} → p < length s → Tries g s d (wet none) p 0 []
+  -- "With no `water` rule, append nothing" (02, §4): then there is no water anywhere, not at the text's end either
+  dry : {d p : ℕ} → Tries g s d (wet none) p 0 []
   -- no node "for `water` where a lake tries its right side"
   wet-is : {d p x : ℕ} {w : Exp ℕ} {ns : List Node} → Tries g s d (exp w) p x ns → Tries g s d (wet (some w)) p x ns
   none-of : {d p : ℕ} → Tries g s d (some-of []) p 0 []
@@ -110,7 +109,7 @@ pub data Tries (g : Meant) (s : List ℕ) : ℕ → Ask → ℕ → ℕ → List
 abbrev pub Derives : Meant → List ℕ → ℕ → Exp ℕ → ℕ → ℕ → List Node → Type 0
 Derives g s d e p x ns = Tries g s d (exp e) p x ns
 
--- a body made plain (01, Lakes made plain, steps 1 and 2)
+-- a body made plain (01, Lakes made plain, steps 1 and 2; 02, §4)
 unfoldable pub plainBody : Option (Exp ℕ) → SymbolBody → Exp ℕ
 plainBody w (rule e) = e
 plainBody w (lake o ss) = stepTwo (stepOne w o) ss

@@ -2,5 +2,6 @@
 pub mod One
 pub mod Shape
 pub mod LakesPlain
+pub mod Ends
 pub mod Assoc
 pub mod Met

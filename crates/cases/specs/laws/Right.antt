@@ -9,9 +9,9 @@ use Rattle.read_tokens.specs.Tokens.{skip, nameSpan, angle, literalBy, among, t
 use Rattle.read_tokens.specs.Tokens.{tokenFrom, tokenAt, lexemesFrom, lexemes, toksOf, toks}
 use Rattle.grammar.specs.Empty.{emptyLeaf, hasEmpty}
 use Rattle.grammar.specs.Exp.{size, rename, symbolsIn, leavesIn}
-use Rattle.grammar.specs.Lakes.{waterOf, stepOne, choiceOf, skipOf, stepTwo, plainName}
+use Rattle.grammar.specs.Lakes.{stepOne, choiceOf, skipOf, stepTwo, plainName}
 use Rattle.grammar.specs.Numbers.{leftSides, usesOf, onlyLakes, looseLakes, symbolsOf, leavesOf, terminalsOf, expressionsOf, numbered}
-use Rattle.grammar.specs.Parts.{partsOf, partsAll, rootsOf}
+use Rattle.grammar.specs.Parts.{partsOf, partsAll}
 use Rattle.grammar.specs.Same.{sameBytes, sameMarks, sameSymbol, sameLeaf, isIn, indexOf, newIn}
 use Rattle.grammar.specs.Syntax.{tokens, choiceToks, seqToks, prefToks, sufToks, primToks}
 use Rattle.grammar_table.specs.Table.{upTo}
@@ -20,9 +20,10 @@ use Rattle.read_syntax.specs.Machine.{close, newRule, after, step, accepting, s
 use Rattle.read_syntax.specs.Reader.{closeBy, primBy, sufBy, prefBy, choiceBy, arrowBy, ruleBy, rulesR, rulesP, choiceP, choiceR, seqP, seqR, prefP, primP}
 use Rattle.read_syntax.specs.Reading.{startsWith, reserved, second, leftsIn, unruled, tooMany, rulesFrom, refusesText, rulesOf}
 use Rattle.base_rounds.specs.Rounds.{settle}
-use Rattle.lake_rules.specs.Analysis.{analysed, analysis, blockedBy, cannotSkipBelow, cannotSkip}
+use Rattle.grammar_table.specs.Holds.{present, rootsFrom}
+use Rattle.lake_rules.specs.Analysis.{analysed, analysisIn, analysis, usesAlt, lakeAlt, blockedBy, cannotSkipBelow, cannotSkip}
 use Rattle.lake_sets.specs.SetsAt.{setsAt}
-use Rattle.lake_rules.specs.Beginning.{markRound, marksOf, beginningsFrom, beginnings}
+use Rattle.lake_rules.specs.Beginning.{markRound, marksBy, marksOf, beginningsFrom, beginnings}
 use Rattle.lake_rules.specs.Flows.{overParts, given, leastBy}
 use Rattle.lake_step_one.specs.Intermediate.{waterIn, bodiesBy, intermediate}
 use Rattle.lake_plain.specs.Calls.{firstCalls, callsOf, allCalled, reach, loopFrom, loop, ranksOf, ofRank, orderFrom, order}
@@ -49,11 +50,11 @@ pub cases-right : map (λ (c : Case). answered (c .asked)) cases ≡ map (λ (c 
 unfolding cases answered text-bytes oneOf ranges kindAt textBound nameBound openBound expressionBound symbolBound terminalBound literalBound
     plainBound inputBound depthBound firstOctal rawFrom nodeWords octals letters four char single dashed listed body skip nameSpan angle literalBy
     among table someTrue classMarks classBy bracket byKind tokenFrom tokenAt lexemesFrom lexemes toksOf toks emptyLeaf hasEmpty size rename
-    symbolsIn leavesIn waterOf stepOne choiceOf skipOf stepTwo plainName leftSides usesOf onlyLakes looseLakes symbolsOf leavesOf terminalsOf
-    expressionsOf numbered partsOf partsAll rootsOf sameBytes sameMarks sameSymbol sameLeaf isIn indexOf newIn tokens choiceToks seqToks prefToks
+    symbolsIn leavesIn stepOne choiceOf skipOf stepTwo plainName leftSides usesOf onlyLakes looseLakes symbolsOf leavesOf terminalsOf
+    expressionsOf numbered partsOf partsAll present rootsFrom sameBytes sameMarks sameSymbol sameLeaf isIn indexOf newIn tokens choiceToks seqToks prefToks
     sufToks primToks upTo trees treeC treeS treeP treeF treeQ close newRule after step accepting stateAfter offendsFrom finish over judge
     placeOf closeBy primBy sufBy prefBy choiceBy arrowBy ruleBy rulesR rulesP choiceP choiceR seqP seqR prefP primP startsWith reserved second leftsIn
-    unruled tooMany rulesFrom refusesText rulesOf settle analysed analysis setsAt blockedBy cannotSkipBelow cannotSkip markRound marksOf
+    unruled tooMany rulesFrom refusesText rulesOf settle analysed analysisIn analysis usesAlt lakeAlt setsAt blockedBy cannotSkipBelow cannotSkip markRound marksBy marksOf
     beginningsFrom beginnings overParts given leastBy waterIn bodiesBy intermediate firstCalls callsOf allCalled reach loopFrom loop ranksOf ofRank
     orderFrom order nonterminalsIn terminalsIn alternatives plainFrom plainBodies sizes rulesBy plainRules bodyTakes rowOf fillOf cells stands leafAt
     cellAt joinOf seqOf altOf stepOf rep plusOf optOf aheadOf neverOf ev seqN altN optN stepN repN walkOf nodeIf nodesOf levels listOf listingOf

@@ -2,7 +2,7 @@
 use Prim.Native.Nat.{ℕ, zero, suc, _≤_}
 use mathlib.Core.Path.{_≡_, refl, ap, ap₂, _∙_, subst}
 use mathlib.Core.Path.{sym as flip}
-use mathlib.Core.Bool.{Bool, true, false, not, cond, _&&_, true≢false, and-false}
+use mathlib.Core.Bool.{Bool, true, false, not, _&&_, true≢false, and-false}
 use mathlib.Core.List.{List, [], _∷_}
 use mathlib.Core.Option.{Option, none, some}
 use native.Mathlib.Omega.{arith}
@@ -14,12 +14,11 @@ use Rattle.read_tokens.specs.Token.{name}
 use Rattle.read_tokens.specs.Bounds.{inputBound}
 use Rattle.read_tokens.specs.declared.Mode.{Mode}
 use Rattle.grammar.specs.Exp.{Exp}
-use Rattle.grammar.specs.Lakes.{waterOf}
 use Rattle.grammar.specs.Numbers.{isLake}
 use Rattle.grammar.specs.Refusal.{Refusal, refuseIf, _▸_}
-use Rattle.match_meaning.specs.Meaning.{lake, Meant, Node, own, wet, some-of, Tries, own-none, own-is, dry-end, dry, wet-is, none-of, this-one, later-one, Derives}
+use Rattle.match_meaning.specs.Meaning.{lake, Meant, Node, own, wet, some-of, Tries, own-none, own-is, dry, wet-is, none-of, this-one, later-one, Derives}
 use Rattle.match_meaning.specs.laws.One.{one}
-use Rattle.match_eval.specs.Eval.{leafAt, neverOf, ev}
+use Rattle.match_eval.specs.Eval.{ev}
 use Rattle.match_cells.specs.laws.Agrees.{Right}
 use Rattle.match_derived.specs.laws.Whole.{Holds, evaluated}
 use Rattle.match_lake.specs.Asking.{noneMatches, ownTakes, wayNumber, wayIn}
@@ -63,14 +62,14 @@ module _ (bodies : List (Exp ℕ)) (g : Meant) (held : Holds bodies g) (s cs : L
   picks false false true = refl
   picks false false false = refl
 
-  as-picked : (o : Option (Exp ℕ)) (ss : List (Exp ℕ)) → number o ss ≡ picked (ownTakes s cs n o q) (ownTakes s cs n (some (waterOf (g .water))) q) (ltb q (length s) && noneMatches s cs n ss q)
+  as-picked : (o : Option (Exp ℕ)) (ss : List (Exp ℕ)) → number o ss ≡ picked (ownTakes s cs n o q) (ownTakes s cs n (g .water) q) (ltb q (length s) && noneMatches s cs n ss q)
   unfolding wayNumber
-  as-picked o ss = picks (ownTakes s cs n o q) (ownTakes s cs n (some (waterOf (g .water))) q) (ltb q (length s) && noneMatches s cs n ss q)
+  as-picked o ss = picks (ownTakes s cs n o q) (ownTakes s cs n (g .water) q) (ltb q (length s) && noneMatches s cs n ss q)
 
-  by-tests : (o : Option (Exp ℕ)) (ss : List (Exp ℕ)) (a b c : Bool) → ownTakes s cs n o q ≡ a → ownTakes s cs n (some (waterOf (g .water))) q ≡ b
+  by-tests : (o : Option (Exp ℕ)) (ss : List (Exp ℕ)) (a b c : Bool) → ownTakes s cs n o q ≡ a → ownTakes s cs n (g .water) q ≡ b
       → (ltb q (length s) && noneMatches s cs n ss q) ≡ c → number o ss ≡ picked a b c
   by-tests o ss a b c x y z =
-      as-picked o ss ∙ ap (λ (i : Bool). picked i (ownTakes s cs n (some (waterOf (g .water))) q) (ltb q (length s) && noneMatches s cs n ss q)) x
+      as-picked o ss ∙ ap (λ (i : Bool). picked i (ownTakes s cs n (g .water) q) (ltb q (length s) && noneMatches s cs n ss q)) x
       ∙ ap₂ (picked a) y z
 
   -- ── each test has its derivation, at every depth ──
@@ -78,15 +77,9 @@ module _ (bodies : List (Exp ℕ)) (g : Meant) (held : Holds bodies g) (s cs : L
   own-tried none d = (0, [], own-none, refl)
   own-tried (some e) d = let w = evaluated bodies g held s cs right e d q in-text in (ev s cs n e q, w .0, own-is (w .1), takes-is (ev s cs n e q))
 
-  dry-tried : (d : ℕ) (b : Bool) → ltb q (length s) ≡ b → (ns : List Node) × Tries g s d (wet none) q (neverOf (cond b 2 0)) ns
-  unfolding neverOf
-  dry-tried d true h = ([], dry (ltb-true q (length s) h))
-  dry-tried d false h = ([], dry-end (ltb-false q (length s) h))
-
-  wet-tried : (w : Option (Exp ℕ)) (d : ℕ) → (ns : List Node) × Tries g s d (wet w) q (ev s cs n (waterOf w) q) ns
-  unfolding waterOf ev leafAt
-  wet-tried none d = dry-tried d (ltb q (length s)) refl
-  wet-tried (some e) d = let w = evaluated bodies g held s cs right e d q in-text in (w .0, wet-is (w .1))
+  wet-tried : (w : Option (Exp ℕ)) (d : ℕ) → (x : ℕ) × (ns : List Node) × Tries g s d (wet w) q x ns × (ownTakes s cs n w q ≡ success x)
+  wet-tried none d = (0, [], dry, refl)
+  wet-tried (some e) d = let w = evaluated bodies g held s cs right e d q in-text in (ev s cs n e q, w .0, wet-is (w .1), takes-is (ev s cs n e q))
 
   some-tried : (ss : List (Exp ℕ)) (d : ℕ) → (x : ℕ) × (ns : List Node) × Tries g s d (some-of ss) q x ns × (noneMatches s cs n ss q ≡ not (success x))
   unfolding noneMatches
@@ -102,8 +95,8 @@ module _ (bodies : List (Exp ℕ)) (g : Meant) (held : Holds bodies g) (s cs : L
     own-is-so : {x : ℕ} {ns : List Node} → Tries g s d (own o) q x ns → ownTakes s cs n o q ≡ success x
     own-is-so t = let w = own-tried o d in w .3 ∙ ap success (one g s (w .2) t .0)
 
-    wet-is-so : {x : ℕ} {ns : List Node} → Tries g s d (wet (g .water)) q x ns → ownTakes s cs n (some (waterOf (g .water))) q ≡ success x
-    wet-is-so t = let w = wet-tried (g .water) d in takes-is (ev s cs n (waterOf (g .water)) q) ∙ ap success (one g s (w .1) t .0)
+    wet-is-so : {x : ℕ} {ns : List Node} → Tries g s d (wet (g .water)) q x ns → ownTakes s cs n (g .water) q ≡ success x
+    wet-is-so t = let w = wet-tried (g .water) d in w .3 ∙ ap success (one g s (w .2) t .0)
 
     some-is-so : {x : ℕ} {ns : List Node} → Tries g s d (some-of ss) q x ns → noneMatches s cs n ss q ≡ not (success x)
     some-is-so t = let w = some-tried ss d in w .3 ∙ ap (λ (x : ℕ). not (success x)) (one g s (w .2) t .0)
@@ -130,7 +123,7 @@ module _ (bodies : List (Exp ℕ)) (g : Meant) (held : Holds bodies g) (s cs : L
     by-wet t (suc x) u = (2, water-takes t u)
 
     by-own : {ns : List Node} → (x : ℕ) → Tries g s d (own o) q x ns → Found
-    by-own zero t = by-wet t (ev s cs n (waterOf (g .water)) q) (wet-tried (g .water) d .1)
+    by-own zero t = by-wet t (wet-tried (g .water) d .0) (wet-tried (g .water) d .2)
     by-own (suc x) t = (1, own-takes t)
 
     way-found : Ways g s d o ss q (number o ss)

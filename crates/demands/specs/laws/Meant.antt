@@ -15,7 +15,7 @@ use Rattle.grammar.specs.Exp.{Exp, Rule, ter}
 use Rattle.grammar.specs.Numbers.{Grammar, isLake, leftSides, looseLakes, symbolsOf, rightBy, numbered}
 use Rattle.read_syntax.specs.Reading.{rulesOf}
 use Rattle.lake_step_one.specs.Intermediate.{waterIn, intermediateBy, intermediate}
-use Rattle.lake_rules.specs.Analysis.{Analysis, analysis, bodyAlt}
+use Rattle.lake_rules.specs.Analysis.{Analysis, analysis, lakeAlt}
 use Rattle.grammar_table.specs.laws.Places.{getD-any}
 use Rattle.lake_step_one.specs.laws.Next.{bodies-at, bodies-long as middle-long}
 use Rattle.lake_plain.specs.Plain.{alternatives, plainBy, plainBodies}
@@ -56,9 +56,9 @@ module _ (g : Grammar) (a : Analysis) (many : length (g .names) ≡ length (g .r
   unfolding plainBodies intermediate
   there r h =
       let mid : length (intermediate g) ≡ length (g .names) = middle-long (waterIn g) (g .names) (g .rights) many in
-      made-plain (isLake (getD (g .names) r (name []))) (waterIn g) (getD (g .rights) r none) (alternatives g (bodyAlt a r))
-      ∙ ap (λ (e : Exp ℕ). plainBy (isLake (getD (g .names) r (name []))) e (alternatives g (bodyAlt a r))) (sym (bodies-at (waterIn g) (g .names) (g .rights) r h (omega (arith, h, many))))
-      ∙ ap (λ (i : ℕ). plainBy (isLake (getD (g .names) r (name []))) (getD (intermediate g) r (ter any)) (alternatives g (bodyAlt a i))) (let q : r ≡ 0 + r = omega arith in q)
+      made-plain (isLake (getD (g .names) r (name []))) (waterIn g) (getD (g .rights) r none) (alternatives g (lakeAlt a r))
+      ∙ ap (λ (o : Option (Exp ℕ)). plainBy (isLake (getD (g .names) r (name []))) o (alternatives g (lakeAlt a r))) (sym (bodies-at (waterIn g) (g .names) (g .rights) r h (omega (arith, h, many))))
+      ∙ ap (λ (i : ℕ). plainBy (isLake (getD (g .names) r (name []))) (getD (intermediate g) r none) (alternatives g (lakeAlt a i))) (let q : r ≡ 0 + r = omega arith in q)
       ∙ sym (plain-at g a (g .names) (intermediate g) 0 r h (omega (arith, h, mid)))
       ∙ getD-any (plainBodies g a) r (ter any) nowhere (omega (arith, h, long))
 

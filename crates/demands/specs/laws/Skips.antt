@@ -16,7 +16,7 @@ use Rattle.grammar.specs.Numbers.{Grammar, isLake}
 use Rattle.base_words.specs.Set.{bit, memberOf}
 use Rattle.base_words.specs.laws.Members.{bit-step}
 use Rattle.lake_rules.specs.Beginning.{marked}
-use Rattle.lake_rules.specs.Analysis.{Analysis, bodyAlt, blockedBy, cannotSkipBelow, cannotSkip}
+use Rattle.lake_rules.specs.Analysis.{Analysis, lakeAlt, blockedBy, cannotSkipBelow, cannotSkip}
 use Rattle.prepare.specs.Prepare.{prepared, refuses}
 use Rattle.gurkenmond.specs.declared.Lakes.{Lakes}
 use Rattle.gurkenmond.specs.Calls.{cannotSkipOf}
@@ -77,7 +77,8 @@ module _ (names : List Symbol) (marks : List Bool) (s : List ℕ) where
   by-blocked : (n x : ℕ) → Blocks names marks s n x → blockedBy names marks s n ≡ true
   unfolding blockedBy
   by-blocked zero x w = absurd (omega (arith, w .within))
-  by-blocked (suc n) x w = go (eq-or-lt-of-le (let q : suc x ≤ suc n = w .within in q)) (λ l. by-blocked n x (record { within = l; member = w .member; nonterminal = w .nonterminal; empty = w .empty }))
+  by-blocked (suc n) x w = go (eq-or-lt-of-le (let q : suc x ≤ suc n = w .within in q))
+      (λ l. by-blocked n x (record { within = l; member = w .member; nonterminal = w .nonterminal; empty = w .empty }))
     where
       go : (suc x ≡ suc n) ⊎ (suc x < suc n) → (x < n → blockedBy names marks s n ≡ true) → (one n || blockedBy names marks s n) ≡ true
       go (inl e) f = let z : x ≡ n = omega (arith, e) in ap (λ (b : Bool). b || blockedBy names marks s n) (subst (λ (y : ℕ). one y ≡ true) z (one-is (suc n) x w))
@@ -86,7 +87,7 @@ module _ (names : List Symbol) (marks : List Bool) (s : List ℕ) where
 -- ── the word ──
 module _ (g : Grammar) (a : Analysis) where
   abbrev test : ℕ → Bool
-  test n = isLake (getD (g .names) n (name [])) && blockedBy (g .names) (a .marks) (bodyAlt a n) (length (g .names))
+  test n = isLake (getD (g .names) n (name [])) && blockedBy (g .names) (a .marks) (lakeAlt a n) (length (g .names))
 
   small : (n : ℕ) → cannotSkipBelow g a n < 2 ^ n
   unfolding cannotSkipBelow
@@ -116,17 +117,17 @@ module _ (g : Grammar) (a : Analysis) where
 
   -- lake l has a nonterminal in ALT whose body has ε
   abbrev pub Cannot : ℕ → Type 0
-  Cannot l = (isLake (getD (g .names) l (name [])) ≡ true) × ((x : ℕ) × Blocks (g .names) (a .marks) (bodyAlt a l) (length (g .names)) x)
+  Cannot l = (isLake (getD (g .names) l (name [])) ≡ true) × ((x : ℕ) × Blocks (g .names) (a .marks) (lakeAlt a l) (length (g .names)) x)
 
-  bit-so : (l : ℕ) → (b c : Bool) → isLake (getD (g .names) l (name [])) ≡ b → blockedBy (g .names) (a .marks) (bodyAlt a l) (length (g .names)) ≡ c → _≡_ {A = ℕ} (cond (b && c) 1 0) 1 → Cannot l
-  bit-so l true true e f z = (e, blocked-by (g .names) (a .marks) (bodyAlt a l) (length (g .names)) f)
+  bit-so : (l : ℕ) → (b c : Bool) → isLake (getD (g .names) l (name [])) ≡ b → blockedBy (g .names) (a .marks) (lakeAlt a l) (length (g .names)) ≡ c → _≡_ {A = ℕ} (cond (b && c) 1 0) 1 → Cannot l
+  bit-so l true true e f z = (e, blocked-by (g .names) (a .marks) (lakeAlt a l) (length (g .names)) f)
   bit-so l true false e f z = absurd (omega (arith, z))
   bit-so l false c e f z = absurd (omega (arith, z))
 
   so-bit : (l : ℕ) → Cannot l → test l ≡ true
   so-bit l w =
-      ap (λ (b : Bool). b && blockedBy (g .names) (a .marks) (bodyAlt a l) (length (g .names))) (w .0)
-      ∙ by-blocked (g .names) (a .marks) (bodyAlt a l) (length (g .names)) (w .1 .0) (w .1 .1)
+      ap (λ (b : Bool). b && blockedBy (g .names) (a .marks) (lakeAlt a l) (length (g .names))) (w .0)
+      ∙ by-blocked (g .names) (a .marks) (lakeAlt a l) (length (g .names)) (w .1 .0) (w .1 .1)
 
   pub skip-bit : (l : ℕ) → l < length (g .names) → (bit (cannotSkip g a) l ≡ 1) ↔ Cannot l
   unfolding cannotSkip

@@ -10,7 +10,7 @@ use lib.ListN.{length, getD, length-append, List·getD-append}
 use lib.Seq.{getD-append-add}
 use Rattle.read_tokens.specs.Token.{Leaf}
 use Rattle.grammar.specs.Exp.{Exp, sym as uses, ter, seq, alt, opt, star, plus, ahead, never, size}
-use Rattle.grammar.specs.Parts.{Part, terminal, occurs, sequence, choice, option, repeat, repeat1, affirms, denies, last, partsOf, partsAll, rootsOf}
+use Rattle.grammar.specs.Parts.{Part, terminal, occurs, sequence, choice, option, repeat, repeat1, affirms, denies, last, partsOf, partsAll}
 use Rattle.grammar_table.specs.Holds.{present, rootsFrom}
 
 pub size-pos : (e : Exp ℕ) → 0 < size e
@@ -71,29 +71,21 @@ module _ (t : Leaf → ℕ) where
     seg-one o m p h e = ap at (let q : m ≡ o + 0 = omega arith in q) ∙ h 0 (omega arith)
 
 -- ---- the numbers of the bodies
-pub roots-long : (es : List (Exp ℕ)) (o : ℕ) → length (rootsOf o es) ≡ length es
-unfolding rootsOf
-roots-long [] o = refl
-roots-long (e ∷ es) o = ap suc (roots-long es (o + size e))
+pub from-long : (os : List (Option (Exp ℕ))) (o : ℕ) → length (rootsFrom o os) ≡ length os
+unfolding rootsFrom
+from-long [] o = refl
+from-long (none ∷ os) o = ap suc (from-long os o)
+from-long (some e ∷ os) o = ap suc (from-long os (o + size e))
 
-pub roots-in : (es : List (Exp ℕ)) (o s : ℕ) → s < length es → getD (rootsOf o es) s 0 < o + total es
-unfolding rootsOf total
-roots-in [] o s h = let z : ⊥ = omega arith in absurd z
-roots-in (e ∷ es) o zero h = omega (arith, size-pos e)
-roots-in (e ∷ es) o (suc s) h = omega (arith, roots-in es (o + size e) s (omega arith))
+pub root-le : (os : List (Option (Exp ℕ))) (o s : ℕ) → getD (rootsFrom o os) s 0 ≤ o + total (present os)
+unfolding rootsFrom present total
+root-le [] o s = omega arith
+root-le (none ∷ os) o zero = omega arith
+root-le (none ∷ os) o (suc s) = root-le os o s
+root-le (some e ∷ os) o zero = omega (arith, size-pos e)
+root-le (some e ∷ os) o (suc s) = omega (arith, root-le os (o + size e) s)
 
 pub present-some : (es : List (Exp ℕ)) → present (map some es) ≡ es
 unfolding present
 present-some [] = refl
 present-some (e ∷ es) = ap (λ (l : List (Exp ℕ)). e ∷ l) (present-some es)
-
-pub from-roots : (es : List (Exp ℕ)) (o s : ℕ) → s < length es → getD (rootsFrom o (map some es)) s 0 - 1 ≡ getD (rootsOf o es) s 0
-unfolding rootsFrom rootsOf
-from-roots [] o s h = let z : ⊥ = omega arith in absurd z
-from-roots (e ∷ es) o zero h = omega arith
-from-roots (e ∷ es) o (suc s) h = from-roots es (o + size e) s (omega arith)
-
-pub from-long : (es : List (Exp ℕ)) (o : ℕ) → length (rootsFrom o (map some es)) ≡ length es
-unfolding rootsFrom
-from-long [] o = refl
-from-long (e ∷ es) o = ap suc (from-long es (o + size e))

@@ -7,7 +7,6 @@ use mathlib.Core.Option.{Option, none, some}
 use lib.Dec.{ltb}
 use lib.ListN.{length, getD}
 use Rattle.read_tokens.specs.declared.Mode.{Mode}
-use Rattle.grammar.specs.Lakes.{waterOf}
 use Rattle.grammar.specs.Numbers.{Grammar}
 use Rattle.grammar.specs.Refusal.{Refusal}
 use Rattle.lake_step_one.specs.Intermediate.{waterIn}
@@ -103,5 +102,5 @@ way-says false false false = refl
 pub way-said : (g : Grammar) (s cs : List ℕ) (n : ℕ) (set : List ℕ) (l p : ℕ) → waySays (wayOf (wayIn g s cs n set l p)) ≡ wayIn g s cs n set l p
 unfolding wayIn wayNumber
 way-said g s cs n set l p =
-    way-says (ownTakes s cs n (getD (g .rights) l none) p) (ownTakes s cs n (some (waterOf (waterIn g))) p)
+    way-says (ownTakes s cs n (getD (g .rights) l none) p) (ownTakes s cs n (waterIn g) p)
     (ltb p (length s) && noneMatches s cs n (alternatives g set) p)

@@ -8,7 +8,7 @@ use lib.ListN.{length}
 use lib.Dec.{leb}
 use Rattle.read_tokens.specs.declared.Mode.{Mode}
 use Rattle.grammar.specs.Refusal.{Refusal, refuseIf, _▸_}
-use Rattle.lake_rules.specs.Analysis.{bodyAlt}
+use Rattle.lake_rules.specs.Analysis.{lakeAlt}
 use Rattle.match_ask.specs.declared.LakeAlt.{LakeAlt}
 use Rattle.match_ask.specs.declared.LakeWay.{LakeWay}
 use Rattle.match_ask.specs.steps.Asks.{notAsked, Lent, lent, askedAfter, askedOf, Stood}
@@ -34,7 +34,7 @@ as-way e s = (ap (λ (x : LakeWay). waySays (x .way)) e ∙ s .0, ap (λ (x : La
 asked-says : (o : Option Refusal) (p : Prepared) (i cs : List ℕ) (l q : ℕ) → told (askedAfter o p i cs l q) ≡ lakeAfter o p i cs l q
 asked-says (some r) p i cs l q = refl
 asked-says none p i cs l q =
-    ap (λ (k : ℕ). lakeAnswer k none (filled p i cs)) (way-said (p .grammar) i (filled p i cs) (length (p .bodies)) (bodyAlt (p .analysis) l) l q)
+    ap (λ (k : ℕ). lakeAnswer k none (filled p i cs)) (way-said (p .grammar) i (filled p i cs) (length (p .bodies)) (lakeAlt (p .analysis) l) l q)
 
 module _ (m : Mode) (s i cs : List ℕ) (l q : ℕ) where
   -- 9, 10, then 14

@@ -10,20 +10,18 @@ use lib.Dec.{leb}
 use borrow.Author.Tests.{le-leb, lt-leb}
 use Rattle.read_tokens.specs.declared.Mode.{Mode}
 use Rattle.grammar.specs.Numbers.{Grammar, numbered}
-use Rattle.grammar.specs.Parts.{Part, partsAll}
+use Rattle.grammar.specs.Parts.{Part}
 use Rattle.grammar_table.specs.Table.{partIn, partsIn, symbolCount, expressionCount}
 use Rattle.grammar_table.specs.Holds.{Holds}
 use Rattle.grammar.specs.Refusal.{Refusal, refuseIf, _▸_}
 use Rattle.read_syntax.specs.Reading.{rulesOf}
 use Rattle.lake_sets.specs.declared.Sets.{Sets}
 use Rattle.lake_step_one.specs.Intermediate.{intermediate}
-use Rattle.lake_rules.specs.Beginning.{marked, marksOf, beginnings}
-use Rattle.lake_rules.specs.Analysis.{Analysis, analysis, analysed, isExpression}
+use Rattle.lake_rules.specs.Beginning.{marked, marksBy, rightEmpty, beginnings}
+use Rattle.lake_rules.specs.Analysis.{Analysis, analysisIn, analysis, analysed, isExpression}
 use Rattle.lake_sets.specs.SetsAt.{setsAt}
-use Rattle.grammar.specs.Numbers.{terminalIn}
 use Rattle.lake_step_one.specs.Proper.{middle}
 use Rattle.lake_rules.specs.laws.Begins.{begins-long}
-use Rattle.grammar_table.specs.laws.Parts.{present-some}
 use Rattle.lake_analysis.specs.steps.Lent.{SetsOf as SetsPromise, CannotSkip}
 use Rattle.prepare.specs.declared.Counted.{Counted}
 use Rattle.prepare.specs.declared.Verdict.{Verdict}
@@ -71,10 +69,10 @@ module _ (m : Mode) (s : List ℕ) where
 
 -- ── as many expressions as the intermediate table holds ──
 long-begins : (g : Grammar) (mid : List ℕ) → Holds mid (middle g) → length (analysis g .begins) ≡ expressionCount mid
-unfolding analysis analysed partsIn
+unfolding analysis analysisIn analysed partsIn
 long-begins g mid h =
-    let e : partsAll (terminalIn g) 0 (intermediate g) ≡ partsIn mid = sym (h .parts ∙ ap (partsAll (terminalIn g) 0) (present-some (intermediate g))) in
-    ap (λ (ps : List Part). length (beginnings (marked (marksOf (intermediate g))) ps)) e ∙ begins-long (marked (marksOf (intermediate g))) (partIn mid) (expressionCount mid)
+    let m : ℕ → Bool = marked (marksBy rightEmpty (intermediate g)) in
+    ap (λ (ps : List Part). length (beginnings m ps)) (sym (h .parts)) ∙ begins-long m (partIn mid) (expressionCount mid)
 
 module _ (m : Mode) (s t mid : List ℕ) (ms : List Bool) (sets : List (List ℕ)) (eps : List Bool) (succ alts : List (List ℕ)) (out : List ℕ) (rounds : ℕ)
     (st : Stands m s t mid ms sets eps succ alts out rounds) where

@@ -15,26 +15,21 @@ use Rattle.lake_analysis.proofs.stuck.Reads as reads
 use Rattle.lake_analysis.proofs.stuck.Lts as lts
 use Rattle.lake_analysis.proofs.blocked.Reads as blocked-reads
 use Rattle.lake_analysis.proofs.is_lake.Reads as is-lake-reads
-use Rattle.lake_sets.proofs.root.Reads as root-reads
-use Rattle.lake_sets.proofs.set_at.Reads as set-at-reads
+use Rattle.lake_sets.proofs.alt_of.Reads as alt-of-reads
 
 is-lake-requires : tie.Need-is-lake-requires
 is-lake-requires c κs = search needs
 
-root-requires : tie.Need-root-requires
-root-requires c κs = search needs
-
-set-at-requires : tie.Need-set-at-requires
-set-at-requires c κs = search needs
+alt-of-requires : tie.Need-alt-of-requires
+alt-of-requires c κs = search needs
 
 blocked-requires : tie.Need-blocked-requires
 blocked-requires c κs = search needs
 
 returns : tie.Need-returns
 returns c = rw (← (c .before .before .before .before .is-lake .ensures), c .before .before .before .if1 .taken)
-    (c .blocked .ensures ∙ ap (λ (s : List ℕ). blockedIn (c .before .before .before .before .before .before .args .t .now)
-    (c .before .before .before .before .before .before .args .marks .now) s (c .before .before .before .before .before .before .args .r))
-    (c .before .set-at .ensures ∙ ap (λ (i : ℕ). getD (c .before .before .before .before .before .before .args .alts .now) i empty) (c .before .before .root .ensures)))
+    (c .blocked .ensures ∙ ap (λ (s : List ℕ). blockedIn (c .before .before .before .before .before .before .args .t .now) (c .before .before .before .before .before .before .args .marks .now) s
+    (c .before .before .before .before .before .before .args .r)) (c .before .alt-of .ensures))
 
 returns-2 : tie.Need-returns-2
 returns-2 c = rw (← (c .before .is-lake .ensures), c .if1 .left)
@@ -42,4 +37,4 @@ returns-2 c = rw (← (c .before .is-lake .ensures), c .if1 .left)
 pub stuck-spec : {M : Type 1} → statement M
 stuck-spec =
     tie.close
-    (tie.spec is-lake-requires root-requires set-at-requires blocked-requires returns returns-2)
+    (tie.spec is-lake-requires alt-of-requires blocked-requires returns returns-2)

@@ -12,21 +12,19 @@ use lib.Dec.{eqb}
 use lib.Pow.{pow-lt}
 use borrow.Author.Tests.{ne-eqb}
 use Rattle.base_facts.specs.laws.Numbers.{lt-or-ge}
-use Rattle.base_words.specs.Set.{memberOf, empty}
+use Rattle.base_words.specs.Set.{memberOf}
 use Rattle.read_tokens.specs.Token.{Symbol, name, lake}
 use Rattle.grammar.specs.Numbers.{Grammar, isLake}
-use Rattle.grammar.specs.Parts.{rootsOf}
 use Rattle.grammar_table.specs.Table.{symbolCount, expressionCount, symbolWord, symbolBy, nameIn, upTo}
 use Rattle.grammar_table.specs.Holds.{Holds}
-use Rattle.lake_step_one.specs.Intermediate.{intermediate}
 use Rattle.lake_rules.specs.Beginning.{marked}
-use Rattle.lake_rules.specs.Analysis.{Analysis, analysed, analysis, bodyAlt, blockedBy, cannotSkipBelow, cannotSkip}
-use Rattle.lake_sets.specs.steps.Steps.{rootIn}
+use Rattle.lake_rules.specs.Analysis.{Analysis, analysis, lakeAlt, blockedBy, cannotSkipBelow, cannotSkip}
+use Rattle.lake_sets.specs.steps.Steps.{altIn}
 use Rattle.lake_step_one.specs.Proper.{Proper, middle}
 use Rattle.lake_sets.specs.steps.Analysed.{Analysed}
 use mathlib.Core.Logic.{_⊎_, ⊎-elim}
 use Rattle.grammar_table.specs.laws.Places.{upTo-at}
-use Rattle.lake_sets.specs.laws.Told.{tame, roots-is}
+use Rattle.lake_sets.specs.laws.Told.{lake-alt-is}
 use Rattle.lake_step_one.specs.laws.Held.{by-kind, names-are}
 use Rattle.lake_analysis.specs.steps.Lent.{lakeIn, hitIn, blockedIn, skipIn, skipsIn}
 
@@ -59,7 +57,8 @@ skips-lt t ms alts r (suc n) = one-more (skipIn t ms alts r n) (skipsIn t ms alt
 pub room : (w n : ℕ) → w < 2 ^ n → n < 64 → w + 2 ^ n < 2 ^ 64
 room w n h l =
     let e : 2 ^ suc n ≡ 2 ^ n * 2 = pow-suc 2 n in
-    ⊎-elim (λ (p : suc n < 64). let m : 2 ^ suc n < 2 ^ 64 = pow-lt p in omega arith) (λ (p : 64 ≤ suc n). let q : suc n ≡ 64 = omega arith in let m : 2 ^ suc n ≡ 2 ^ 64 = ap (λ (j : ℕ). 2 ^ j) q in omega arith) (lt-or-ge (suc n) 64)
+    ⊎-elim (λ (p : suc n < 64). let m : 2 ^ suc n < 2 ^ 64 = pow-lt p in omega arith)
+    (λ (p : 64 ≤ suc n). let q : suc n ≡ 64 = omega arith in let m : 2 ^ suc n ≡ 2 ^ 64 = ap (λ (j : ℕ). 2 ^ j) q in omega arith) (lt-or-ge (suc n) 64)
 
 module _ (t : List ℕ) (g : Grammar) (h : Holds t (middle g)) (proper : Proper g) (ms : List Bool) (sets : List (List ℕ)) (eps : List Bool) (succ alts : List (List ℕ)) (k : ℕ)
     (a : Analysed (analysis g) (take (symbolCount t) ms) sets eps succ (take (expressionCount t) alts) k) where
@@ -81,15 +80,12 @@ module _ (t : List ℕ) (g : Grammar) (h : Holds t (middle g)) (proper : Proper 
   blocked-is s (suc n) l =
       ap₂ _||_ (ap₂ (λ (x y : Bool). memberOf s n && (not x && y)) (lake-is n (omega arith)) (mark-is n (omega arith))) (blocked-is s n (omega arith))
 
-  pub alt-is : (n : ℕ) → n < R → getD alts (rootIn t n) empty ≡ bodyAlt (analysis g) n
-  unfolding analysis analysed
-  alt-is n l =
-      sym (getD-take (expressionCount t) alts (rootIn t n) empty (tame t g h proper .roots n l))
-      ∙ ap₂ (λ (y : List (List ℕ)) (i : ℕ). getD y i empty) (a .alts-is) (roots-is t g h proper n l)
+  pub alt-is : (n : ℕ) → n < R → altIn t alts n ≡ lakeAlt (analysis g) n
+  alt-is = lake-alt-is t g h proper alts (a .alts-is)
 
-  skip-is : (n : ℕ) → n < R → skipIn t ms alts R n ≡ (isLake (getD (g .names) n (name [])) && blockedBy (g .names) (analysis g .marks) (bodyAlt (analysis g) n) R)
+  skip-is : (n : ℕ) → n < R → skipIn t ms alts R n ≡ (isLake (getD (g .names) n (name [])) && blockedBy (g .names) (analysis g .marks) (lakeAlt (analysis g) n) R)
   skip-is n l =
-      ap₂ _&&_ (lake-is n l) (blocked-is (getD alts (rootIn t n) empty) R (omega arith) ∙ ap (λ (s : List ℕ). blockedBy (g .names) (analysis g .marks) s R) (alt-is n l))
+      ap₂ _&&_ (lake-is n l) (blocked-is (altIn t alts n) R (omega arith) ∙ ap (λ (s : List ℕ). blockedBy (g .names) (analysis g .marks) s R) (alt-is n l))
 
   skips-is : (n : ℕ) → n ≤ R → skipsIn t ms alts R n ≡ cannotSkipBelow g (analysis g) n
   unfolding skipsIn cannotSkipBelow

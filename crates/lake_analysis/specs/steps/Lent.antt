@@ -5,14 +5,14 @@ use mathlib.Core.Bool.{Bool, true, false, cond, not, _&&_, _||_}
 use mathlib.Core.List.{List}
 use lib.ListN.{length, getD, take}
 use lib.Dec.{eqb}
-use Rattle.base_words.specs.Set.{memberOf, empty}
+use Rattle.base_words.specs.Set.{memberOf}
 use Rattle.grammar.specs.Numbers.{Grammar}
 use Rattle.grammar_table.specs.Table.{symbolCount, expressionCount, symbolWord}
 use Rattle.grammar_table.specs.Holds.{Holds}
 use Rattle.lake_sets.specs.declared.Sets.{Sets}
 use Rattle.lake_rules.specs.Analysis.{Analysis, analysis, cannotSkip}
 use Rattle.lake_sets.specs.SetsAt.{setsAt}
-use Rattle.lake_sets.specs.steps.Steps.{Tame, marksIn, BegunAll, rootIn}
+use Rattle.lake_sets.specs.steps.Steps.{Tame, marksIn, BegunAll, altIn}
 use Rattle.lake_step_one.specs.Proper.{Proper, middle}
 use Rattle.lake_sets.specs.steps.Analysed.{Analysed}
 
@@ -50,7 +50,7 @@ blockedIn t ms s zero = false
 blockedIn t ms s (suc n) = hitIn t ms s n || blockedIn t ms s n
 
 abbrev pub skipIn : List ℕ → List Bool → List (List ℕ) → ℕ → ℕ → Bool
-skipIn t ms alts r n = lakeIn t n && blockedIn t ms (getD alts (rootIn t n) empty) r
+skipIn t ms alts r n = lakeIn t n && blockedIn t ms (altIn t alts n) r
 
 -- those below n, as a word
 unfoldable pub skipsIn : List ℕ → List Bool → List (List ℕ) → ℕ → ℕ → ℕ

@@ -13,7 +13,7 @@ use Rattle.grammar.specs.Empty.{hasEmpty}
 use Rattle.grammar_table.specs.Holds.{Holds}
 use Rattle.base_rounds.specs.Rounds.{iter}
 use Rattle.grammar.specs.Numbers.{terminalIn}
-use Rattle.lake_rules.specs.Beginning.{marked, markRound, marksOf}
+use Rattle.lake_rules.specs.Beginning.{marked, markRound, marksBy, marksOf}
 use Rattle.lake_step_one.specs.Proper.{Sound, SoundAll}
 use Rattle.grammar_table.specs.laws.Places.{upTo-long, is-upTo}
 use Rattle.lake_step_one.specs.steps.Made.{withBodies}
@@ -30,7 +30,8 @@ sound-at number r x [] d h i l = let z : ⊥ = omega arith in absurd z
 sound-at number r x (e ∷ es) d h zero l = h .0
 sound-at number r x (e ∷ es) d h (suc i) l = sound-at number r x es d (h .1) i (omega arith)
 
-module _ (t : List ℕ) (g : Grammar) (bodies : List (Exp ℕ)) (h : Holds t (withBodies g bodies)) (sound : SoundAll (terminalIn g) (length (g .names)) (length (g .terminals)) bodies) (n : ℕ) (e : n ≡ length bodies) where
+module _ (t : List ℕ) (g : Grammar) (bodies : List (Exp ℕ)) (h : Holds t (withBodies g bodies)) (sound : SoundAll (terminalIn g) (length (g .names)) (length (g .terminals)) bodies) (n : ℕ)
+    (e : n ≡ length bodies) where
   by-body : {A : Type 0} (f : Exp ℕ → A) → upTo (λ i. f (treeOf t (symbolWord t i 1))) n ≡ map f bodies
   by-body f =
       sym (is-upTo (f (ter any)) (λ i. f (treeOf t (symbolWord t i 1))) (map f bodies) n (length-map bodies f ∙ sym e)
@@ -44,16 +45,16 @@ module _ (t : List ℕ) (g : Grammar) (bodies : List (Exp ℕ)) (h : Holds t (wi
   pub names-few : length (g .names) ≤ 64
   names-few = let q : symbolCount t ≡ length (g .names) = sym (upTo-long (nameIn t) (symbolCount t)) ∙ ap length (h .names) in omega (arith, h .few-symbols)
 
-  rounds-are : emptyRound t n ≡ markRound bodies
+  rounds-are : emptyRound t n ≡ markRound hasEmpty bodies
   unfolding markRound
   rounds-are = fun-ext (λ (ms : List Bool). by-body (hasEmpty (marked ms)))
 
   -- the marks are those of the bodies
   pub marks-are : (ms : List Bool) → AllMarks t n ms → ms ≡ marksOf bodies
-  unfolding marksOf
+  unfolding marksOf marksBy
   marks-are ms a =
       a .are (terminalIn g) (length (g .names)) (length (g .terminals)) names-few bodies-sound
-      ∙ ap (λ (f : List Bool → List Bool). iter f (replicate n false) n) rounds-are ∙ ap (λ (k : ℕ). iter (markRound bodies) (replicate k false) k) e
+      ∙ ap (λ (f : List Bool → List Bool). iter f (replicate n false) n) rounds-are ∙ ap (λ (k : ℕ). iter (markRound hasEmpty bodies) (replicate k false) k) e
 
   -- and so are the first calls
   pub calls-are : (ms : List Bool) (calls : List ℕ) → AllMarks t n ms → AllFirsts t (marked ms) n calls → calls ≡ callsOf bodies
@@ -68,7 +69,8 @@ module _ (t : List ℕ) (g : Grammar) (bodies : List (Exp ℕ)) (h : Holds t (wi
       ap (λ (l : List ℕ). placed (length l) (loopFrom l (length l) 0)) c
       ∙ ap (λ (k : ℕ). placed k (loopFrom (callsOf bodies) (length (callsOf bodies)) 0)) (calls-long bodies)
 
-pub looped : (t : List ℕ) (n m at : ℕ) (ms : List Bool) (calls : List ℕ) → m ≡ n → AllMarks t m ms → AllFirsts t (marked ms) n calls → at ≡ placed (length calls) (loopFrom calls (length calls) 0) → Looped t n at
+pub looped : (t : List ℕ) (n m at : ℕ) (ms : List Bool) (calls : List ℕ) → m ≡ n → AllMarks t m ms → AllFirsts t (marked ms) n calls → at ≡ placed (length calls)
+    (loopFrom calls (length calls) 0) → Looped t n at
 looped t n m at ms calls q a c z =
     record { is = λ g bodies h sound e. z ∙ loop-of t g bodies h sound n e calls (calls-are t g bodies h sound n e ms calls (subst (λ (k : ℕ). AllMarks t k ms) q a) c) }
 

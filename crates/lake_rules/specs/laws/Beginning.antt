@@ -10,7 +10,7 @@ use Rattle.base_facts.specs.laws.Bools.{and-parts}
 use Rattle.base_words.specs.Set.{unionOf, symbolSet, terminalSet}
 use Rattle.base_rounds.specs.laws.Pair.{Set2, In2, pair, pair-joins}
 use Rattle.grammar.specs.Parts.{Part, terminal, occurs, sequence, choice, option, repeat, repeat1, affirms, denies}
-use Rattle.lake_rules.specs.Beginning.{Beginning, begin, nothing, beginBy}
+use Rattle.lake_rules.specs.Beginning.{Beginning, begin, nothing, rootEps, beginBy}
 use Rattle.lake_rules.specs.laws.Wholes.{Ok}
 use Rattle.lake_rules.specs.laws.Begins.{upBegins, begins-rule, begins-long}
 use Rattle.lake_rules.specs.laws.Reached.{begins-good}
@@ -37,7 +37,7 @@ module _ (r x : ℕ) where
   right-of false a b g h e = absurd (false≢true e)
 
   -- what the rule gives the whole satisfies it, where a symbol is marked if its body has ε
-  solves-rule : (root : ℕ → ℕ) (m : ℕ → Bool) (at : ℕ → Beginning) → ((j : ℕ) → Good (at j .set)) → ((s : ℕ) → s < r → Imp (at (root s) .eps) (m s))
+  solves-rule : (root : ℕ → ℕ) (m : ℕ → Bool) (at : ℕ → Beginning) → ((j : ℕ) → Good (at j .set)) → ((s : ℕ) → s < r → Imp (rootEps at (root s)) (m s))
       → (i : ℕ) (p : Part) → Ok r x i p → at i ≡ beginBy m at p → BeginRule root at i p
   solves-rule root m at good has i (terminal t) k e = subst (λ (w : Beginning). In2 (terminalSet t) (w .set)) (sym e) (all-in (terminalSet t))
   solves-rule root m at good has i (occurs s) k e =
@@ -58,7 +58,7 @@ module _ (r x : ℕ) where
 
   -- ── it lies within every solution ──
   -- of the whole, if of its parts, and if a symbol that is marked has a body with ε in the solution
-  module _ (root : ℕ → ℕ) (m : ℕ → Bool) (at y : ℕ → Beginning) (good : (j : ℕ) → Good (at j .set)) (marks : (s : ℕ) → s < r → Imp (m s) (y (root s) .eps)) where
+  module _ (root : ℕ → ℕ) (m : ℕ → Bool) (at y : ℕ → Beginning) (good : (j : ℕ) → Good (at j .set)) (marks : (s : ℕ) → s < r → Imp (m s) (rootEps y (root s))) where
     both-in : (c : Bool) (a b z : List ℕ) → Good a → Good b → In2 a z → (c ≡ true → In2 b z) → In2 (cond c (unionOf a b) a) z
     both-in true a b z g h p q = pair-joins r x .join-least a b z g h p (q refl)
     both-in false a b z g h p q = p
@@ -90,7 +90,8 @@ module _ (r x : ℕ) where
     abbrev begins : (ℕ → Bool) → ℕ → Beginning
     begins m i = getD (upBegins m part n) i nothing
 
-    module _ (m : ℕ → Bool) (y : List Beginning) (sol : Solves (λ b. Good (b .set)) nothing n part (BeginRule root) y) (marks : (s : ℕ) → s < r → Imp (m s) (getD y (root s) nothing .eps)) where
+    module _ (m : ℕ → Bool) (y : List Beginning) (sol : Solves (λ b. Good (b .set)) nothing n part (BeginRule root) y)
+        (marks : (s : ℕ) → s < r → Imp (m s) (rootEps (λ j. getD y j nothing) (root s))) where
       -- parts before wholes
       below : (k i : ℕ) → i < k → i < n → InB (begins m i) (getD y i nothing)
       below zero i h l = absurd (omega arith)
@@ -103,8 +104,8 @@ module _ (r x : ℕ) where
       begins-within i l = below (suc i) i (omega arith) l
 
     -- marks that are just the ε of the bodies, and are ε of the bodies in every solution
-    pub least-by-marks : (m : ℕ → Bool) → ((s : ℕ) → s < r → Imp (begins m (root s) .eps) (m s))
-        → ((y : List Beginning) → Solves (λ b. Good (b .set)) nothing n part (BeginRule root) y → (s : ℕ) → s < r → Imp (m s) (getD y (root s) nothing .eps))
+    pub least-by-marks : (m : ℕ → Bool) → ((s : ℕ) → s < r → Imp (rootEps (begins m) (root s)) (m s))
+        → ((y : List Beginning) → Solves (λ b. Good (b .set)) nothing n part (BeginRule root) y → (s : ℕ) → s < r → Imp (m s) (rootEps (λ j. getD y j nothing) (root s)))
         → LeastBegin r x n part root (upBegins m part n)
     least-by-marks m has least = record {
       solves = record {

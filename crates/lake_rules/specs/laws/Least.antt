@@ -4,6 +4,7 @@ use Prim.Native.Nat.{ℕ, zero, suc, _+_, _*_, _≤_, _<_}
 use mathlib.Core.Path.{_≡_, refl, sym, ap, _∙_, subst}
 use mathlib.Core.Bool.{Bool, true, false}
 use mathlib.Core.List.{List, []}
+use mathlib.Core.Option.{Option, none}
 use native.Mathlib.Omega.{arith}
 use native.Mathlib.Numerals.{add-one}
 use lib.ListN.{length, getD, replicate}
@@ -17,29 +18,28 @@ use Rattle.base_rounds.specs.laws.Cells.{Every, cells}
 use Rattle.base_rounds.specs.laws.Pair.{Set2, pair, pair-joins}
 use Rattle.base_rounds.specs.laws.Flow.{Inside, flow-fine, flow-mono}
 use Rattle.base_rounds.specs.laws.Run.{sets-sound, sets-whole}
-use Rattle.read_tokens.specs.Token.{any}
-use Rattle.grammar.specs.Exp.{Exp, ter}
-use Rattle.grammar.specs.Empty.{hasEmpty}
+use Rattle.grammar.specs.Exp.{Exp}
 use Rattle.grammar.specs.Numbers.{Grammar}
-use Rattle.grammar.specs.Parts.{Part, terminal, occurs, sequence, choice, option, repeat, repeat1, affirms, denies, partsAll, rootsOf}
+use Rattle.grammar.specs.Parts.{Part, terminal, occurs, sequence, choice, option, repeat, repeat1, affirms, denies, partsAll}
 use Rattle.grammar_table.specs.Table.{upTo}
 use Rattle.lake_step_one.specs.Intermediate.{intermediate}
-use Rattle.lake_rules.specs.Beginning.{Beginning, nothing, marked, marksOf, beginnings}
-use Rattle.lake_rules.specs.Flows.{edge, Gift, gift, when, overParts, given, roundBy, leastBy, succeedGifts, succeedEdges, altGifts, altEdges}
-use Rattle.lake_rules.specs.Analysis.{Analysis, analysed, analysis}
+use Rattle.lake_rules.specs.Beginning.{Beginning, nothing, marked, marksBy, rightEmpty, rootEps, beginnings}
+use Rattle.lake_rules.specs.Flows.{edge, edgeInto, Gift, gift, when, overParts, given, roundBy, leastBy, succeedGifts, succeedEdges, altGifts, altEdges}
+use Rattle.lake_rules.specs.Analysis.{Analysis, analysed, analysisIn, analysis}
 use Rattle.grammar.specs.Numbers.{terminalIn}
 use Rattle.lake_rules.specs.laws.Wholes.{Ok}
 use Rattle.lake_rules.specs.laws.Reached.{Flowed}
-use Rattle.lake_step_one.specs.Proper.{Proper}
+use Rattle.grammar_table.specs.Holds.{present, rootsFrom}
+use Rattle.lake_step_one.specs.Proper.{middle, ProperIn, Proper}
 use Rattle.grammar_table.specs.laws.Places.{is-upTo, upTo-long, upTo-at}
 use Rattle.lake_rules.specs.laws.Begins.{upBegins, begins-rule}
 use Rattle.lake_rules.specs.laws.Over.{inside-append, over-next, over-none}
-use Rattle.grammar_table.specs.laws.Parts.{all-long, roots-in}
+use Rattle.grammar_table.specs.laws.Parts.{all-long, root-le}
 use Rattle.lake_rules.specs.laws.Wholes.{ok-at, all-ok, eps-body}
 use Rattle.lake_rules.specs.laws.Reached.{Good, GoodGifts, given-good, none-good, begins-good, over-good, succeed-good, alt-good, least-is, few, state-at}
-use Rattle.lake_rules.specs.Rules.{BeginRule, SucceedRule, AltRule, Solves, Least, LeastBegin, LeastMarks}
+use Rattle.lake_rules.specs.Rules.{InB, BeginRule, SucceedRule, AltRule, Solves, Least, LeastBegin, LeastRightMarks}
 use Rattle.lake_rules.specs.laws.Rules.{In, in-over, least-solves, none-below, succeed-to, succeed-from, alt-to, alt-from}
-use Rattle.lake_rules.specs.laws.Marks.{marks-least}
+use Rattle.lake_rules.specs.laws.Marks.{right-marks-least}
 use Rattle.lake_rules.specs.laws.Beginning.{begins-within, least-by-marks}
 
 decide : (s t : List (List ℕ)) (b : Bool) → sameSets s t ≡ b → Dec (s ≡ t)
@@ -55,28 +55,35 @@ module _ (r x n : ℕ) (gifts : List Gift) (es : List Edge) (ins : Inside n es) 
   found =
       first-exists (cells (pair r x) unionOf empty [] (pair-joins r x) n) (roundBy n gifts es) (replicate n empty) (none-good r x n)
       (λ s g. flow-fine (pair r x) unionOf empty [] (pair-joins r x) n es ins s (given gifts (replicate n empty)) g base-good)
-      (λ s u gs gu h. flow-mono (pair r x) unionOf empty [] (pair-joins r x) n es ins s (given gifts (replicate n empty)) u (given gifts (replicate n empty)) gs base-good gu base-good h (λ i p. pair r x .le-rfl (getD (given gifts (replicate n empty)) i [])))
+      (λ s u gs gu h. flow-mono (pair r x) unionOf empty [] (pair-joins r x) n es ins s (given gifts (replicate n empty)) u (given gifts (replicate n empty)) gs base-good gu base-good h
+      (λ i p. pair r x .le-rfl (getD (given gifts (replicate n empty)) i [])))
       (λ s g. none-below r x n s g) (λ s t. decide s t (sameSets s t) refl)
 
   pub settles : Flowed n gifts es (leastBy (n * (r + x)) n gifts es .count) (leastBy (n * (r + x)) n gifts es .state)
   settles =
       let f : Flowed n gifts es (found .0) (iter (roundBy n gifts es) (replicate n empty) (found .0)) = record { first = found .1; is = refl } in
-      subst (λ (w : Settled (List (List ℕ))). Flowed n gifts es (w .count) (w .state)) (sym (least-is r x n gifts es (found .0) (iter (roundBy n gifts es) (replicate n empty) (found .0)) f ins good)) f
+      subst (λ (w : Settled (List (List ℕ))). Flowed n gifts es (w .count) (w .state))
+      (sym (least-is r x n gifts es (found .0) (iter (roundBy n gifts es) (replicate n empty) (found .0)) f ins good)) f
 
 -- ---- among n
 inside-over : (m : ℕ) (f : ℕ → Part → List Edge) (part : ℕ → Part) (n : ℕ) → ((i : ℕ) → i < n → Inside m (f i (part i))) → Inside m (overParts f 0 (upTo part n))
 inside-over m f part zero h = rw (over-none f part) tt
-inside-over m f part (suc n) h = rw (← add-one n, over-next f part n) (inside-append m (overParts f 0 (upTo part n)) (f n (part n)) (inside-over m f part n (λ i l. h i (omega arith))) (h n (omega arith)))
+inside-over m f part (suc n) h = rw (← add-one n, over-next f part n) (inside-append m (overParts f 0 (upTo part n)) (f n (part n)) (inside-over m f part n (λ i l. h i (omega arith)))
+    (h n (omega arith)))
 
 when-inside : (n : ℕ) (b : Bool) (i j : ℕ) → i < n → j < n → Inside n (when b (edge i j))
 when-inside n true i j p q = (p, q, tt)
 when-inside n false i j p q = tt
 
--- parts come before wholes and each symbol has a body
-module _ (bs : ℕ → Beginning) (root : ℕ → ℕ) (r x n i : ℕ) (rin : (s : ℕ) → s < r → root s < n) (l : i < n) where
+-- parts come before wholes and each root is among them
+module _ (bs : ℕ → Beginning) (root : ℕ → ℕ) (r x n i : ℕ) (rin : (s : ℕ) → s < r → root s ≤ n) (l : i < n) where
+  into-inside : (k : ℕ) → k ≤ n → Inside n (edgeInto i k)
+  into-inside zero h = tt
+  into-inside (suc e) h = (l, omega arith, tt)
+
   succeed-inside : (p : Part) → Ok r x i p → Inside n (succeedEdges bs root i p)
   succeed-inside (terminal t) k = tt
-  succeed-inside (occurs s) k = (l, rin s k, tt)
+  succeed-inside (occurs s) k = into-inside (root s) (rin s k)
   succeed-inside (sequence a b) k = (l, omega arith, when-inside n (bs b .eps) i a l (omega arith))
   succeed-inside (choice a b) k = (l, omega arith, (l, omega arith, tt))
   succeed-inside (option a) k = (l, omega arith, tt)
@@ -87,7 +94,7 @@ module _ (bs : ℕ → Beginning) (root : ℕ → ℕ) (r x n i : ℕ) (rin : (s
 
   alt-inside : (p : Part) → Ok r x i p → Inside n (altEdges bs root i p)
   alt-inside (terminal t) k = tt
-  alt-inside (occurs s) k = (l, rin s k, tt)
+  alt-inside (occurs s) k = into-inside (root s) (rin s k)
   alt-inside (sequence a b) k = (l, omega arith, when-inside n (bs a .eps) i b l (omega arith))
   alt-inside (choice a b) k = (l, omega arith, (l, omega arith, tt))
   alt-inside (option a) k = (l, omega arith, tt)
@@ -125,16 +132,17 @@ alt-in bs root succ r x n i (denies a) l k = tt
 -- what an analysis a of expressions `part`, n of them, over r symbols and x terminals promises
 pub record Lawful (a : Analysis) (r x n : ℕ) (part : ℕ → Part) : Type 0 where
   pub begins : LeastBegin r x n part (λ s. getD (a .roots) s 0) (a .begins)
-  pub marks : (s : ℕ) → s < r → marked (a .marks) s ≡ getD (a .begins) (getD (a .roots) s 0) nothing .eps
+  pub marks : (s : ℕ) → s < r → marked (a .marks) s ≡ rootEps (λ j. getD (a .begins) j nothing) (getD (a .roots) s 0)
   pub succeeds : Least r x n part (SucceedRule (λ j. getD (a .begins) j nothing) (λ s. getD (a .roots) s 0)) (a .succeeds)
   pub alts : Least r x n part (AltRule (λ j. getD (a .begins) j nothing) (λ s. getD (a .roots) s 0) (λ j. getD (a .succeeds) j empty)) (a .alts)
-  pub rounds : First (roundBy n (overParts (altGifts (λ j. getD (a .begins) j nothing) (λ s. getD (a .roots) s 0) (λ j. getD (a .succeeds) j empty)) 0 (upTo part n)) (overParts (altEdges (λ j. getD (a .begins) j nothing) (λ s. getD (a .roots) s 0)) 0 (upTo part n))) (replicate n empty) (a .rounds)
+  pub rounds : First (roundBy n (overParts (altGifts (λ j. getD (a .begins) j nothing) (λ s. getD (a .roots) s 0) (λ j. getD (a .succeeds) j empty)) 0 (upTo part n))
+      (overParts (altEdges (λ j. getD (a .begins) j nothing) (λ s. getD (a .roots) s 0)) 0 (upTo part n))) (replicate n empty) (a .rounds)
   pub bounded : a .rounds ≤ n * (r + x)
 
-module _ (r x n : ℕ) (part : ℕ → Part) (ok : (i : ℕ) → i < n → Ok r x i (part i)) (ms : List Bool) (roots : List ℕ) (rin : (s : ℕ) → s < r → getD roots s 0 < n)
-    (exact : (s : ℕ) → s < r → marked ms s ≡ getD (upBegins (marked ms) part n) (getD roots s 0) nothing .eps)
+module _ (r x n : ℕ) (part : ℕ → Part) (ok : (i : ℕ) → i < n → Ok r x i (part i)) (ms : List Bool) (roots : List ℕ) (rin : (s : ℕ) → s < r → getD roots s 0 ≤ n)
+    (exact : (s : ℕ) → s < r → marked ms s ≡ rootEps (λ j. getD (upBegins (marked ms) part n) j nothing) (getD roots s 0))
     (fewest : (y : List Beginning) → Solves (λ b. Set2 r x (b .set)) nothing n part (BeginRule (λ s. getD roots s 0)) y
-    → (s : ℕ) → s < r → marked ms s ≡ true → getD y (getD roots s 0) nothing .eps ≡ true) where
+    → (s : ℕ) → s < r → marked ms s ≡ true → rootEps (λ j. getD y j nothing) (getD roots s 0) ≡ true) where
   abbrev P : List Part
   P = upTo part n
 
@@ -181,13 +189,14 @@ module _ (r x n : ℕ) (part : ℕ → Part) (ok : (i : ℕ) → i < n → Ok r 
   A-flowed = settles r x n AG (overParts (altEdges bs root) 0 P) AE-in AG-good
 
   abbrev it : Analysis
-  it = record { marks = ms; roots = roots; begins = beginnings (marked ms) P; succeeds = S .state; alts = A .state; rounds = A .count }
+  it = record { marks = ms; roots = roots; parts = P; begins = beginnings (marked ms) P; succeeds = S .state; alts = A .state; rounds = A .count }
 
   it-lawful : Lawful it r x n part
   it-lawful = record {
     begins = least-by-marks r x n part ok root (marked ms) (λ s l e. exact s l ∙ e) fewest;
     marks = exact;
-    succeeds = least-solves r x n part (SucceedRule bs root) (succeedGifts bs root) (succeedEdges bs root) (λ y i l. succeed-to r x bs root y i (part i)) (λ y i l. succeed-from r x bs root y i (part i))
+    succeeds = least-solves r x n part (SucceedRule bs root) (succeedGifts bs root) (succeedEdges bs root) (λ y i l. succeed-to r x bs root y i (part i))
+        (λ y i l. succeed-from r x bs root y i (part i))
         SE-in SG-good (in-over r x n (succeedGifts bs root) part n (λ i l. succeed-in bs root r x n i (part i) l (ok i l))) (S .count) (S .state) S-flowed;
     alts = least-solves r x n part (AltRule bs root succ) (altGifts bs root succ) (altEdges bs root) (λ y i l. alt-to r x bs root succ y i (part i)) (λ y i l. alt-from r x bs root succ y i (part i))
         AE-in AG-good (in-over r x n (altGifts bs root succ) part n (λ i l. alt-in bs root succ r x n i (part i) l (ok i l))) (A .count) (A .state) A-flowed;
@@ -199,65 +208,92 @@ module _ (r x n : ℕ) (part : ℕ → Part) (ok : (i : ℕ) → i < n → Ok r 
   unfolding analysed
   analysed-lawful = rw (upTo-long part n) it-lawful
 
--- ---- of a grammar
-module _ (g : Grammar) (proper : Proper g) (long : length (intermediate g) ≡ length (g .names)) where
-  abbrev bodies : List (Exp ℕ)
-  bodies = intermediate g
+-- ---- of a grammar's right sides as they are
+module _ (g : Grammar) (proper : ProperIn g) (long : length (g .rights) ≡ length (g .names)) where
+  abbrev R : ℕ
+  R = length (g .names)
+
+  abbrev X : ℕ
+  X = length (g .terminals)
+
+  abbrev rights : List (Option (Exp ℕ))
+  rights = g .rights
 
   abbrev parts : List Part
-  parts = partsAll (terminalIn g) 0 bodies
+  parts = partsAll (terminalIn g) 0 (present rights)
 
-  abbrev pub partOf : ℕ → Part
-  partOf i = getD parts i (terminal 0)
+  abbrev pub partIn : ℕ → Part
+  partIn i = getD parts i (terminal 0)
 
-  part-ok : (i : ℕ) → i < length parts → Ok (length (g .names)) (length (g .terminals)) i (partOf i)
+  pub part-ok : (i : ℕ) → i < length parts → Ok R X i (partIn i)
   part-ok i l =
-      subst (λ (k : ℕ). Ok (length (g .names)) (length (g .terminals)) k (partOf i)) (let q : 0 + i ≡ i = omega arith in q)
-      (ok-at (terminalIn g) (length (g .names)) (length (g .terminals)) 0 parts (terminal 0) (all-ok (terminalIn g) (length (g .names)) (length (g .terminals)) bodies 0 proper) i l)
+      subst (λ (k : ℕ). Ok R X k (partIn i)) (let q : 0 + i ≡ i = omega arith in q)
+      (ok-at (terminalIn g) R X 0 parts (terminal 0) (all-ok (terminalIn g) R X (present rights) 0 proper) i l)
 
   abbrev root-of : ℕ → ℕ
-  root-of s = getD (rootsOf 0 bodies) s 0
+  root-of s = getD (rootsFrom 0 rights) s 0
 
-  parts-again : upTo partOf (length parts) ≡ parts
-  parts-again = sym (is-upTo (terminal 0) partOf parts (length parts) refl (λ i l. refl))
+  parts-again : upTo partIn (length parts) ≡ parts
+  parts-again = sym (is-upTo (terminal 0) partIn parts (length parts) refl (λ i l. refl))
+
+  root-in : (s : ℕ) → root-of s ≤ length parts
+  root-in s = rw (all-long (terminalIn g) (present rights) 0) (omega (arith, root-le rights 0 s))
 
   -- by parts or by trees: a body's ε
-  pub body-eps : (m : ℕ → Bool) (s : ℕ) → s < length (g .names) → getD (upBegins m partOf (length parts)) (root-of s) nothing .eps ≡ hasEmpty m (getD bodies s (ter any))
-  body-eps m s l =
-      eps-body (terminalIn g) partOf (terminal 0) m (λ j. getD (upBegins m partOf (length parts)) j nothing) (length parts) (length (g .names)) (length (g .terminals))
-      (λ i k. begins-rule m partOf (length (g .names)) (length (g .terminals)) (length parts) i k (part-ok i k)) bodies 0 proper
-      (λ k q. ap partOf (let z : 0 + k ≡ k = omega arith in z)) (omega (arith, all-long (terminalIn g) bodies 0)) (ter any) s (omega (arith, l, long))
+  pub body-eps : (m : ℕ → Bool) (s : ℕ) → rootEps (λ j. getD (upBegins m partIn (length parts)) j nothing) (root-of s) ≡ rightEmpty m (getD rights s none)
+  body-eps m s =
+      eps-body (terminalIn g) partIn (terminal 0) m (λ j. getD (upBegins m partIn (length parts)) j nothing) (length parts) R X
+      (λ i k. begins-rule m partIn R X (length parts) i k (part-ok i k)) rights 0 proper
+      (λ k q. ap partIn (let z : 0 + k ≡ k = omega arith in z)) (omega (arith, all-long (terminalIn g) (present rights) 0)) s
+
+  within-eps : (y : ℕ → Beginning) (bs : ℕ → Beginning) → ((i : ℕ) → i < length parts → InB (bs i) (y i)) → (k : ℕ) → k ≤ length parts → rootEps bs k ≡ true → rootEps y k ≡ true
+  within-eps y bs h zero l e = e
+  within-eps y bs h (suc k) l e = h k (omega arith) .1 e
 
   -- in a solution the bodies that have ε are marks that have it whenever the body has
-  fewest-of : (y : List Beginning) → Solves (λ b. Set2 (length (g .names)) (length (g .terminals)) (b .set)) nothing (length parts) partOf (BeginRule root-of) y
-      → (s : ℕ) → s < length (g .names) → marked (marksOf bodies) s ≡ true → getD y (root-of s) nothing .eps ≡ true
+  fewest-of : (y : List Beginning) → Solves (λ b. Set2 R X (b .set)) nothing (length parts) partIn (BeginRule root-of) y
+      → (s : ℕ) → s < R → marked (marksBy rightEmpty rights) s ≡ true → rootEps (λ j. getD y j nothing) (root-of s) ≡ true
   fewest-of y sol s l e =
-      sym (at s l) ∙ marks-least bodies .within ks (upTo-long by-root (length bodies)) (λ k q h. at k (omega (arith, q, long)) ∙
-      begins-within (length (g .names)) (length (g .terminals)) (length parts) partOf part-ok root-of (marked ks) y sol (λ j p u. sym (at j p) ∙ u) (root-of k)
-      (rw (all-long (terminalIn g) bodies 0) (omega (arith, roots-in bodies 0 k q))) .1 (body-eps (marked ks) k (omega (arith, q, long)) ∙ h)) s (omega (arith, l, long)) e
+      sym (at s l) ∙ right-marks-least rights .within ks (upTo-long by-root (length rights)) (λ k q h. at k (omega (arith, q, long)) ∙
+      within-eps (λ j. getD y j nothing) (λ j. getD (upBegins (marked ks) partIn (length parts)) j nothing)
+      (begins-within R X (length parts) partIn part-ok root-of (marked ks) y sol (λ j p u. sym (at j p) ∙ u)) (root-of k) (root-in k)
+      (body-eps (marked ks) k ∙ h)) s (omega (arith, l, long)) e
     where
       by-root : ℕ → Bool
-      by-root k = getD y (root-of k) nothing .eps
+      by-root k = rootEps (λ j. getD y j nothing) (root-of k)
 
       ks : List Bool
-      ks = upTo by-root (length bodies)
+      ks = upTo by-root (length rights)
 
-      at : (k : ℕ) → k < length (g .names) → marked ks k ≡ getD y (root-of k) nothing .eps
-      at k q = upTo-at by-root (length bodies) k false (omega (arith, q, long))
+      at : (k : ℕ) → k < R → marked ks k ≡ by-root k
+      at k q = upTo-at by-root (length rights) k false (omega (arith, q, long))
 
-  pub lawful : Lawful (analysis g) (length (g .names)) (length (g .terminals)) (length parts) partOf
-  unfolding analysis
-  lawful =
-      subst (λ (ps : List Part). Lawful (analysed (marksOf bodies) (rootsOf 0 bodies) ps (length ps * (length (g .names) + length (g .terminals)))) (length (g .names)) (length (g .terminals)) (length parts) partOf)
+  pub lawful-in : Lawful (analysisIn g) R X (length parts) partIn
+  unfolding analysisIn
+  lawful-in =
+      subst (λ (ps : List Part). Lawful (analysed (marksBy rightEmpty rights) (rootsFrom 0 rights) ps (length ps * (R + X))) R X (length parts) partIn)
       parts-again
-      (analysed-lawful (length (g .names)) (length (g .terminals)) (length parts) partOf part-ok (marksOf bodies) (rootsOf 0 bodies)
-      (λ s l. rw (all-long (terminalIn g) bodies 0) (omega (arith, roots-in bodies 0 s (omega arith))))
-      (λ s l. marks-least bodies .exact s (omega (arith, l, long)) ∙ sym (body-eps (marked (marksOf bodies)) s l)) fewest-of)
+      (analysed-lawful R X (length parts) partIn part-ok (marksBy rightEmpty rights) (rootsFrom 0 rights) (λ s l. root-in s)
+      (λ s l. right-marks-least rights .exact s (omega (arith, l, long)) ∙ sym (body-eps (marked (marksBy rightEmpty rights)) s)) fewest-of)
+
+  pub marks-lawful-in : LeastRightMarks rights (analysisIn g .marks)
+  unfolding analysisIn analysed
+  marks-lawful-in = right-marks-least rights
+
+-- ---- of its intermediate form
+module _ (g : Grammar) (proper : Proper g) (long : length (intermediate g) ≡ length (g .names)) where
+  abbrev pub partOf : ℕ → Part
+  partOf i = getD (partsAll (terminalIn g) 0 (present (intermediate g))) i (terminal 0)
+
+  pub lawful : Lawful (analysis g) (length (g .names)) (length (g .terminals)) (length (partsAll (terminalIn g) 0 (present (intermediate g)))) partOf
+  unfolding analysis
+  lawful = lawful-in (middle g) proper long
 
   -- BEGINNING solves 01's rules and lies within every solution, ε included
-  pub begin-least : LeastBegin (length (g .names)) (length (g .terminals)) (length parts) partOf (λ s. getD (analysis g .roots) s 0) (analysis g .begins)
+  pub begin-least : LeastBegin (length (g .names)) (length (g .terminals)) (length (partsAll (terminalIn g) 0 (present (intermediate g)))) partOf (λ s. getD (analysis g .roots) s 0)
+      (analysis g .begins)
   begin-least = lawful .begins
 
-  pub marks-lawful : LeastMarks bodies (analysis g .marks)
-  unfolding analysis analysed
-  marks-lawful = marks-least bodies
+  pub marks-lawful : LeastRightMarks (intermediate g) (analysis g .marks)
+  unfolding analysis
+  marks-lawful = marks-lawful-in (middle g) proper long

@@ -4,6 +4,7 @@ use mathlib.Core.Path.{_≡_, refl, sym, ap, ap₂, _∙_}
 use mathlib.Core.Logic.{⊎-elim}
 use mathlib.Core.Bool.{Bool, true, false, _&&_, _||_, false≢true, true≢false}
 use mathlib.Core.List.{List, [], _∷_, map}
+use mathlib.Core.Option.{Option, none, some}
 use native.Mathlib.Omega.{arith}
 use lib.ListN.{length, getD, replicate, length-replicate, getD-replicate, length-map, List·getD-map, List·getD-eq-default}
 use Rattle.base_facts.specs.laws.Numbers.{lt-or-ge}
@@ -13,9 +14,9 @@ use Rattle.grammar.specs.Empty.{hasEmpty}
 use Rattle.base_rounds.specs.Rounds.{iter, First}
 use Rattle.base_rounds.specs.laws.Fix.{Lattice, first-exists, rounds-bound, iter-below}
 use Rattle.base_rounds.specs.laws.Cells.{Joins, Every, Below, cells}
-use Rattle.lake_rules.specs.Beginning.{marked, markRound, marksOf}
+use Rattle.lake_rules.specs.Beginning.{marked, markRound, marksBy, marksOf, rightEmpty}
 use Rattle.grammar_table.specs.laws.Places.{getD-any}
-use Rattle.lake_rules.specs.Rules.{LeastMarks}
+use Rattle.lake_rules.specs.Rules.{LeastMarksBy, LeastMarks, LeastRightMarks}
 
 abbrev pub Imp : Bool → Bool → Type 0
 Imp a b = a ≡ true → b ≡ true
@@ -78,7 +79,8 @@ empty-mono m k h (uses r) = h r
 empty-mono m k h (ter x) = λ e. e
 empty-mono m k h (seq a b) = and-mono (hasEmpty m a) (hasEmpty m b) (hasEmpty k a) (hasEmpty k b) (empty-mono m k h a) (empty-mono m k h b)
 empty-mono m k h (alt a b) =
-    or-least (hasEmpty m a) (hasEmpty m b) (hasEmpty k a || hasEmpty k b) (λ e. or-l (hasEmpty k a) (hasEmpty k b) (empty-mono m k h a e)) (λ e. or-r (hasEmpty k a) (hasEmpty k b) (empty-mono m k h b e))
+    or-least (hasEmpty m a) (hasEmpty m b) (hasEmpty k a || hasEmpty k b) (λ e. or-l (hasEmpty k a) (hasEmpty k b) (empty-mono m k h a e))
+    (λ e. or-r (hasEmpty k a) (hasEmpty k b) (empty-mono m k h b e))
 empty-mono m k h (opt a) = λ e. refl
 empty-mono m k h (star a) = λ e. refl
 empty-mono m k h (plus a) = empty-mono m k h a
@@ -109,7 +111,8 @@ same-list (x ∷ s) (y ∷ t) =
       | no p ↦ no (λ e. p (ap (cons-head x) e))
     ]
 
-module _ (bodies : List (Exp ℕ)) where
+-- more marks, more ε, whatever a body is
+module _ {B : Type 0} (has : (ℕ → Bool) → B → Bool) (more : (m k : ℕ → Bool) → ((r : ℕ) → Imp (m r) (k r)) → (b : B) → Imp (has m b) (has k b)) (d : B) (bodies : List B) where
   abbrev n : ℕ
   n = length bodies
 
@@ -120,26 +123,26 @@ module _ (bodies : List (Exp ℕ)) where
   Under = Below marks _||_ false false marks-joins n
 
   abbrev F : List Bool → List Bool
-  F = markRound bodies
+  F = markRound has bodies
 
   abbrev start : List Bool
   start = replicate n false
 
-  round-at : (ms : List Bool) (s : ℕ) → s < n → marked (F ms) s ≡ hasEmpty (marked ms) (getD bodies s (ter any))
+  round-at : (ms : List Bool) (s : ℕ) → s < n → marked (F ms) s ≡ has (marked ms) (getD bodies s d)
   unfolding markRound
   round-at ms s l =
-      getD-any (map (hasEmpty (marked ms)) bodies) s false (hasEmpty (marked ms) (ter any)) (rw (length-map bodies (hasEmpty (marked ms))) l) ∙ List·getD-map (hasEmpty (marked ms)) bodies s (ter any)
+      getD-any (map (has (marked ms)) bodies) s false (has (marked ms) d) (rw (length-map bodies (has (marked ms))) l) ∙ List·getD-map (has (marked ms)) bodies s d
 
   round-fine : (ms : List Bool) → Fine ms → Fine (F ms)
   unfolding markRound
-  round-fine ms g = record { long = length-map bodies (hasEmpty (marked ms)); each = λ i p. tt }
+  round-fine ms g = record { long = length-map bodies (has (marked ms)); each = λ i p. tt }
 
   -- below n, and past the end no mark
   every : (ms ks : List Bool) → Fine ms → Under ms ks → (r : ℕ) → Imp (marked ms r) (marked ks r)
   every ms ks g h r = ⊎-elim (λ l. h r l) (λ l e. absurd (false≢true (sym (List·getD-eq-default ms false {n = r} (omega (arith, g .long))) ∙ e))) (lt-or-ge r n)
 
   round-mono : (ms ks : List Bool) → Fine ms → Under ms ks → Under (F ms) (F ks)
-  round-mono ms ks g h s l e = round-at ks s l ∙ empty-mono (marked ms) (marked ks) (every ms ks g h) (getD bodies s (ter any)) (sym (round-at ms s l) ∙ e)
+  round-mono ms ks g h s l e = round-at ks s l ∙ more (marked ms) (marked ks) (every ms ks g h) (getD bodies s d) (sym (round-at ms s l) ∙ e)
 
   start-fine : Fine start
   start-fine = record { long = length-replicate n false; each = λ i p. tt }
@@ -158,20 +161,31 @@ module _ (bodies : List (Exp ℕ)) where
   stays m zero e l = let q : m ≡ 0 = omega arith in ap (iter F start) (sym q)
   stays m (suc k) e l = ⊎-elim (λ p. let q : suc k ≡ m = omega arith in ap (iter F start) q) (λ p. ap F (stays m k e p) ∙ e) (lt-or-ge k m)
 
-  reached : F (marksOf bodies) ≡ marksOf bodies
-  unfolding marksOf
+  reached : F (marksBy has bodies) ≡ marksBy has bodies
+  unfolding marksBy
   reached = let q : iter F start n ≡ iter F start (found .0) = stays (found .0) n (found .1 .stops) (omega (arith, few)) in ap F q ∙ found .1 .stops ∙ sym q
 
-  marks-long : length (marksOf bodies) ≡ n
+  marks-long : length (marksBy has bodies) ≡ n
   unfolding markRound
-  marks-long = ap length (sym reached) ∙ length-map bodies (hasEmpty (marked (marksOf bodies)))
+  marks-long = ap length (sym reached) ∙ length-map bodies (has (marked (marksBy has bodies)))
 
-  pub marks-least : LeastMarks bodies (marksOf bodies)
-  unfolding marksOf
-  marks-least = record {
+  pub marks-by : LeastMarksBy has d bodies (marksBy has bodies)
+  unfolding marksBy
+  marks-by = record {
     long = marks-long;
-    exact = λ s l. ap (λ (ms : List Bool). marked ms s) (sym reached) ∙ round-at (marksOf bodies) s l;
+    exact = λ s l. ap (λ (ms : List Bool). marked ms s) (sym reached) ∙ round-at (marksBy has bodies) s l;
     within = λ ks e h s l. iter-below (cells marks _||_ false false marks-joins n) F start start-fine round-fine (λ x y gx gy. round-mono x y gx)
         ks (record { long = e; each = λ i p. tt }) (start-under ks (record { long = e; each = λ i p. tt }))
         (λ x p i q u. h i q (sym (round-at ks i q) ∙ p i q u)) n s l;
   }
+
+right-mono : (m k : ℕ → Bool) → ((r : ℕ) → Imp (m r) (k r)) → (o : Option (Exp ℕ)) → Imp (rightEmpty m o) (rightEmpty k o)
+right-mono m k h none = λ e. e
+right-mono m k h (some e) = empty-mono m k h e
+
+pub marks-least : (bodies : List (Exp ℕ)) → LeastMarks bodies (marksOf bodies)
+unfolding marksOf
+marks-least bodies = marks-by hasEmpty empty-mono (ter any) bodies
+
+pub right-marks-least : (rights : List (Option (Exp ℕ))) → LeastRightMarks rights (marksBy rightEmpty rights)
+right-marks-least rights = marks-by rightEmpty right-mono none rights

@@ -17,12 +17,12 @@ use Rattle.base_rounds.specs.laws.Flow.{Inside, Flows, Solution, solves, least,
 use Rattle.grammar.specs.Parts.{Part, terminal, occurs, sequence, choice, option, repeat, repeat1, affirms, denies}
 use Rattle.grammar_table.specs.Table.{upTo}
 use Rattle.lake_rules.specs.Beginning.{Beginning}
-use Rattle.lake_rules.specs.Flows.{edge, Gift, gift, when, overParts, given, roundBy, succeedGifts, succeedEdges, altGifts, altEdges}
+use Rattle.lake_rules.specs.Flows.{edge, edgeInto, Gift, gift, when, overParts, given, roundBy, succeedGifts, succeedEdges, altGifts, altEdges}
 use Rattle.lake_rules.specs.laws.Reached.{Flowed}
 use Rattle.grammar_table.specs.laws.Places.{getD-any}
 use Rattle.lake_rules.specs.laws.Over.{over-next, over-none}
 use Rattle.lake_rules.specs.laws.Reached.{GoodGifts, given-good, none-good, union-good}
-use Rattle.lake_rules.specs.Rules.{SucceedRule, AltRule, Least}
+use Rattle.lake_rules.specs.Rules.{OfBody, SucceedRule, AltRule, Least}
 
 module _ (r x : ℕ) where
   abbrev pub L : Rattle.base_rounds.specs.laws.Fix.Lattice (List ℕ)
@@ -39,12 +39,14 @@ module _ (r x : ℕ) where
 
   flows-over : (y : List (List ℕ)) (f : ℕ → Part → List Edge) (part : ℕ → Part) (n : ℕ) → ((i : ℕ) → i < n → Flows L [] y (f i (part i))) → Flows L [] y (overParts f 0 (upTo part n))
   flows-over y f part zero h = rw (over-none f part) tt
-  flows-over y f part (suc n) h = rw (← add-one n, over-next f part n) (flows-both y (overParts f 0 (upTo part n)) (f n (part n)) (flows-over y f part n (λ i l. h i (omega arith))) (h n (omega arith)))
+  flows-over y f part (suc n) h = rw (← add-one n, over-next f part n) (flows-both y (overParts f 0 (upTo part n)) (f n (part n)) (flows-over y f part n (λ i l. h i (omega arith)))
+      (h n (omega arith)))
 
   flows-at : (y : List (List ℕ)) (f : ℕ → Part → List Edge) (part : ℕ → Part) (n : ℕ) → Flows L [] y (overParts f 0 (upTo part n)) → (i : ℕ) → i < n → Flows L [] y (f i (part i))
   flows-at y f part zero h i l = let z : ⊥ = omega arith in absurd z
   flows-at y f part (suc n) h i l =
-      let q = flows-split y (overParts f 0 (upTo part n)) (f n (part n)) (subst (Flows L [] y) (over-next f part n) (subst (λ (k : ℕ). Flows L [] y (overParts f 0 (upTo part k))) (sym (add-one n)) h)) in
+      let q = flows-split y (overParts f 0 (upTo part n)) (f n (part n)) (subst (Flows L [] y) (over-next f part n)
+      (subst (λ (k : ℕ). Flows L [] y (overParts f 0 (upTo part k))) (sym (add-one n)) h)) in
       ⊎-elim (λ p. flows-at y f part n (q .0) i p) (λ p. let e : n ≡ i = omega arith in subst (λ (j : ℕ). Flows L [] y (f j (part j))) e (q .1)) (lt-or-ge i n)
 
   -- ---- gifts
@@ -105,7 +107,8 @@ module _ (r x : ℕ) where
     given-below (h ∷ gs) acc y i q e s g =
         given-below gs (set acc (h .to) (unionOf (getD acc (h .to) empty) (h .set))) y (i .1) (q .1) (one-good h acc (i .0) (q .0) e)
         (λ j l. cell (λ (z : List ℕ). In2 z (getD y j [])) acc (h .to) j (unionOf (getD acc (h .to) empty) (h .set)) (e .long) (i .0)
-        (λ u. rw u (pair-joins r x .join-least (getD acc (h .to) empty) (h .set) (getD y (h .to) []) (subst (Set2 r x) (getD-any acc (h .to) [] empty (omega (arith, e .long))) (e .each (h .to) (i .0))) (q .0)
+        (λ u. rw u (pair-joins r x .join-least (getD acc (h .to) empty) (h .set) (getD y (h .to) [])
+        (subst (Set2 r x) (getD-any acc (h .to) [] empty (omega (arith, e .long))) (e .each (h .to) (i .0))) (q .0)
         (subst (λ (z : List ℕ). In2 z (getD y (h .to) [])) (getD-any acc (h .to) [] empty (omega (arith, e .long))) (s (h .to) (i .0))) (g .0)))
         (s j l)) (g .1)
 
@@ -114,9 +117,11 @@ module _ (r x : ℕ) where
     unfolding given
     given-above [] acc i q e = λ j l. L .le-rfl (getD acc j [])
     given-above (h ∷ gs) acc i q e = λ j l.
-        pair-joins r x .trans (getD acc j []) (getD (set acc (h .to) (unionOf (getD acc (h .to) empty) (h .set))) j []) (getD (given gs (set acc (h .to) (unionOf (getD acc (h .to) empty) (h .set)))) j [])
+        pair-joins r x .trans (getD acc j []) (getD (set acc (h .to) (unionOf (getD acc (h .to) empty) (h .set))) j [])
+        (getD (given gs (set acc (h .to) (unionOf (getD acc (h .to) empty) (h .set)))) j [])
         (cell (λ (z : List ℕ). In2 (getD acc j []) z) acc (h .to) j (unionOf (getD acc (h .to) empty) (h .set)) (e .long) (i .0)
-        (λ u. rw (u, getD-any acc (h .to) [] empty (omega (arith, e .long))) (pair-joins r x .join-l (getD acc (h .to) empty) (h .set) (subst (Set2 r x) (getD-any acc (h .to) [] empty (omega (arith, e .long))) (e .each (h .to) (i .0))) (q .0)))
+        (λ u. rw (u, getD-any acc (h .to) [] empty (omega (arith, e .long))) (pair-joins r x .join-l (getD acc (h .to) empty) (h .set)
+        (subst (Set2 r x) (getD-any acc (h .to) [] empty (omega (arith, e .long))) (e .each (h .to) (i .0))) (q .0)))
         (L .le-rfl (getD acc j [])))
         (given-above gs (set acc (h .to) (unionOf (getD acc (h .to) empty) (h .set))) (i .1) (q .1) (one-good h acc (i .0) (q .0) e) j l)
 
@@ -127,7 +132,8 @@ module _ (r x : ℕ) where
         let acc′ = set acc (h .to) (unionOf (getD acc (h .to) empty) (h .set)) in
         let e′ : Every (Set2 r x) [] n acc′ = one-good h acc (i .0) (q .0) e in (
           pair-joins r x .trans (h .set) (getD acc′ (h .to) []) (getD y (h .to) [])
-              (rw (getD-set-same acc (h .to) (unionOf (getD acc (h .to) empty) (h .set)) [] (omega (arith, e .long, i .0))) (pair-joins r x .join-r (getD acc (h .to) empty) (h .set) (subst (Set2 r x) (getD-any acc (h .to) [] empty (omega (arith, e .long))) (e .each (h .to) (i .0))) (q .0)))
+              (rw (getD-set-same acc (h .to) (unionOf (getD acc (h .to) empty) (h .set)) [] (omega (arith, e .long, i .0)))
+              (pair-joins r x .join-r (getD acc (h .to) empty) (h .set) (subst (Set2 r x) (getD-any acc (h .to) [] empty (omega (arith, e .long))) (e .each (h .to) (i .0))) (q .0)))
               (pair-joins r x .trans (getD acc′ (h .to) []) (getD (given gs acc′) (h .to) []) (getD y (h .to) []) (given-above gs acc′ (i .1) (q .1) e′ (h .to) (i .0)) (s (h .to) (i .0))),
           given-got gs acc′ y (i .1) (q .1) e′ s,
         )
@@ -162,7 +168,12 @@ module _ (r x : ℕ) where
             solves = record { sets = fine; rules = λ i l. from s i l (got-at s fg part n got i l) (flows-at s fe part n (sol .on) i l) };
             within = λ y h.
                 let sy : Solution L unionOf empty [] (pair-joins r x) n es ins base base-good y
-                = record { fine = h .sets; own = given-below gs (replicate n empty) y gin good (none-good r x n) (none-below y (h .sets)) (got-over y fg part n (λ i l. to y i l (h .rules i l) .0)); on = flows-over y fe part n (λ i l. to y i l (h .rules i l) .1) } in
+                = record {
+                  fine = h .sets;
+                  own = given-below gs (replicate n empty) y gin good (none-good r x n) (none-below y (h .sets))
+                      (got-over y fg part n (λ i l. to y i l (h .rules i l) .0));
+                  on = flows-over y fe part n (λ i l. to y i l (h .rules i l) .1);
+                } in
                 λ i l. rw (f .is) (least L unionOf empty [] (pair-joins r x) n es ins base base-good y sy k i l);
           }
 
@@ -184,9 +195,17 @@ module _ (r x : ℕ) where
     give-from true y s j h e = h .0
     give-from false y s j h e = absurd (false≢true e)
 
+    into-to : (y : List (List ℕ)) (i k : ℕ) → OfBody k (λ e. In2 (getD y i []) (getD y e [])) → Flows L [] y (edgeInto i k)
+    into-to y i zero h = tt
+    into-to y i (suc e) h = (h, tt)
+
+    into-from : (y : List (List ℕ)) (i k : ℕ) → Flows L [] y (edgeInto i k) → OfBody k (λ e. In2 (getD y i []) (getD y e []))
+    into-from y i zero h = tt
+    into-from y i (suc e) h = h .0
+
     pub succeed-to : (y : List (List ℕ)) (i : ℕ) (p : Part) → SucceedRule bs root (λ j. getD y j []) i p → Got y (succeedGifts bs root i p) × Flows L [] y (succeedEdges bs root i p)
     succeed-to y i (terminal t) h = (tt, tt)
-    succeed-to y i (occurs s) h = (tt, (h, tt))
+    succeed-to y i (occurs s) h = (tt, into-to y i (root s) h)
     succeed-to y i (sequence a b) h = ((h .1, tt), (h .0, may-to (bs b .eps) y i a (h .2)))
     succeed-to y i (choice a b) h = (tt, (h .0, (h .1, tt)))
     succeed-to y i (option a) h = (tt, (h, tt))
@@ -197,7 +216,7 @@ module _ (r x : ℕ) where
 
     pub succeed-from : (y : List (List ℕ)) (i : ℕ) (p : Part) → Got y (succeedGifts bs root i p) → Flows L [] y (succeedEdges bs root i p) → SucceedRule bs root (λ j. getD y j []) i p
     succeed-from y i (terminal t) g e = tt
-    succeed-from y i (occurs s) g e = e .0
+    succeed-from y i (occurs s) g e = into-from y i (root s) e
     succeed-from y i (sequence a b) g e = (e .0, g .0, may-from (bs b .eps) y i a (e .1))
     succeed-from y i (choice a b) g e = (e .0, e .1 .0)
     succeed-from y i (option a) g e = e .0
@@ -209,7 +228,7 @@ module _ (r x : ℕ) where
     -- ---- ALT
     pub alt-to : (succ : ℕ → List ℕ) (y : List (List ℕ)) (i : ℕ) (p : Part) → AltRule bs root succ (λ j. getD y j []) i p → Got y (altGifts bs root succ i p) × Flows L [] y (altEdges bs root i p)
     alt-to succ y i (terminal t) h = (tt, tt)
-    alt-to succ y i (occurs s) h = (tt, (h, tt))
+    alt-to succ y i (occurs s) h = (tt, into-to y i (root s) h)
     alt-to succ y i (sequence a b) h = (tt, (h .0, may-to (bs a .eps) y i b (h .1)))
     alt-to succ y i (choice a b) h = ((h .2, give-to (bs b .eps) y (succ i) a (h .3)), (h .0, (h .1, tt)))
     alt-to succ y i (option a) h = ((h .1, tt), (h .0, tt))
@@ -220,7 +239,7 @@ module _ (r x : ℕ) where
 
     pub alt-from : (succ : ℕ → List ℕ) (y : List (List ℕ)) (i : ℕ) (p : Part) → Got y (altGifts bs root succ i p) → Flows L [] y (altEdges bs root i p) → AltRule bs root succ (λ j. getD y j []) i p
     alt-from succ y i (terminal t) g e = tt
-    alt-from succ y i (occurs s) g e = e .0
+    alt-from succ y i (occurs s) g e = into-from y i (root s) e
     alt-from succ y i (sequence a b) g e = (e .0, may-from (bs a .eps) y i b (e .1))
     alt-from succ y i (choice a b) g e = (e .0, e .1 .0, g .0, give-from (bs b .eps) y (succ i) a (g .1))
     alt-from succ y i (option a) g e = (e .0, g .0)

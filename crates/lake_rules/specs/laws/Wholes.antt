@@ -1,15 +1,17 @@
 -- Expressions by number: parts come before wholes, and ε of a body. Assumes nothing.
 use Prim.Native.Nat.{ℕ, zero, suc, _+_, _-_, _≤_, _<_}
-use mathlib.Core.Path.{_≡_, ap, ap₂, _∙_, subst}
+use mathlib.Core.Path.{_≡_, refl, ap, ap₂, _∙_, subst}
 use mathlib.Core.Bool.{Bool, _&&_, _||_}
 use mathlib.Core.List.{List, [], _∷_, _++_}
+use mathlib.Core.Option.{Option, none, some}
 use native.Mathlib.Omega.{arith}
 use lib.ListN.{length, getD}
 use Rattle.read_tokens.specs.Token.{Leaf}
 use Rattle.grammar.specs.Exp.{Exp, sym as uses, ter, seq, alt, opt, star, plus, ahead, never, size}
 use Rattle.grammar.specs.Empty.{hasEmpty}
-use Rattle.grammar.specs.Parts.{Part, terminal, occurs, sequence, choice, option, repeat, repeat1, affirms, denies, last, partsOf, partsAll, rootsOf}
-use Rattle.lake_rules.specs.Beginning.{Beginning, beginBy}
+use Rattle.grammar.specs.Parts.{Part, terminal, occurs, sequence, choice, option, repeat, repeat1, affirms, denies, last, partsOf, partsAll}
+use Rattle.lake_rules.specs.Beginning.{Beginning, rightEmpty, rootEps, beginBy}
+use Rattle.grammar_table.specs.Holds.{present, rootsFrom}
 use Rattle.lake_step_one.specs.Proper.{Sound, SoundAll}
 use Rattle.grammar_table.specs.laws.Parts.{size-pos, total, parts-long, Seg, seg-left, seg-right, seg-one}
 
@@ -79,26 +81,35 @@ module _ (t : Leaf → ℕ) where
       eps-of (seq a b) o h g l =
           let A = partsOf t o a in let B = partsOf t (o + size a) b in let p = sequence (last o a) (last (o + size a) b) in
           let gb : Seg t at d (o + size a) (B ++ (p ∷ [])) = seg-right t at d o (size a) A (B ++ (p ∷ [])) (parts-long t a o) g in
-          by-rule (last o (seq a b)) p (omega arith) (seg-one t at d (o + size a + size b) (last o (seq a b)) p (seg-right t at d (o + size a) (size b) B (p ∷ []) (parts-long t b (o + size a)) gb) (omega arith))
+          by-rule (last o (seq a b)) p (omega arith) (seg-one t at d (o + size a + size b) (last o (seq a b)) p
+          (seg-right t at d (o + size a) (size b) B (p ∷ []) (parts-long t b (o + size a)) gb) (omega arith))
           ∙ ap₂ _&&_ (eps-of a o (h .0) (seg-left t at d o A (B ++ (p ∷ [])) g) (omega arith)) (eps-of b (o + size a) (h .1) (seg-left t at d (o + size a) B (p ∷ []) gb) (omega arith))
       eps-of (alt a b) o h g l =
           let A = partsOf t o a in let B = partsOf t (o + size a) b in let p = choice (last o a) (last (o + size a) b) in
           let gb : Seg t at d (o + size a) (B ++ (p ∷ [])) = seg-right t at d o (size a) A (B ++ (p ∷ [])) (parts-long t a o) g in
-          by-rule (last o (alt a b)) p (omega arith) (seg-one t at d (o + size a + size b) (last o (alt a b)) p (seg-right t at d (o + size a) (size b) B (p ∷ []) (parts-long t b (o + size a)) gb) (omega arith))
+          by-rule (last o (alt a b)) p (omega arith) (seg-one t at d (o + size a + size b) (last o (alt a b)) p
+          (seg-right t at d (o + size a) (size b) B (p ∷ []) (parts-long t b (o + size a)) gb) (omega arith))
           ∙ ap₂ _||_ (eps-of a o (h .0) (seg-left t at d o A (B ++ (p ∷ [])) g) (omega arith)) (eps-of b (o + size a) (h .1) (seg-left t at d (o + size a) B (p ∷ []) gb) (omega arith))
-      eps-of (opt a) o h g l = by-rule (last o (opt a)) (option (last o a)) (omega arith) (seg-one t at d (o + size a) (last o (opt a)) (option (last o a)) (seg-right t at d o (size a) (partsOf t o a) (option (last o a) ∷ []) (parts-long t a o) g) (omega arith))
-      eps-of (star a) o h g l = by-rule (last o (star a)) (repeat (last o a)) (omega arith) (seg-one t at d (o + size a) (last o (star a)) (repeat (last o a)) (seg-right t at d o (size a) (partsOf t o a) (repeat (last o a) ∷ []) (parts-long t a o) g) (omega arith))
+      eps-of (opt a) o h g l = by-rule (last o (opt a)) (option (last o a)) (omega arith)
+          (seg-one t at d (o + size a) (last o (opt a)) (option (last o a)) (seg-right t at d o (size a) (partsOf t o a) (option (last o a) ∷ []) (parts-long t a o) g) (omega arith))
+      eps-of (star a) o h g l = by-rule (last o (star a)) (repeat (last o a)) (omega arith)
+          (seg-one t at d (o + size a) (last o (star a)) (repeat (last o a)) (seg-right t at d o (size a) (partsOf t o a) (repeat (last o a) ∷ []) (parts-long t a o) g) (omega arith))
       eps-of (plus a) o h g l =
-          by-rule (last o (plus a)) (repeat1 (last o a)) (omega arith) (seg-one t at d (o + size a) (last o (plus a)) (repeat1 (last o a)) (seg-right t at d o (size a) (partsOf t o a) (repeat1 (last o a) ∷ []) (parts-long t a o) g) (omega arith))
+          by-rule (last o (plus a)) (repeat1 (last o a)) (omega arith) (seg-one t at d (o + size a) (last o (plus a)) (repeat1 (last o a))
+          (seg-right t at d o (size a) (partsOf t o a) (repeat1 (last o a) ∷ []) (parts-long t a o) g) (omega arith))
           ∙ eps-of a o h (seg-left t at d o (partsOf t o a) (repeat1 (last o a) ∷ []) g) (omega arith)
-      eps-of (ahead a) o h g l = by-rule (last o (ahead a)) (affirms (last o a)) (omega arith) (seg-one t at d (o + size a) (last o (ahead a)) (affirms (last o a)) (seg-right t at d o (size a) (partsOf t o a) (affirms (last o a) ∷ []) (parts-long t a o) g) (omega arith))
-      eps-of (never a) o h g l = by-rule (last o (never a)) (denies (last o a)) (omega arith) (seg-one t at d (o + size a) (last o (never a)) (denies (last o a)) (seg-right t at d o (size a) (partsOf t o a) (denies (last o a) ∷ []) (parts-long t a o) g) (omega arith))
+      eps-of (ahead a) o h g l = by-rule (last o (ahead a)) (affirms (last o a)) (omega arith)
+          (seg-one t at d (o + size a) (last o (ahead a)) (affirms (last o a)) (seg-right t at d o (size a) (partsOf t o a) (affirms (last o a) ∷ []) (parts-long t a o) g) (omega arith))
+      eps-of (never a) o h g l = by-rule (last o (never a)) (denies (last o a)) (omega arith)
+          (seg-one t at d (o + size a) (last o (never a)) (denies (last o a)) (seg-right t at d o (size a) (partsOf t o a) (denies (last o a) ∷ []) (parts-long t a o) g) (omega arith))
 
       -- of each body
-      pub eps-body : (es : List (Exp ℕ)) (o : ℕ) → SoundAll t r x es → Seg t at d o (partsAll t o es) → o + total es ≤ n → (f : Exp ℕ) (s : ℕ) → s < length es
-          → bs (getD (rootsOf o es) s 0) .eps ≡ hasEmpty m (getD es s f)
-      unfolding partsAll rootsOf total
-      eps-body [] o h g l f s p = let z : ⊥ = omega arith in absurd z
-      eps-body (e ∷ es) o h g l f zero p = eps-of e o (h .0) (seg-left t at d o (partsOf t o e) (partsAll t (o + size e) es) g) (omega arith)
-      eps-body (e ∷ es) o h g l f (suc s) p =
-          eps-body es (o + size e) (h .1) (seg-right t at d o (size e) (partsOf t o e) (partsAll t (o + size e) es) (parts-long t e o) g) (omega arith) f s (omega arith)
+      pub eps-body : (os : List (Option (Exp ℕ))) (o : ℕ) → SoundAll t r x (present os) → Seg t at d o (partsAll t o (present os)) → o + total (present os) ≤ n → (s : ℕ)
+          → rootEps bs (getD (rootsFrom o os) s 0) ≡ rightEmpty m (getD os s none)
+      unfolding partsAll rootsFrom present total
+      eps-body [] o h g l s = refl
+      eps-body (none ∷ os) o h g l zero = refl
+      eps-body (none ∷ os) o h g l (suc s) = eps-body os o h g l s
+      eps-body (some e ∷ os) o h g l zero = eps-of e o (h .0) (seg-left t at d o (partsOf t o e) (partsAll t (o + size e) (present os)) g) (omega arith)
+      eps-body (some e ∷ os) o h g l (suc s) =
+          eps-body os (o + size e) (h .1) (seg-right t at d o (size e) (partsOf t o e) (partsAll t (o + size e) (present os)) (parts-long t e o) g) (omega arith) s

@@ -9,6 +9,8 @@ use Rattle.grammar_table.specs.Table.{partBy, partIn, upTo}
 use Rattle.lake_rules.specs.Beginning.{Beginning, nothing, begin, marked, beginBy}
 use Rattle.lake_sets.specs.steps.Steps.{pairAt, rootIn, Tame, beginsIn, markNext, marksIn, BegunAll, MarkedAll}
 use Rattle.grammar_table.specs.laws.Places.{getD-any, is-upTo, upTo-same}
+use Rattle.lake_rules.specs.Beginning.{rootEps}
+use Rattle.lake_sets.specs.laws.Begins.{root-eps}
 use borrow.Author.Needs.{needs}
 use Rattle.lake_sets.proofs.mark_round.Statement.{statement}
 use Rattle.lake_sets.proofs.mark_round.Tie as tie
@@ -34,16 +36,20 @@ same-length-3 c = search needs
 
 returns : tie.Need-returns
 returns c = λ x h. c .before .before .gather .ensures ∙ upTo-same false
-    (λ r. getD (c .before .before .before .before .before .before .before .before .begin-all .last .1 .1 .1 .0)
-    (rootIn (c .before .before .before .before .before .before .before .before .before .before .before .before .before .before .args .t .now) r) false)
-    (λ r. getD (beginsIn (c .before .before .before .before .before .before .before .before .before .before .before .before .before .before .args .t .now)
+    (λ r. rootEps (pairAt [] (c .before .before .before .before .before .before .before .before .begin-all .last .1 .1 .1 .0))
+    (rootIn (c .before .before .before .before .before .before .before .before .before .before .before .before .before .before .args .t .now) r))
+    (λ r. rootEps (λ j. getD (beginsIn (c .before .before .before .before .before .before .before .before .before .before .before .before .before .before .args .t .now)
     (c .before .before .before .before .before .before .before .before .before .before .before .before .before .before .args .marks .now)
-    (length (c .before .before .before .before .before .before .before .before .before .before .before .before .before .before .args .sets .now)))
-    (rootIn (c .before .before .before .before .before .before .before .before .before .before .before .before .before .before .args .t .now) r) nothing .eps)
+    (length (c .before .before .before .before .before .before .before .before .before .before .before .before .before .before .args .sets .now))) j nothing)
+    (rootIn (c .before .before .before .before .before .before .before .before .before .before .before .before .before .before .args .t .now) r))
     (length (c .before .before .before .before .before .before .before .before .before .before .before .before .before .before .args .marks .now))
-    (λ i p. ap (λ (z : Beginning). z .eps) (c .before .before .before .before .before .before .before .before .begin-all .ensures
-    (length (c .before .before .before .before .before .before .before .before .before .before .before .before .before .before .args .marks .now)) x h
-    (rootIn (c .before .before .before .before .before .before .before .before .before .before .before .before .before .before .args .t .now) i)))
+    (λ i p. root-eps (rootIn (c .before .before .before .before .before .before .before .before .before .before .before .before .before .before .args .t .now) i)
+    (pairAt [] (c .before .before .before .before .before .before .before .before .begin-all .last .1 .1 .1 .0))
+    (λ j. getD (beginsIn (c .before .before .before .before .before .before .before .before .before .before .before .before .before .before .args .t .now)
+    (c .before .before .before .before .before .before .before .before .before .before .before .before .before .before .args .marks .now)
+    (length (c .before .before .before .before .before .before .before .before .before .before .before .before .before .before .args .sets .now))) j nothing)
+    (λ j. ap (λ (z : Beginning). z .eps) (c .before .before .before .before .before .before .before .before .begin-all .ensures
+    (length (c .before .before .before .before .before .before .before .before .before .before .before .before .before .before .args .marks .now)) x h j)))
 
 pub mark-round-spec : {M : Type 1} → statement M
 mark-round-spec =

@@ -6,7 +6,7 @@ use native.Mathlib.Omega.{arith}
 use Rattle.base_words.specs.Set.{empty}
 use Rattle.grammar.specs.Parts.{Part, terminal, occurs, sequence, choice, option, repeat, repeat1, affirms, denies}
 use Rattle.grammar_table.specs.Table.{partBy}
-use Rattle.lake_rules.specs.Beginning.{Beginning, begin, beginBy}
+use Rattle.lake_rules.specs.Beginning.{Beginning, begin, rootEps, beginBy}
 use Rattle.lake_rules.specs.laws.Wholes.{Ok}
 use Rattle.lake_sets.specs.steps.Steps.{Small}
 
@@ -48,3 +48,8 @@ small r x i a b (repeat l) h = tt
 small r x i a b (repeat1 l) h = tt
 small r x i a b (affirms l) h = tt
 small r x i a b (denies l) h = tt
+
+-- ε of a body, where each expression's is the same
+pub root-eps : (k : ℕ) (at to : ℕ → Beginning) → ((j : ℕ) → at j .eps ≡ to j .eps) → rootEps at k ≡ rootEps to k
+root-eps zero at to h = refl
+root-eps (suc e) at to h = h e

@@ -1,5 +1,5 @@
 -- Edges that are stored one behind the other, and gifts that are given one after the other. Assumes nothing.
-use Prim.Native.Nat.{ℕ, zero, suc, _+_, _≤_, _<_}
+use Prim.Native.Nat.{ℕ, zero, suc, _+_, _-_, _≤_, _<_}
 use mathlib.Core.Path.{_≡_, refl, sym, ap, ap₂, _∙_, subst}
 use mathlib.Core.Logic.{⊎-elim}
 use mathlib.Core.Bool.{Bool, true, false}
@@ -21,7 +21,7 @@ use Rattle.base_rounds.specs.laws.Sys.{edges, Shaped, Solved, roundOf, empties}
 use Rattle.grammar.specs.Parts.{Part, terminal, occurs, sequence, choice, option, repeat, repeat1, affirms, denies}
 use Rattle.grammar_table.specs.Table.{upTo, partIn, partBy}
 use Rattle.lake_rules.specs.Beginning.{Beginning}
-use Rattle.lake_rules.specs.Flows.{edge, Gift, gift, when, overParts, given, roundBy, succeedGifts, altGifts}
+use Rattle.lake_rules.specs.Flows.{edge, edgeInto, Gift, gift, when, overParts, given, roundBy, succeedGifts, altGifts}
 use Rattle.lake_rules.specs.laws.Over.{over-next, inside-append}
 use Rattle.lake_sets.specs.steps.Steps.{pairAt, rootIn, keptBy, kept, edgesBy, handed, Grown, Gave, Fine, RoundsAsk}
 use Rattle.lake_rules.specs.laws.Reached.{Flowed}
@@ -130,7 +130,8 @@ pub flowed : (src dst : List ℕ) (m n : ℕ) (base : List (List ℕ)) (k : ℕ)
 flowed src dst m n base k s u gifts es l p q w h =
     let long : length (take m src) ≡ m = length-take-le m src l in
     let e : edges (take m src) (take m dst) (length (take m src)) ≡ es = ap (edges (take m src) (take m dst)) long ∙ edges-take src dst m m (omega arith) ∙ p in
-    let F : roundOf (take m src) (take m dst) base ≡ roundBy n gifts es = ap₂ {C = List (List ℕ) → List (List ℕ)} (λ (x : List Edge) (b : List (List ℕ)). λ (old : List (List ℕ)). flow unionOf [] x old b) e q in
+    let F : roundOf (take m src) (take m dst) base ≡ roundBy n gifts es = ap₂ {C = List (List ℕ) → List (List ℕ)}
+    (λ (x : List Edge) (b : List (List ℕ)). λ (old : List (List ℕ)). flow unionOf [] x old b) e q in
     let f : First (roundBy n gifts es) (replicate n empty) k
     = subst (λ (j : ℕ). First (roundBy n gifts es) (replicate j empty) k) w (subst (λ (G : List (List ℕ) → List (List ℕ)). First G (empties (length base)) k) F (h .first)) in
     record {
@@ -177,7 +178,11 @@ pub gave-two : (xs ys : List Gift) (a b c : List (List ℕ)) → Gave xs a b →
 gave-two xs ys a b c p q = record { is = q .is ∙ ap (given ys) (p .is) ∙ sym (given-append xs ys a); fine = λ f. q .fine (p .fine f) }
 
 pub none-fine : (n : ℕ) (s : List (List ℕ)) → s ≡ empties n → Fine s
-none-fine n s e = rw e record { long = refl; each = λ i p. rw (getD-replicate n i empty [] (let l : length (empties n) ≡ n = length-replicate n empty in omega arith)) record { two = refl; first = pow-pos 64; second = pow-pos 64 } }
+none-fine n s e = rw e record {
+  long = refl;
+  each = λ i p. rw (getD-replicate n i empty [] (let l : length (empties n) ≡ n = length-replicate n empty in omega arith)) record
+      { two = refl; first = pow-pos 64; second = pow-pos 64 };
+}
 
 when-two : (b : Bool) (x y : Edge) → length (y ∷ when b x) ≤ 2
 when-two true x y = omega arith
@@ -187,6 +192,23 @@ when-from : (n : ℕ) (b : Bool) (x : Edge) → x .from < n → From n (when b x
 when-from n true x h = (h, tt)
 when-from n false x h = tt
 
+into-two : (i k : ℕ) → length (edgeInto i k) ≤ 2
+into-two i zero = omega arith
+into-two i (suc e) = omega arith
+
+into-from : (n i k : ℕ) → i < n → From n (edgeInto i k)
+into-from n i zero h = tt
+into-from n i (suc e) h = (h, tt)
+
+-- into a symbol's body
+pub grown-into : (src dst s d : List ℕ) (m k n i w b : ℕ) → (w ≡ 0 → ⊥) → w ≡ b → Grown src dst m (kept n (edge i (w - 1) ∷ [])) s d k → Grown src dst m (kept n (edgeInto i b)) s d k
+grown-into src dst s d m k n i zero b h e g = absurd (h refl)
+grown-into src dst s d m k n i (suc w) b h e g = subst (λ (x : ℕ). Grown src dst m (kept n (edgeInto i x)) s d k) e
+    (subst (λ (x : ℕ). Grown src dst m (kept n (edge i x ∷ [])) s d k) (let q : suc w - 1 ≡ w = omega arith in q) g)
+
+pub grown-bare : (src dst : List ℕ) (m n i w b : ℕ) → w ≡ 0 → w ≡ b → Grown src dst m (kept n (edgeInto i b)) src dst m
+grown-bare src dst m n i w b z e = subst (λ (x : ℕ). Grown src dst m (kept n (edgeInto i x)) src dst m) (sym z ∙ e) (grown-nothing src dst m n)
+
 -- ---- by the kind of an expression
 module _ (bs : ℕ → Beginning) (root : ℕ → ℕ) (i : ℕ) where
   pub by-terminal : (back : Bool) (k l r : ℕ) → k ≡ 0 → [] ≡ edgesBy back bs root i (partBy k l r)
@@ -194,10 +216,10 @@ module _ (bs : ℕ → Beginning) (root : ℕ → ℕ) (i : ℕ) where
   by-terminal true k l r e = rw e
   by-terminal false k l r e = rw e
 
-  pub by-occurs : (back : Bool) (k l r j : ℕ) → k ≡ 1 → j ≡ root l → edge i j ∷ [] ≡ edgesBy back bs root i (partBy k l r)
+  pub by-occurs : (back : Bool) (k l r : ℕ) → k ≡ 1 → edgeInto i (root l) ≡ edgesBy back bs root i (partBy k l r)
   unfolding partBy
-  by-occurs true k l r j e f = rw (e, f)
-  by-occurs false k l r j e f = rw (e, f)
+  by-occurs true k l r e = rw e
+  by-occurs false k l r e = rw e
 
   pub by-back : (back : Bool) (k l r : ℕ) → k ≡ 2 → back ≡ true → edge i r ∷ when (bs r .eps) (edge i l) ≡ edgesBy back bs root i (partBy k l r)
   unfolding partBy
@@ -247,7 +269,7 @@ module _ (bs : ℕ → Beginning) (root : ℕ → ℕ) (i : ℕ) where
   -- an expression hands on at most two edges, from itself
   pub edges-two : (back : Bool) (p : Part) → length (edgesBy back bs root i p) ≤ 2
   edges-two true (terminal t) = omega arith
-  edges-two true (occurs r) = omega arith
+  edges-two true (occurs r) = into-two i (root r)
   edges-two true (sequence a b) = when-two (bs b .eps) (edge i a) (edge i b)
   edges-two true (choice a b) = omega arith
   edges-two true (option a) = omega arith
@@ -256,7 +278,7 @@ module _ (bs : ℕ → Beginning) (root : ℕ → ℕ) (i : ℕ) where
   edges-two true (affirms a) = omega arith
   edges-two true (denies a) = omega arith
   edges-two false (terminal t) = omega arith
-  edges-two false (occurs r) = omega arith
+  edges-two false (occurs r) = into-two i (root r)
   edges-two false (sequence a b) = when-two (bs a .eps) (edge i b) (edge i a)
   edges-two false (choice a b) = omega arith
   edges-two false (option a) = omega arith
@@ -267,7 +289,7 @@ module _ (bs : ℕ → Beginning) (root : ℕ → ℕ) (i : ℕ) where
 
   pub edges-from : (n : ℕ) → i < n → (back : Bool) (p : Part) → From n (edgesBy back bs root i p)
   edges-from n h true (terminal t) = tt
-  edges-from n h true (occurs r) = (h, tt)
+  edges-from n h true (occurs r) = into-from n i (root r) h
   edges-from n h true (sequence a b) = (h, when-from n (bs b .eps) (edge i a) h)
   edges-from n h true (choice a b) = (h, (h, tt))
   edges-from n h true (option a) = (h, tt)
@@ -276,7 +298,7 @@ module _ (bs : ℕ → Beginning) (root : ℕ → ℕ) (i : ℕ) where
   edges-from n h true (affirms a) = tt
   edges-from n h true (denies a) = tt
   edges-from n h false (terminal t) = tt
-  edges-from n h false (occurs r) = (h, tt)
+  edges-from n h false (occurs r) = into-from n i (root r) h
   edges-from n h false (sequence a b) = (h, when-from n (bs a .eps) (edge i b) h)
   edges-from n h false (choice a b) = (h, (h, tt))
   edges-from n h false (option a) = (h, tt)

@@ -2,42 +2,43 @@
 use Prim.Native.Nat.{ℕ, zero, suc, _+_, _-_, _*_, _≤_, _<_}
 use mathlib.Core.Path.{_≡_, refl, sym, ap, ap₂, _∙_, subst, fun-ext}
 use mathlib.Core.Logic.{_⊎_, inl, inr, ⊎-elim}
-use mathlib.Core.Bool.{Bool, true, false}
+use mathlib.Core.Bool.{Bool, true, false, cond}
 use mathlib.Core.List.{List, [], _∷_, _++_, map}
-use mathlib.Core.Option.{Option, some}
+use mathlib.Core.Option.{Option, none, some}
 use native.Mathlib.Omega.{arith}
 use native.Mathlib.Numerals.{add-one}
-use lib.ListN.{length, getD, replicate, length-replicate, length-map, List·getD-map}
+use lib.Seq.{getD-take}
+use lib.ListN.{length, getD, take, replicate, length-replicate, length-map, List·getD-map}
 use lib.Dec.{ltb}
 use borrow.Author.Tests.{lt-ltb}
-use Rattle.read_tokens.specs.Token.{Leaf, any}
-use Rattle.base_words.specs.Set.{empty}
+use Rattle.read_tokens.specs.Token.{Leaf}
+use Rattle.base_words.specs.Set.{unionOf, empty}
 use Rattle.base_rounds.specs.Flow.{Edge}
 use Rattle.base_rounds.specs.Rounds.{iter, Settled, settled}
 use Rattle.base_rounds.specs.laws.Flow.{Inside}
-use Rattle.grammar.specs.Exp.{Exp, ter}
-use Rattle.grammar.specs.Empty.{hasEmpty}
+use Rattle.grammar.specs.Exp.{Exp}
 use Rattle.grammar.specs.Numbers.{Grammar}
-use Rattle.grammar.specs.Parts.{Part, terminal, occurs, sequence, choice, option, repeat, repeat1, affirms, denies, partsAll, rootsOf}
-use Rattle.grammar_table.specs.Table.{upTo, partIn, rootsIn, symbolWord, symbolCount, terminalCount, expressionCount}
-use Rattle.grammar_table.specs.Holds.{Holds, rootsFrom}
+use Rattle.grammar.specs.Parts.{Part, terminal, occurs, sequence, choice, option, repeat, repeat1, affirms, denies, partsAll}
+use Rattle.grammar_table.specs.Table.{upTo, partIn, partsIn, rootsIn, symbolWord, symbolCount, terminalCount, expressionCount}
+use Rattle.grammar_table.specs.Holds.{Holds, present, rootsFrom}
 use Rattle.lake_step_one.specs.Intermediate.{intermediate}
-use Rattle.lake_rules.specs.Beginning.{Beginning, nothing, begin, marked, markRound, marksOf, beginnings}
-use Rattle.lake_rules.specs.Flows.{edge, Gift, gift, when, overParts, leastBy, succeedGifts, succeedEdges, altGifts, altEdges}
-use Rattle.lake_rules.specs.Analysis.{Analysis, analysed, analysis}
+use Rattle.lake_rules.specs.Beginning.{Beginning, nothing, begin, marked, markRound, marksBy, rightEmpty, rootEps, beginnings}
+use Rattle.lake_rules.specs.Flows.{edge, edgeInto, Gift, gift, when, overParts, leastBy, succeedGifts, succeedEdges, altGifts, altEdges}
+use Rattle.lake_rules.specs.Analysis.{Analysis, analysed, analysisIn, analysis, isUse, usesAlt, lakeAlt}
 use Rattle.grammar.specs.Numbers.{terminalIn}
-use Rattle.lake_sets.specs.steps.Steps.{pairAt, rootIn, Tame, beginsIn, markNext, marksIn, kept, edgesBy, handed, succeedGiven, altGiven}
+use Rattle.lake_sets.specs.steps.Steps.{pairAt, rootIn, altBy, altIn, Tame, beginsIn, markNext, marksIn, kept, edgesBy, handed, succeedGiven, altGiven}
 use Rattle.lake_rules.specs.laws.Wholes.{Ok}
 use Rattle.lake_rules.specs.laws.Reached.{Flowed}
 use Rattle.lake_step_one.specs.Proper.{Sound, SoundAll, Proper, middle}
 use Rattle.lake_sets.specs.steps.Analysed.{Analysed}
-use Rattle.grammar_table.specs.laws.Places.{getD-any, upTo-long, upTo-at, is-upTo}
+use Rattle.grammar_table.specs.laws.Places.{upTo-long, upTo-at, is-upTo}
 use Rattle.lake_rules.specs.laws.Begins.{begins-rule, begins-long}
 use Rattle.lake_rules.specs.laws.Over.{over-next, over-none}
 use Rattle.lake_sets.specs.laws.Edges.{handed-inside}
-use Rattle.grammar_table.specs.laws.Parts.{total, all-long, roots-in, from-roots}
-use Rattle.lake_step_one.specs.laws.Held.{part-of, names-are, terminals-are, parts-are, bodies-total, bodies-count}
+use Rattle.grammar_table.specs.laws.Parts.{total, all-long, root-le}
+use Rattle.lake_step_one.specs.laws.Held.{part-of, names-are, terminals-are, rights-long, expressions-are}
 use Rattle.lake_rules.specs.laws.Wholes.{OkAll, ok-at, all-ok, eps-body}
+use Rattle.lake_rules.specs.laws.Uses.{alt-by-uses}
 use Rattle.lake_rules.specs.laws.Reached.{begins-good, over-good, succeed-good, alt-good, least-is, state-at}
 
 -- ---- lists that agree expression by expression
@@ -69,8 +70,8 @@ alt-same bs f g succ i (repeat1 a) = refl
 alt-same bs f g succ i (affirms a) = refl
 alt-same bs f g succ i (denies a) = refl
 
--- where parts come before wholes and each symbol has a body, every edge is kept
-module _ (n r x : ℕ) (bs cs : ℕ → Beginning) (f g : ℕ → ℕ) (h : (i : ℕ) → bs i .eps ≡ cs i .eps) (same : (s : ℕ) → s < r → f s ≡ g s) (ins : (s : ℕ) → s < r → g s < n) (i : ℕ) (l : i < n) where
+-- where parts come before wholes and each root is one of them, every edge is kept
+module _ (n r x : ℕ) (bs cs : ℕ → Beginning) (f g : ℕ → ℕ) (h : (i : ℕ) → bs i .eps ≡ cs i .eps) (same : (s : ℕ) → s < r → f s ≡ g s) (ins : (s : ℕ) → s < r → g s ≤ n) (i : ℕ) (l : i < n) where
   one : (j : ℕ) → j < n → kept n (edge i j ∷ []) ≡ edge i j ∷ []
   unfolding kept
   one j p = rw (lt-ltb j n p)
@@ -89,8 +90,12 @@ module _ (n r x : ℕ) (bs cs : ℕ → Beginning) (f g : ℕ → ℕ) (h : (i :
   unfolding kept
   none-kept = refl
 
-  body : (s : ℕ) → s < r → kept n (edge i (f s) ∷ []) ≡ edge i (g s) ∷ []
-  body s p = ap (λ (j : ℕ). kept n (edge i j ∷ [])) (same s p) ∙ one (g s) (ins s p)
+  into : (k : ℕ) → k ≤ n → kept n (edgeInto i k) ≡ edgeInto i k
+  into zero p = none-kept
+  into (suc e) p = one e (omega arith)
+
+  body : (s : ℕ) → s < r → kept n (edgeInto i (f s)) ≡ edgeInto i (g s)
+  body s p = ap (λ (k : ℕ). kept n (edgeInto i k)) (same s p) ∙ into (g s) (ins s p)
 
   pub edges-same : (back : Bool) (p : Part) → Ok r x i p → kept n (edgesBy back bs f i p) ≡ edgesBy back cs g i p
   edges-same true (terminal t) k = none-kept
@@ -116,8 +121,8 @@ pub flowed-as : {n k : ℕ} {s : List (List ℕ)} {gs hs : List Gift} {es fs : L
 flowed-as {n} {k} {s} {gs} {hs} {es} {fs} f p q = subst (λ (l : List Gift). Flowed n l fs k s) p (subst (λ (l : List Edge). Flowed n gs l k s) q f)
 
 module _ (t : List ℕ) (g : Grammar) (h : Holds t (middle g)) (proper : Proper g) where
-  abbrev bodies : List (Exp ℕ)
-  bodies = intermediate g
+  abbrev rights : List (Option (Exp ℕ))
+  rights = intermediate g
 
   abbrev n : ℕ
   n = expressionCount t
@@ -128,34 +133,37 @@ module _ (t : List ℕ) (g : Grammar) (h : Holds t (middle g)) (proper : Proper 
   abbrev X : ℕ
   X = length (g .terminals)
 
-  n-is : n ≡ total bodies
-  n-is = bodies-total t g bodies h
+  n-is : n ≡ total (present rights)
+  n-is = expressions-are t (middle g) h
 
   symbols-is : symbolCount t ≡ R
   symbols-is = names-are t (middle g) h
 
-  bodies-is : symbolCount t ≡ length bodies
-  bodies-is = bodies-count t g bodies h
+  rights-is : symbolCount t ≡ length rights
+  rights-is = rights-long t (middle g) h
 
-  pub roots-is : (s : ℕ) → s < R → rootIn t s ≡ getD (rootsOf 0 bodies) s 0
+  parts-is : upTo (partIn t) n ≡ partsAll (terminalIn g) 0 (present rights)
+  unfolding partsIn
+  parts-is = h .parts
+
+  pub roots-is : (s : ℕ) → s < R → rootIn t s ≡ getD (rootsFrom 0 rights) s 0
   unfolding rootsIn
-  roots-is s l =
-      ap (λ (w : ℕ). w - 1) (sym (upTo-at (λ r. symbolWord t r 1) (symbolCount t) s 0 (omega (arith, symbols-is))) ∙ ap (λ (w : List ℕ). getD w s 0) (h .roots))
-      ∙ from-roots bodies 0 s (omega (arith, symbols-is, bodies-is))
+  roots-is s l = sym (upTo-at (λ r. symbolWord t r 1) (symbolCount t) s 0 (omega (arith, symbols-is))) ∙ ap (λ (w : List ℕ). getD w s 0) (h .roots)
 
   pub part-ok : (i : ℕ) → i < n → Ok R X i (partIn t i)
   part-ok i l =
       let d : Part = terminal 0 in
-      subst (λ (p : Part). Ok R X i p) (ap (λ (ps : List Part). getD ps i d) (sym (parts-are t g bodies h)) ∙ upTo-at (partIn t) n i d l)
-      (subst (λ (k : ℕ). Ok R X k (getD (partsAll (terminalIn g) 0 bodies) i d)) (let q : 0 + i ≡ i = omega arith in q)
-      (ok-at (terminalIn g) R X 0 (partsAll (terminalIn g) 0 bodies) d (all-ok (terminalIn g) R X bodies 0 proper) i (rw (all-long (terminalIn g) bodies 0) (omega (arith, n-is)))))
+      let ps = partsAll (terminalIn g) 0 (present rights) in
+      subst (λ (p : Part). Ok R X i p) (ap (λ (qs : List Part). getD qs i d) (sym parts-is) ∙ upTo-at (partIn t) n i d l)
+      (subst (λ (k : ℕ). Ok R X k (getD ps i d)) (let q : 0 + i ≡ i = omega arith in q)
+      (ok-at (terminalIn g) R X 0 ps d (all-ok (terminalIn g) R X (present rights) 0 proper) i (rw (all-long (terminalIn g) (present rights) 0) (omega (arith, n-is)))))
 
   pub tame : Tame t n R X
   tame = record {
     symbols = omega (arith, h .few-symbols, symbols-is);
     terminals = omega (arith, h .few-terminals, terminals-are t (middle g) h);
     parts = part-ok;
-    roots = λ s l. rw (roots-is s l) (omega (arith, n-is, roots-in bodies 0 s (omega (arith, symbols-is, bodies-is))));
+    roots = λ s l. rw (roots-is s l) (omega (arith, n-is, root-le rights 0 s));
   }
 
   -- ---- ε marks
@@ -163,30 +171,31 @@ module _ (t : List ℕ) (g : Grammar) (h : Holds t (middle g)) (proper : Proper 
     rule : (i : ℕ) → i < n → getD (beginsIn t ms n) i nothing ≡ Rattle.lake_rules.specs.Beginning.beginBy (marked ms) (λ j. getD (beginsIn t ms n) j nothing) (partIn t i)
     rule i l = begins-rule (marked ms) (partIn t) R X n i l (part-ok i l)
 
-    mark-at : (s : ℕ) → s < R → getD (beginsIn t ms n) (rootIn t s) nothing .eps ≡ hasEmpty (marked ms) (getD bodies s (ter any))
+    mark-at : (s : ℕ) → s < R → rootEps (λ j. getD (beginsIn t ms n) j nothing) (rootIn t s) ≡ rightEmpty (marked ms) (getD rights s none)
     mark-at s l =
-        ap (λ (i : ℕ). getD (beginsIn t ms n) i nothing .eps) (roots-is s l)
-        ∙ eps-body (terminalIn g) (partIn t) (terminal 0) (marked ms) (λ j. getD (beginsIn t ms n) j nothing) n R X rule bodies 0 proper (part-of t (partsAll (terminalIn g) 0 bodies) (parts-are t g bodies h)) (omega (arith, n-is)) (ter any) s (omega (arith, symbols-is, bodies-is))
+        ap (rootEps (λ j. getD (beginsIn t ms n) j nothing)) (roots-is s l)
+        ∙ eps-body (terminalIn g) (partIn t) (terminal 0) (marked ms) (λ j. getD (beginsIn t ms n) j nothing) n R X rule rights 0 proper
+        (part-of t (partsAll (terminalIn g) 0 (present rights)) parts-is) (omega (arith, n-is)) s
 
-    pub round-is : length ms ≡ R → markNext t n ms ≡ markRound bodies ms
+    pub round-is : length ms ≡ R → markNext t n ms ≡ markRound rightEmpty rights ms
     unfolding markRound
     round-is e =
-        sym (is-upTo false (λ r. getD (beginsIn t ms n) (rootIn t r) nothing .eps) (map (hasEmpty (marked ms)) bodies) (length ms)
-        (length-map bodies (hasEmpty (marked ms)) ∙ (let q : length bodies ≡ length ms = omega (arith, symbols-is, bodies-is) in q))
-        (λ i l. getD-any (map (hasEmpty (marked ms)) bodies) i false (hasEmpty (marked ms) (ter any)) (rw (length-map bodies (hasEmpty (marked ms))) (omega (arith, symbols-is, bodies-is)))
-        ∙ List·getD-map (hasEmpty (marked ms)) bodies i (ter any) ∙ sym (mark-at i (omega arith))))
+        let f : Option (Exp ℕ) → Bool = rightEmpty (marked ms) in
+        sym (is-upTo false (λ r. rootEps (λ j. getD (beginsIn t ms n) j nothing) (rootIn t r)) (map f rights) (length ms)
+        (length-map rights f ∙ (let q : length rights ≡ length ms = omega (arith, symbols-is, rights-is) in q))
+        (λ i l. List·getD-map f rights i none ∙ sym (mark-at i (omega arith))))
 
   marks-long : (k : ℕ) → length (marksIn t n R k) ≡ R
   marks-long zero = length-replicate R false
-  marks-long (suc k) = upTo-long (λ r. getD (beginsIn t (marksIn t n R k) n) (rootIn t r) nothing .eps) (length (marksIn t n R k)) ∙ marks-long k
+  marks-long (suc k) = upTo-long (λ r. rootEps (λ j. getD (beginsIn t (marksIn t n R k) n) j nothing) (rootIn t r)) (length (marksIn t n R k)) ∙ marks-long k
 
-  marks-at : (k : ℕ) → marksIn t n R k ≡ iter (markRound bodies) (replicate R false) k
+  marks-at : (k : ℕ) → marksIn t n R k ≡ iter (markRound rightEmpty rights) (replicate R false) k
   marks-at zero = refl
-  marks-at (suc k) = round-is (marksIn t n R k) (marks-long k) ∙ ap (markRound bodies) (marks-at k)
+  marks-at (suc k) = round-is (marksIn t n R k) (marks-long k) ∙ ap (markRound rightEmpty rights) (marks-at k)
 
-  pub marks-is : marksIn t n R R ≡ marksOf bodies
-  unfolding marksOf
-  marks-is = let q : R ≡ length bodies = omega (arith, symbols-is, bodies-is) in marks-at R ∙ ap (λ (k : ℕ). iter (markRound bodies) (replicate k false) k) q
+  pub marks-is : marksIn t n R R ≡ marksBy rightEmpty rights
+  unfolding marksBy
+  marks-is = let q : R ≡ length rights = omega (arith, symbols-is, rights-is) in marks-at R ∙ ap (λ (k : ℕ). iter (markRound rightEmpty rights) (replicate k false) k) q
 
   -- ---- all of it
   module _ (ms : List Bool) (sets : List (List ℕ)) (eps : List Bool) (succ alts : List (List ℕ)) (j k : ℕ)
@@ -196,7 +205,7 @@ module _ (t : List ℕ) (g : Grammar) (h : Holds t (middle g)) (proper : Proper 
     bs i = getD (beginsIn t ms n) i nothing
 
     abbrev root : ℕ → ℕ
-    root s = getD (rootsOf 0 bodies) s 0
+    root s = getD (rootsFrom 0 rights) s 0
 
     bs-is : pairAt sets eps ≡ bs
     bs-is = fun-ext hb
@@ -204,13 +213,15 @@ module _ (t : List ℕ) (g : Grammar) (h : Holds t (middle g)) (proper : Proper 
     edges-is : (back : Bool) → handed t eps back n n ≡ overParts (edgesBy back bs root) 0 (upTo (partIn t) n)
     edges-is back =
         over-same (λ i p. kept n (edgesBy back (pairAt [] eps) (rootIn t) i p)) (edgesBy back bs root) (partIn t) n
-        (λ i l. edges-same n R X (pairAt [] eps) bs (rootIn t) root (λ a. ap (λ (z : Beginning). z .eps) (hb a)) roots-is (λ s p. rw (sym (roots-is s p)) (tame .roots s p)) i l back (partIn t i) (part-ok i l))
+        (λ i l. edges-same n R X (pairAt [] eps) bs (rootIn t) root (λ a. ap (λ (z : Beginning). z .eps) (hb a)) roots-is (λ s p. rw (sym (roots-is s p)) (tame .roots s p)) i l back (partIn t i)
+        (part-ok i l))
 
     inside : (back : Bool) → Inside n (overParts (edgesBy back bs root) 0 (upTo (partIn t) n))
     inside back = subst (Inside n) (edges-is back) (handed-inside t eps back n)
 
     succeed-is : succeedGiven t sets n ≡ overParts (succeedGifts bs root) 0 (upTo (partIn t) n)
-    succeed-is = over-same (succeedGifts (pairAt sets []) (rootIn t)) (succeedGifts bs root) (partIn t) n (λ i l. succeed-same (pairAt sets []) bs (rootIn t) root (λ a. ap (λ (z : Beginning). z .set) (hb a)) i (partIn t i))
+    succeed-is = over-same (succeedGifts (pairAt sets []) (rootIn t)) (succeedGifts bs root) (partIn t) n
+        (λ i l. succeed-same (pairAt sets []) bs (rootIn t) root (λ a. ap (λ (z : Beginning). z .set) (hb a)) i (partIn t i))
 
     alt-is : altGiven t sets eps succ n ≡ overParts (altGifts bs root (λ i. getD succ i empty)) 0 (upTo (partIn t) n)
     alt-is =
@@ -255,12 +266,13 @@ module _ (t : List ℕ) (g : Grammar) (h : Holds t (middle g)) (proper : Proper 
     S : leastBy most (length P) SG (overParts (succeedEdges bs root) 0 P) ≡ settled j succ
     S = ap (λ (l : ℕ). leastBy most l SG (overParts (succeedEdges bs root) 0 P)) (upTo-long (partIn t) n) ∙ succeed-least
 
-    A : leastBy most (length P) (overParts (altGifts bs root (λ i. getD (leastBy most (length P) SG (overParts (succeedEdges bs root) 0 P) .state) i empty)) 0 P) (overParts (altEdges bs root) 0 P) ≡ settled k alts
+    A : leastBy most (length P) (overParts (altGifts bs root (λ i. getD (leastBy most (length P) SG (overParts (succeedEdges bs root) 0 P) .state) i empty)) 0 P)
+        (overParts (altEdges bs root) 0 P) ≡ settled k alts
     A =
         ap (λ (w : Settled (List (List ℕ))). leastBy most (length P) (overParts (altGifts bs root (λ i. getD (w .state) i empty)) 0 P) (overParts (altEdges bs root) 0 P)) S
         ∙ ap (λ (l : ℕ). leastBy most l AG (overParts (altEdges bs root) 0 P)) (upTo-long (partIn t) n) ∙ alt-least
 
-    here : Analysed (analysed ms (rootsOf 0 bodies) P most) ms sets eps succ alts k
+    here : Analysed (analysed ms (rootsFrom 0 rights) P most) ms sets eps succ alts k
     unfolding analysed
     here = record {
       marks-is = refl;
@@ -270,12 +282,41 @@ module _ (t : List ℕ) (g : Grammar) (h : Holds t (middle g)) (proper : Proper 
       rounds-is = sym (ap (λ (w : Settled (List (List ℕ))). w .count) A);
     }
 
-    analysis-is : analysed ms (rootsOf 0 bodies) P most ≡ analysis g
-    unfolding analysis
+    analysis-is : analysed ms (rootsFrom 0 rights) P most ≡ analysis g
+    unfolding analysis analysisIn
     analysis-is =
-        ap (λ (m : List Bool). analysed m (rootsOf 0 bodies) P most) (hm ∙ marks-is)
-        ∙ ap (λ (l : ℕ). analysed (marksOf bodies) (rootsOf 0 bodies) P (l * (R + X))) (sym (upTo-long (partIn t) n))
-        ∙ ap (λ (ps : List Part). analysed (marksOf bodies) (rootsOf 0 bodies) ps (length ps * (R + X))) (parts-are t g bodies h)
+        ap (λ (m : List Bool). analysed m (rootsFrom 0 rights) P most) (hm ∙ marks-is)
+        ∙ ap (λ (l : ℕ). analysed (marksBy rightEmpty rights) (rootsFrom 0 rights) P (l * (R + X))) (sym (upTo-long (partIn t) n))
+        ∙ ap (λ (ps : List Part). analysed (marksBy rightEmpty rights) (rootsFrom 0 rights) ps (length ps * (R + X))) parts-is
 
     pub told : Analysed (analysis g) ms sets eps succ alts k
     told = subst (λ (a : Analysis). Analysed a ms sets eps succ alts k) analysis-is here
+
+-- ---- ALT of a symbol
+uses-same : (p q : ℕ → Part) (a b : ℕ → List ℕ) (r n : ℕ) → ((i : ℕ) → i < n → p i ≡ q i) → ((i : ℕ) → i < n → a i ≡ b i) → usesAlt p a r n ≡ usesAlt q b r n
+unfolding usesAlt
+uses-same p q a b r zero h k = refl
+uses-same p q a b r (suc n) h k =
+    let old : usesAlt p a r n ≡ usesAlt q b r n = uses-same p q a b r n (λ i l. h i (omega arith)) (λ i l. k i (omega arith)) in
+    ap (λ (x : Part). cond (isUse x r) (unionOf (usesAlt p a r n) (a n)) (usesAlt p a r n)) (h n (omega arith))
+    ∙ ap₂ (λ (u v : List ℕ). cond (isUse (q n) r) (unionOf u v) u) old (k n (omega arith))
+
+module _ (t : List ℕ) (g : Grammar) (h : Holds t (middle g)) (proper : Proper g) (alts : List (List ℕ)) (are : take (expressionCount t) alts ≡ analysis g .alts) where
+  same : (i : ℕ) → i < expressionCount t → getD alts i empty ≡ getD (analysis g .alts) i empty
+  same i l = sym (getD-take (expressionCount t) alts i empty l) ∙ ap (λ (y : List (List ℕ)). getD y i empty) are
+
+  by-root : (s w : ℕ) → s < length (g .names) → rootIn t s ≡ w → altBy t alts s w ≡ lakeAlt (analysis g) s
+  unfolding analysis analysisIn analysed lakeAlt partsIn
+  by-root s zero l e =
+      let ps : List Part = partsAll (terminalIn g) 0 (present (intermediate g)) in
+      let long : length ps ≡ expressionCount t = ap length (sym (h .parts)) ∙ upTo-long (partIn t) (expressionCount t) in
+      uses-same (partIn t) (λ i. getD ps i (terminal 0)) (λ i. getD alts i empty) (λ i. getD (analysis g .alts) i empty) s (expressionCount t)
+      (λ i k. sym (ap (λ (qs : List Part). getD qs i (terminal 0)) (sym (h .parts)) ∙ upTo-at (partIn t) (expressionCount t) i (terminal 0) k)) same
+      ∙ ap (usesAlt (λ i. getD ps i (terminal 0)) (λ i. getD (analysis g .alts) i empty) s) (sym long)
+  by-root s (suc k) l e =
+      same k (omega (arith, e, tame t g h proper .roots s l))
+      ∙ sym (alt-by-uses g proper (sym (rights-long t (middle g) h) ∙ names-are t (middle g) h) s k (sym (roots-is t g h proper s l) ∙ e))
+
+  -- what is read of a table and its ALT is ALT of the symbol
+  pub lake-alt-is : (s : ℕ) → s < length (g .names) → altIn t alts s ≡ lakeAlt (analysis g) s
+  lake-alt-is s l = by-root s (rootIn t s) l refl

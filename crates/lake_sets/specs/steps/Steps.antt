@@ -1,5 +1,5 @@
 -- What the code has in lent memory at each step, over the words of a table: every reading is total. Assumes nothing: these are definitions.
-use Prim.Native.Nat.{ℕ, _+_, _-_, _<_, _≤_}
+use Prim.Native.Nat.{ℕ, zero, suc, _+_, _<_, _≤_}
 use mathlib.Core.Path.{_≡_}
 use mathlib.Core.Bool.{Bool, true, false}
 use mathlib.Core.List.{List, [], _∷_, _++_}
@@ -9,12 +9,13 @@ use Rattle.base_words.specs.Set.{empty}
 use Rattle.base_rounds.specs.Rounds.{iter}
 use Rattle.base_rounds.specs.Flow.{Edge}
 use Rattle.grammar.specs.Parts.{Part, terminal, occurs, sequence, choice, option, repeat, repeat1, affirms, denies}
-use Rattle.grammar_table.specs.Table.{symbolWord, partIn, upTo}
+use Rattle.grammar_table.specs.Table.{expressionCount, symbolWord, partIn, upTo}
 use Rattle.base_rounds.specs.laws.Cells.{Every}
 use Rattle.base_rounds.specs.laws.Pair.{Set2}
 use Rattle.base_rounds.specs.laws.Flow.{Inside}
 use Rattle.base_rounds.specs.laws.Sys.{edges, empties}
-use Rattle.lake_rules.specs.Beginning.{Beginning, begin, nothing, marked, beginBy, beginnings}
+use Rattle.lake_rules.specs.Beginning.{Beginning, begin, nothing, marked, rootEps, beginBy, beginnings}
+use Rattle.lake_rules.specs.Analysis.{usesAlt}
 use Rattle.lake_rules.specs.Flows.{Gift, overParts, given, succeedGifts, succeedEdges, altGifts, altEdges}
 use Rattle.lake_rules.specs.laws.Reached.{Flowed}
 use Rattle.lake_rules.specs.laws.Wholes.{Ok}
@@ -23,9 +24,17 @@ use Rattle.lake_rules.specs.laws.Wholes.{Ok}
 abbrev pub pairAt : List (List ℕ) → List Bool → ℕ → Beginning
 pairAt sets eps i = begin (getD sets i empty) (getD eps i false)
 
--- the number of the body of symbol r
+-- the root of symbol r: 0 where it has no body, else 1 + its number
 abbrev pub rootIn : List ℕ → ℕ → ℕ
-rootIn t r = symbolWord t r 1 - 1
+rootIn t r = symbolWord t r 1
+
+-- ALT of symbol r by its root: of the body, or over the uses
+abbrev pub altBy : List ℕ → List (List ℕ) → ℕ → ℕ → List ℕ
+altBy t alts r zero = usesAlt (partIn t) (λ i. getD alts i empty) r (expressionCount t)
+altBy t alts r (suc e) = getD alts e empty
+
+abbrev pub altIn : List ℕ → List (List ℕ) → ℕ → List ℕ
+altIn t alts r = altBy t alts r (rootIn t r)
 
 -- a number that has a bit in a word
 abbrev pub Small : Part → Type 0
@@ -39,12 +48,12 @@ Small (repeat1 a) = Unit {0}
 Small (affirms a) = Unit {0}
 Small (denies a) = Unit {0}
 
--- a table of n expressions, r symbols and x terminals in which each part comes before its whole and each symbol has a body
+-- a table of n expressions, r symbols and x terminals in which each part comes before its whole and each root is one of them
 pub record Tame (t : List ℕ) (n r x : ℕ) : Type 0 where
   pub symbols : r ≤ 64
   pub terminals : x ≤ 64
   pub parts : (i : ℕ) → i < n → Ok r x i (partIn t i)
-  pub roots : (s : ℕ) → s < r → rootIn t s < n
+  pub roots : (s : ℕ) → s < r → rootIn t s ≤ n
 
 -- BEGINNING of all n expressions of a table
 abbrev pub beginsIn : List ℕ → List Bool → ℕ → List Beginning
@@ -52,7 +61,7 @@ beginsIn t ms n = beginnings (marked ms) (upTo (partIn t) n)
 
 -- the marks of the symbols' bodies after one more round
 abbrev pub markNext : List ℕ → ℕ → List Bool → List Bool
-markNext t n ms = upTo (λ r. getD (beginsIn t ms n) (rootIn t r) nothing .eps) (length ms)
+markNext t n ms = upTo (λ r. rootEps (λ j. getD (beginsIn t ms n) j nothing) (rootIn t r)) (length ms)
 
 abbrev pub marksIn : List ℕ → ℕ → ℕ → ℕ → List Bool
 marksIn t n r k = iter (markNext t n) (replicate r false) k

@@ -21,7 +21,7 @@ symbols-requires : tie.Need-symbols-requires
 symbols-requires c κs = search needs
 
 returns : tie.Need-returns
-returns c = λ g h z s. let n : ⊥ = omega (arith, h .few-symbols, c .before .symbols .ensures .0) in absurd n
+returns c = λ g h s. let n : ⊥ = omega (arith, h .few-symbols, c .before .symbols .ensures .0) in absurd n
 
 copy-low-requires : tie.Need-copy-low-requires
 copy-low-requires c κs = search needs

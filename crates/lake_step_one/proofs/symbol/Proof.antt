@@ -21,7 +21,7 @@ use Rattle.grammar_table.proofs.records.body.Reads as records-body-reads
 use Rattle.grammar_table.proofs.records.kind.Reads as kind-reads
 use Rattle.grammar_table.proofs.records.store_body.Reads as store-body-reads
 use Rattle.lake_step_one.proofs.body.Reads as body-reads
-use Rattle.lake_step_one.proofs.cap.Reads as cap-reads
+use Rattle.lake_step_one.proofs.end_word.Reads as end-word-reads
 use Rattle.lake_step_one.proofs.next_from.Reads as next-from-reads
 
 kind-requires : tie.Need-kind-requires
@@ -33,8 +33,8 @@ body-requires c κs = search needs
 body-requires-2 : tie.Need-body-requires-2
 body-requires-2 c κs = search needs
 
-cap-requires : tie.Need-cap-requires
-cap-requires c κs = search needs
+end-word-requires : tie.Need-end-word-requires
+end-word-requires c κs = search needs
 
 store-body-requires : tie.Need-store-body-requires
 store-body-requires c κs = search needs
@@ -52,7 +52,7 @@ returns c = (
       (c .before .before .before .before .before .before .before .before .before .before .before .before .before .before .pre .3)
       (c .before .before .before .before .before .before .before .before .before .before .body .ensures .1),
   c .before .before .before .before .before .before .before .before .body2 .ensures .0,
-  λ g h z l w old. subst (λ (f : ℕ). Made (c .before .before .before .before .before .before .before .before .before .before .before .before .before .before .args .t .now) g
+  λ g h l w old. subst (λ (f : ℕ). Made (c .before .before .before .before .before .before .before .before .before .before .before .before .before .before .args .t .now) g
       (c .before .before .before .before .before .before .before .before .before .before .before .before .before .before .args .r + 1) f
       (c .before .before .before .before .before .before .before .before .body2 .result) (c .before .before .before .store-body .last .0)) (sym (c .next-from .ensures)) (made-next
       (c .before .before .before .before .before .before .before .before .before .before .before .before .before .before .args .t .now)
@@ -62,7 +62,7 @@ returns c = (
       (c .before .before .before .before .before .before .before .before .before .before .before .before .before .before .args .from)
       (c .before .before .before .before .before .before .before .before .before .before .before .before .before .before .args .m)
       (c .before .before .before .before .before .before .before .before .before .before .body .result) (c .before .before .before .before .before .before .before .before .body2 .result)
-      (c .before .before .before .before .cap .result) (c .before .before .before .before .before .before .before .before .before .before .before .before .before .before .args .mid .now)
+      (c .before .before .before .before .end-word .result) (c .before .before .before .before .before .before .before .before .before .before .before .before .before .before .args .mid .now)
       (c .before .before .before .before .before .before .before .before .body2 .last .1 .0) (c .before .before .before .store-body .last .0)
       (c .before .before .before .before .before .before .before .before .before .before .before .before .before .before .pre .0)
       (c .before .before .before .before .before .before .before .before .before .before .body .ensures .0) (subst (λ (b : Bool). BodyTo
@@ -75,8 +75,8 @@ returns c = (
       (c .before .before .before .before .before .before .before .before .before .before .before .before .before .before .args .m)
       (c .before .before .before .before .before .before .before .before .body2 .last .1 .0) (c .before .before .before .before .before .before .before .before .body2 .result)) (ap (λ (k : ℕ). not
       (eqb k 0)) (c .before .before .before .before .before .before .before .before .before .before .before .kind .ensures .0))
-      (c .before .before .before .before .before .before .before .before .body2 .ensures .1)) (c .before .before .before .before .cap .ensures .1)
-      (c .before .before .before .store-body .ensures) g h z l w old),
+      (c .before .before .before .before .before .before .before .before .body2 .ensures .1)) (c .before .before .before .before .end-word .ensures .1)
+      (c .before .before .before .store-body .ensures) g h l w old),
 )
 
 pub symbol-spec : {M : Type 1} → statement M
@@ -86,7 +86,7 @@ symbol-spec =
     kind-requires
     body-requires
     body-requires-2
-    cap-requires
+    end-word-requires
     store-body-requires
     next-from-requires
     same-length

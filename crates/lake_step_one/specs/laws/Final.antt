@@ -2,7 +2,7 @@
 use Prim.Native.Nat.{ℕ, zero, suc, _+_, _-_, _*_, _≤_, _<_, min}
 use mathlib.Core.Path.{_≡_, refl, sym, ap, ap₂, _∙_, subst}
 use mathlib.Core.Bool.{Bool, true, false, not}
-use mathlib.Core.List.{List, [], _∷_, _++_, map}
+use mathlib.Core.List.{List, [], _∷_, _++_}
 use mathlib.Core.Option.{Option, none, some}
 use native.Mathlib.Omega.{arith}
 use lib.ListN.{length, getD, set, take, length-set}
@@ -10,25 +10,27 @@ use lib.Seq.{getD-set-same, getD-set-other, take-all}
 use lib.Dec.{eqb}
 use Rattle.base_facts.specs.laws.Numbers.{same?}
 use Rattle.read_tokens.specs.Token.{Symbol, Leaf, name, lake, any, literal, class}
-use Rattle.grammar.specs.Exp.{Exp, size}
+use Rattle.grammar.specs.Exp.{Exp}
 use Rattle.grammar.specs.Numbers.{Grammar}
 use Rattle.grammar.specs.Parts.{Part, last, partsOf, partsAll}
-use Rattle.grammar_table.specs.Table.{tableWords, expressionsAt, symbolsAt, symbolWords, terminalsAt, terminalWords, symbolCount, terminalCount, expressionCount, symbolWord, terminalWord, symbolBy, wordsFrom, marksFrom, nameIn, leafBy, leafIn, partBy, partIn, partsIn, rootsIn, upTo}
+use Rattle.grammar_table.specs.Table.{tableWords, expressionsAt, symbolsAt, symbolWords, terminalsAt, terminalWords, symbolCount, terminalCount, expressionCount, symbolWord}
+use Rattle.grammar_table.specs.Table.{terminalWord, symbolBy, wordsFrom, marksFrom, nameIn, leafBy, leafIn, partBy, partIn, partsIn, rootsIn, upTo}
 use Rattle.grammar_table.specs.Holds.{Holds, present, rootsFrom}
 use Rattle.lake_step_one.specs.Intermediate.{intermediate}
 use Rattle.grammar.specs.Numbers.{terminalIn}
-use Rattle.lake_step_one.specs.Proper.{middle}
+use Rattle.lake_step_one.specs.Proper.{withRights, middle}
 use mathlib.Core.Logic.{_⊎_, ⊎-elim}
 use Rattle.grammar_table.specs.laws.Places.{upTo-at, is-upTo, upTo-same}
-use Rattle.grammar_table.specs.laws.Parts.{total, size-pos, all-long, present-some, from-long as some-long}
+use Rattle.grammar_table.specs.laws.Parts.{total, all-long, from-long}
 use Rattle.lake_step_one.specs.steps.Runs.{nil}
-use Rattle.lake_step_one.specs.steps.Made.{Made, MadeOf, withBodies, Short, nameSize, leafSize, WaterAt, BuiltAll, SteppedOne}
+use Rattle.lake_step_one.specs.steps.Made.{Made, MadeOf, Short, nameSize, leafSize, WaterAt, BuiltAll, SteppedOne}
 use Rattle.lake_step_one.specs.laws.Held.{names-are, terminals-are}
 use Rattle.lake_step_one.specs.laws.Next.{middle-long, name-at}
 
-pub made-start : (t : List ℕ) (g : Grammar) (bodies : List (Exp ℕ)) (mid : List ℕ) → length mid ≡ tableWords → ((i : ℕ) → i < expressionsAt → getD mid i 0 ≡ getD t i 0) → MadeOf t g bodies 0 0 0 mid
+pub made-start : (t : List ℕ) (g : Grammar) (rights : List (Option (Exp ℕ))) (mid : List ℕ) → length mid ≡ tableWords → ((i : ℕ) → i < expressionsAt → getD mid i 0 ≡ getD t i 0) → MadeOf t g
+    rights 0 0 0 mid
 unfolding total present
-made-start t g bodies mid long low = record {
+made-start t g rights mid long low = record {
   long = long;
   from-is = refl;
   count = refl;
@@ -61,30 +63,24 @@ size-by : (k : ℕ) (w : List ℕ) → nameSize (symbolBy k w) ≡ length w
 size-by zero w = refl
 size-by (suc k) w = refl
 
--- the numbers of the bodies are where their runs end
-roots-end : (es : List (Exp ℕ)) (o s : ℕ) → s < length es → getD (rootsFrom o (map some es)) s 0 ≡ o + total (take (suc s) es)
-unfolding rootsFrom total
-roots-end [] o s h = let z : ⊥ = omega arith in absurd z
-roots-end (e ∷ []) o zero h = omega (arith, size-pos e)
-roots-end (e ∷ f ∷ es) o zero h = omega (arith, size-pos e)
-roots-end (e ∷ es) o (suc s) h = let q : getD (rootsFrom (o + size e) (map some es)) s 0 ≡ o + size e + total (take (suc s) es) = roots-end es (o + size e) s (omega arith) in omega arith
-
-total-le : (es : List (Exp ℕ)) (s : ℕ) → total (take s es) ≤ total es
-unfolding total
+total-le : (os : List (Option (Exp ℕ))) (s : ℕ) → total (present (take s os)) ≤ total (present os)
+unfolding total present
 total-le [] zero = omega arith
 total-le [] (suc s) = omega arith
-total-le (e ∷ es) zero = omega arith
-total-le (e ∷ es) (suc s) = omega (arith, total-le es s)
+total-le (o ∷ os) zero = omega arith
+total-le (none ∷ os) (suc s) = total-le os s
+total-le (some e ∷ os) (suc s) = omega (arith, total-le os s)
 
-module _ (t : List ℕ) (g : Grammar) (bodies : List (Exp ℕ)) (h : Holds t g) (long : length bodies ≡ symbolCount t) (short : Short g) (from m v : ℕ) (mid : List ℕ) (made : MadeOf t g bodies (symbolCount t) from m mid) (ev : m < 4294967296 → v ≡ m) where
+module _ (t : List ℕ) (g : Grammar) (rights : List (Option (Exp ℕ))) (h : Holds t g) (long : length rights ≡ symbolCount t) (short : Short g) (from m v : ℕ) (mid : List ℕ)
+    (made : MadeOf t g rights (symbolCount t) from m mid) (ev : m < 4294967296 → v ≡ m) where
   abbrev out : List ℕ
   out = set mid 2 v
 
-  bodies-all : take (symbolCount t) bodies ≡ bodies
-  bodies-all = take-all (symbolCount t) bodies (omega (arith, long))
+  rights-all : take (symbolCount t) rights ≡ rights
+  rights-all = take-all (symbolCount t) rights (omega (arith, long))
 
-  pub count-is : m ≡ total bodies
-  count-is = made .count ∙ ap total bodies-all
+  pub count-is : m ≡ total (present rights)
+  count-is = made .count ∙ ap (λ (os : List (Option (Exp ℕ))). total (present os)) rights-all
 
   kept : (i : ℕ) → i < expressionsAt → (i ≡ 2 → ⊥) → ((s : ℕ) → s < symbolCount t → i ≡ symbolsAt + symbolWords * s + 1 → ⊥) → getD out i 0 ≡ getD t i 0
   kept i l n a = getD-set-other mid 2 i v 0 n ∙ made .low i l a
@@ -104,7 +100,13 @@ module _ (t : List ℕ) (g : Grammar) (bodies : List (Exp ℕ)) (h : Holds t g) 
   unfolding nameIn
   name-same r l =
       let n : nameSize (nameIn t r) ≤ 38 = subst (λ (y : Symbol). nameSize y ≤ 38) (name-at t g h r l) (short .names r (omega (arith, names-are t g h))) in
-      let k : symbolWord t r 3 ≤ 38 = omega (arith, n, size-by (symbolWord t r 0) (wordsFrom t (symbolsAt + symbolWords * r + 4) (symbolWord t r 3)), words-long t (symbolWord t r 3) (symbolsAt + symbolWords * r + 4)) in
+      let k : symbolWord t r 3 ≤ 38 = omega (
+        arith,
+        n,
+        size-by (symbolWord t r 0) (wordsFrom t (symbolsAt + symbolWords * r + 4) (symbolWord t r 3)),
+        words-long t (symbolWord t r 3)
+            (symbolsAt + symbolWords * r + 4),
+      ) in
       ap₂ symbolBy (symbol-word r 0 l (omega arith) (λ e. let z : ⊥ = omega arith in z))
       (ap (wordsFrom out (symbolsAt + symbolWords * r + 4)) (symbol-word r 3 l (omega arith) (λ e. let z : ⊥ = omega arith in z))
       ∙ words-same t out (symbolWord t r 3) (symbolsAt + symbolWords * r + 4)
@@ -144,11 +146,11 @@ module _ (t : List ℕ) (g : Grammar) (bodies : List (Exp ℕ)) (h : Holds t g) 
       word : (w : ℕ) → w < 3 → getD out (expressionsAt + 3 * j + w) 0 ≡ getD mid (expressionsAt + 3 * j + w) 0
       word w k = getD-set-other mid 2 (expressionsAt + 3 * j + w) v 0 (λ e. let z : ⊥ = omega arith in z)
 
-  module _ (fits : total bodies ≤ 1024) where
+  module _ (fits : total (present rights) ≤ 1024) where
     expressions : expressionCount out ≡ m
     expressions = getD-set-same mid 2 v 0 (omega (arith, made .long)) ∙ ev (omega (arith, count-is))
 
-    pub finished : Holds out (withBodies g bodies)
+    pub finished : Holds out (withRights g rights)
     unfolding partsIn rootsIn
     finished = record {
       long = length-set mid 2 v ∙ made .long;
@@ -158,21 +160,21 @@ module _ (t : List ℕ) (g : Grammar) (bodies : List (Exp ℕ)) (h : Holds t g) 
       names = ap (upTo (nameIn out)) symbols ∙ upTo-same (name []) (nameIn out) (nameIn t) (symbolCount t) name-same ∙ h .names;
       terminals = ap (upTo (leafIn out)) terminals ∙ upTo-same any (leafIn out) (leafIn t) (terminalCount t) leaf-same ∙ h .terminals;
       parts = ap (upTo (partIn out)) (expressions ∙ count-is)
-          ∙ sym (ap (partsAll (terminalIn g) 0) (present-some bodies) ∙ is-upTo nil (partIn out) (partsAll (terminalIn g) 0 bodies) (total bodies) (all-long (terminalIn g) bodies 0)
+          ∙ sym (is-upTo nil (partIn out) (partsAll (terminalIn g) 0 (present rights)) (total (present rights)) (all-long (terminalIn g) (present rights) 0)
           (λ i l. sym (part-same i ∙ made .parts i (omega (arith, count-is)) (omega arith))));
       roots = ap (upTo (λ r. symbolWord out r 1)) symbols
-          ∙ sym (is-upTo 0 (λ r. symbolWord out r 1) (rootsFrom 0 (map some bodies)) (symbolCount t) (some-long bodies 0 ∙ long)
-          (λ s l. let f : total (take (suc s) bodies) ≤ total bodies = total-le bodies (suc s) in
-          roots-end bodies 0 s (omega (arith, long)) ∙ (let q : 0 + total (take (suc s) bodies) ≡ total (take (suc s) bodies) = omega arith in q)
-          ∙ sym (getD-set-other mid 2 (symbolsAt + symbolWords * s + 1) v 0 (λ e. let z : ⊥ = omega arith in z) ∙ made .roots s l (omega arith))));
+          ∙ sym (is-upTo 0 (λ r. symbolWord out r 1) (rootsFrom 0 rights) (symbolCount t) (from-long rights 0 ∙ long)
+          (λ s l. let f : total (present (take (suc s) rights)) ≤ total (present rights) = total-le rights (suc s) in
+          sym (getD-set-other mid 2 (symbolsAt + symbolWords * s + 1) v 0 (λ e. let z : ⊥ = omega arith in z) ∙ made .roots s l (omega arith))));
     }
 
 -- all together
-pub stepped : (t mid low built out : List ℕ) (r a b m v k : ℕ) → r ≡ symbolCount t → length mid ≡ tableWords → length low ≡ length mid → ((i : ℕ) → i < expressionsAt → i < length mid → getD low i 0 ≡ getD t i 0)
+pub stepped : (t mid low built out : List ℕ) (r a b m v k : ℕ) → r ≡ symbolCount t → length mid ≡ tableWords → length low ≡ length mid
+    → ((i : ℕ) → i < expressionsAt → i < length mid → getD low i 0 ≡ getD t i 0)
     → WaterAt t r a b → BuiltAll t r a b low m built → (m < 4294967296 → v ≡ m) → out ≡ set built 2 v → k ≡ min 1025 m → SteppedOne t out k
-stepped t mid low built out r a b m v k er long same copied wat all ev eo ek g h z short =
+stepped t mid low built out r a b m v k er long same copied wat all ev eo ek g h short =
     let start : Made t g 0 0 0 low = made-start t g (intermediate g) low (same ∙ long) (λ i l. copied i l (omega arith)) in
-    let res = all g h z er (wat g h er) start in
+    let res = all g h er (wat g h er) start in
     let made : Made t g (symbolCount t) (res .0) m built = subst (λ (y : ℕ). Made t g y (res .0) m built) er (res .1) in (
       ek ∙ ap (min 1025) (count-is t g (intermediate g) h (middle-long t g h) short (res .0) m v built made ev),
       λ fits. subst (λ (x : List ℕ). Holds x (middle g)) (sym eo) (finished t g (intermediate g) h (middle-long t g h) short (res .0) m v built made ev fits),

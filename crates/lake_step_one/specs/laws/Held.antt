@@ -2,31 +2,25 @@
 use Prim.Native.Nat.{ℕ, zero, suc, _+_, _<_}
 use mathlib.Core.Path.{_≡_, refl, sym, ap, _∙_}
 use mathlib.Core.Bool.{not}
-use mathlib.Core.List.{List, [], _∷_, map}
-use mathlib.Core.Option.{Option, none, some}
+use mathlib.Core.List.{List, map}
+use mathlib.Core.Option.{some}
 use native.Mathlib.Omega.{arith}
-use lib.ListN.{length, getD}
+use lib.ListN.{length, getD, length-map}
 use lib.Dec.{eqb}
 use borrow.Author.Tests.{ne-eqb}
-use Rattle.grammar.specs.Exp.{Exp, size}
+use Rattle.grammar.specs.Exp.{Exp}
 use Rattle.grammar.specs.Numbers.{Grammar, isLake, terminalIn}
 use Rattle.grammar.specs.Parts.{Part, terminal, partsAll}
 use Rattle.grammar_table.specs.Table.{symbolCount, terminalCount, expressionCount, symbolWord, symbolBy, nameIn, leafIn, partIn, partsIn, rootsIn, upTo}
-use Rattle.grammar_table.specs.Holds.{Holds, present, rootsFrom}
+use Rattle.grammar_table.specs.Holds.{Holds, present}
 use Rattle.grammar_table.specs.laws.Places.{upTo-at, upTo-long}
-use Rattle.grammar_table.specs.laws.Parts.{total, all-long, present-some, from-long as some-long}
+use Rattle.grammar_table.specs.laws.Parts.{total, all-long, present-some, from-long}
 use Rattle.lake_step_one.specs.steps.Made.{withBodies}
 
 -- a symbol is a lake by the first word of its record
 pub by-kind : (k : ℕ) (w : List ℕ) → isLake (symbolBy k w) ≡ not (eqb k 0)
 by-kind zero w = refl
 by-kind (suc k) w = sym (ap not (ne-eqb (suc k) 0 (λ e. let z : ⊥ = omega arith in z)))
-
-pub from-long : (os : List (Option (Exp ℕ))) (o : ℕ) → length (rootsFrom o os) ≡ length os
-unfolding rootsFrom
-from-long [] o = refl
-from-long (none ∷ os) o = ap suc (from-long os o)
-from-long (some e ∷ os) o = ap suc (from-long os (o + size e))
 
 -- the part with a number, from the parts by number
 pub part-of : (t : List ℕ) (ps : List Part) → upTo (partIn t) (expressionCount t) ≡ ps → (k : ℕ) → k < length ps → partIn t (0 + k) ≡ getD ps k (terminal 0)
@@ -67,4 +61,4 @@ module _ (t : List ℕ) (g : Grammar) (bodies : List (Exp ℕ)) (h : Holds t (wi
 
   pub bodies-count : symbolCount t ≡ length bodies
   unfolding rootsIn
-  bodies-count = sym (upTo-long (λ r. symbolWord t r 1) (symbolCount t)) ∙ ap length (h .roots) ∙ some-long bodies 0
+  bodies-count = sym (upTo-long (λ r. symbolWord t r 1) (symbolCount t)) ∙ ap length (h .roots) ∙ from-long (map some bodies) 0 ∙ length-map bodies some

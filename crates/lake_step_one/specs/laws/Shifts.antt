@@ -10,7 +10,7 @@ use Rattle.grammar.specs.Exp.{Exp, sym as uses, ter, seq, alt, opt, star, plus,
 use Rattle.grammar.specs.Parts.{Part, terminal, occurs, sequence, choice, option, repeat, repeat1, affirms, denies, last, partsOf}
 use Rattle.grammar_table.specs.Table.{partBy, partIn, tableWords}
 use Rattle.grammar_table.specs.laws.Parts.{size-pos, parts-long}
-use Rattle.lake_step_one.specs.steps.Runs.{moved, shift, Near, Above, nil, PartsRun, Grew, CopiedOne}
+use Rattle.lake_step_one.specs.steps.Runs.{renamed, moved, shift, Near, Above, nil, PartsRun, Grew, CopiedOne}
 use Rattle.lake_step_one.specs.laws.Stores.{grew-none, grew-two, grew-as}
 use Rattle.grammar_table.specs.Table.{upTo}
 use Rattle.grammar_table.specs.laws.Places.{is-upTo}
@@ -27,25 +27,54 @@ two-map f xs ys us vs p q a b c =
 one-map : (f : Part → Part) (xs us : List Part) (p q : Part) → map f xs ≡ us → f p ≡ q → map f (xs ++ (p ∷ [])) ≡ us ++ (q ∷ [])
 one-map f xs us p q a c = map-append f xs (p ∷ []) ∙ ap₂ (λ (l : List Part) (y : Part). l ++ (y ∷ [])) a c
 
-module _ (t : Leaf → ℕ) (o m : ℕ) where
-  root : (a : Exp ℕ) (i j : ℕ) → i + m ≡ j + o → o ≤ i → moved o m (last i a) ≡ last j a
-  root a i j e h = omega (arith, size-pos a)
+-- w numbers from i on become those from j on
+abbrev pub Moves : (ℕ → ℕ) → ℕ → ℕ → ℕ → Type 0
+Moves to i j w = (k : ℕ) → k < w → to (i + k) ≡ j + k
 
-  pub shifted : (e : Exp ℕ) (i j : ℕ) → i + m ≡ j + o → o ≤ i → map (shift o m) (partsOf t i e) ≡ partsOf t j e
-  unfolding partsOf
-  shifted (uses s) i j h l = refl
-  shifted (ter y) i j h l = refl
-  shifted (seq a b) i j h l =
-      two-map (shift o m) (partsOf t i a) (partsOf t (i + size a) b) (partsOf t j a) (partsOf t (j + size a) b) (sequence (last i a) (last (i + size a) b)) (sequence (last j a) (last (j + size a) b))
-      (shifted a i j h l) (shifted b (i + size a) (j + size a) (omega arith) (omega arith)) (ap₂ sequence (root a i j h l) (root b (i + size a) (j + size a) (omega arith) (omega arith)))
-  shifted (alt a b) i j h l =
-      two-map (shift o m) (partsOf t i a) (partsOf t (i + size a) b) (partsOf t j a) (partsOf t (j + size a) b) (choice (last i a) (last (i + size a) b)) (choice (last j a) (last (j + size a) b))
-      (shifted a i j h l) (shifted b (i + size a) (j + size a) (omega arith) (omega arith)) (ap₂ choice (root a i j h l) (root b (i + size a) (j + size a) (omega arith) (omega arith)))
-  shifted (opt a) i j h l = one-map (shift o m) (partsOf t i a) (partsOf t j a) (option (last i a)) (option (last j a)) (shifted a i j h l) (ap option (root a i j h l))
-  shifted (star a) i j h l = one-map (shift o m) (partsOf t i a) (partsOf t j a) (repeat (last i a)) (repeat (last j a)) (shifted a i j h l) (ap repeat (root a i j h l))
-  shifted (plus a) i j h l = one-map (shift o m) (partsOf t i a) (partsOf t j a) (repeat1 (last i a)) (repeat1 (last j a)) (shifted a i j h l) (ap repeat1 (root a i j h l))
-  shifted (ahead a) i j h l = one-map (shift o m) (partsOf t i a) (partsOf t j a) (affirms (last i a)) (affirms (last j a)) (shifted a i j h l) (ap affirms (root a i j h l))
-  shifted (never a) i j h l = one-map (shift o m) (partsOf t i a) (partsOf t j a) (denies (last i a)) (denies (last j a)) (shifted a i j h l) (ap denies (root a i j h l))
+module _ (to : ℕ → ℕ) where
+  fewer : (i j w v : ℕ) → v ≤ w → Moves to i j w → Moves to i j v
+  fewer i j w v l h k q = h k (omega arith)
+
+  later : (i j w u v : ℕ) → u + v ≤ w → Moves to i j w → Moves to (i + u) (j + u) v
+  later i j w u v l h k q = ap to (let z : i + u + k ≡ i + (u + k) = omega arith in z) ∙ h (u + k) (omega arith) ∙ (let z : j + (u + k) ≡ j + u + k = omega arith in z)
+
+  pub last-moves : (e : Exp ℕ) (i j : ℕ) → Moves to i j (size e) → to (last i e) ≡ last j e
+  last-moves e i j h =
+      ap to (let z : i + size e - 1 ≡ i + (size e - 1) = omega (arith, size-pos e) in z) ∙ h (size e - 1) (omega (arith, size-pos e))
+      ∙ (let z : j + (size e - 1) ≡ j + size e - 1 = omega (arith, size-pos e) in z)
+
+  pub run-renamed : (t : Leaf → ℕ) (e : Exp ℕ) (i j : ℕ) → Moves to i j (size e) → map (renamed to) (partsOf t i e) ≡ partsOf t j e
+  unfolding partsOf size
+  run-renamed t (uses s) i j h = refl
+  run-renamed t (ter y) i j h = refl
+  run-renamed t (seq a b) i j h =
+      let ha : Moves to i j (size a) = fewer i j (suc (size a + size b)) (size a) (omega arith) h in
+      let hb : Moves to (i + size a) (j + size a) (size b) = later i j (suc (size a + size b)) (size a) (size b) (omega arith) h in
+      two-map (renamed to) (partsOf t i a) (partsOf t (i + size a) b) (partsOf t j a) (partsOf t (j + size a) b) (sequence (last i a) (last (i + size a) b)) (sequence (last j a) (last (j + size a) b))
+      (run-renamed t a i j ha) (run-renamed t b (i + size a) (j + size a) hb) (ap₂ sequence (last-moves a i j ha) (last-moves b (i + size a) (j + size a) hb))
+  run-renamed t (alt a b) i j h =
+      let ha : Moves to i j (size a) = fewer i j (suc (size a + size b)) (size a) (omega arith) h in
+      let hb : Moves to (i + size a) (j + size a) (size b) = later i j (suc (size a + size b)) (size a) (size b) (omega arith) h in
+      two-map (renamed to) (partsOf t i a) (partsOf t (i + size a) b) (partsOf t j a) (partsOf t (j + size a) b) (choice (last i a) (last (i + size a) b)) (choice (last j a) (last (j + size a) b))
+      (run-renamed t a i j ha) (run-renamed t b (i + size a) (j + size a) hb) (ap₂ choice (last-moves a i j ha) (last-moves b (i + size a) (j + size a) hb))
+  run-renamed t (opt a) i j h =
+      let ha : Moves to i j (size a) = fewer i j (suc (size a)) (size a) (omega arith) h in
+      one-map (renamed to) (partsOf t i a) (partsOf t j a) (option (last i a)) (option (last j a)) (run-renamed t a i j ha) (ap option (last-moves a i j ha))
+  run-renamed t (star a) i j h =
+      let ha : Moves to i j (size a) = fewer i j (suc (size a)) (size a) (omega arith) h in
+      one-map (renamed to) (partsOf t i a) (partsOf t j a) (repeat (last i a)) (repeat (last j a)) (run-renamed t a i j ha) (ap repeat (last-moves a i j ha))
+  run-renamed t (plus a) i j h =
+      let ha : Moves to i j (size a) = fewer i j (suc (size a)) (size a) (omega arith) h in
+      one-map (renamed to) (partsOf t i a) (partsOf t j a) (repeat1 (last i a)) (repeat1 (last j a)) (run-renamed t a i j ha) (ap repeat1 (last-moves a i j ha))
+  run-renamed t (ahead a) i j h =
+      let ha : Moves to i j (size a) = fewer i j (suc (size a)) (size a) (omega arith) h in
+      one-map (renamed to) (partsOf t i a) (partsOf t j a) (affirms (last i a)) (affirms (last j a)) (run-renamed t a i j ha) (ap affirms (last-moves a i j ha))
+  run-renamed t (never a) i j h =
+      let ha : Moves to i j (size a) = fewer i j (suc (size a)) (size a) (omega arith) h in
+      one-map (renamed to) (partsOf t i a) (partsOf t j a) (denies (last i a)) (denies (last j a)) (run-renamed t a i j ha) (ap denies (last-moves a i j ha))
+
+shifted : (t : Leaf → ℕ) (o m : ℕ) (e : Exp ℕ) (i j : ℕ) → i + m ≡ j + o → o ≤ i → map (shift o m) (partsOf t i e) ≡ partsOf t j e
+shifted t o m e i j h l = run-renamed (moved o m) t e i j (λ k q. omega arith)
 
 -- each lies above the run's begin
 abbrev AboveAll : ℕ → List Part → Type 0
@@ -71,10 +100,12 @@ module _ (t : Leaf → ℕ) (o : ℕ) where
   above (ter y) i l h = (tt, tt)
   above (seq a b) i l h =
       above-both o (partsOf t i a) (partsOf t (i + size a) b ++ (sequence (last i a) (last (i + size a) b) ∷ [])) (above a i l (omega arith))
-      (above-both o (partsOf t (i + size a) b) (sequence (last i a) (last (i + size a) b) ∷ []) (above b (i + size a) (omega arith) (omega arith)) ((near a i l (omega arith), near b (i + size a) (omega arith) (omega arith)), tt))
+      (above-both o (partsOf t (i + size a) b) (sequence (last i a) (last (i + size a) b) ∷ []) (above b (i + size a) (omega arith) (omega arith))
+      ((near a i l (omega arith), near b (i + size a) (omega arith) (omega arith)), tt))
   above (alt a b) i l h =
       above-both o (partsOf t i a) (partsOf t (i + size a) b ++ (choice (last i a) (last (i + size a) b) ∷ [])) (above a i l (omega arith))
-      (above-both o (partsOf t (i + size a) b) (choice (last i a) (last (i + size a) b) ∷ []) (above b (i + size a) (omega arith) (omega arith)) ((near a i l (omega arith), near b (i + size a) (omega arith) (omega arith)), tt))
+      (above-both o (partsOf t (i + size a) b) (choice (last i a) (last (i + size a) b) ∷ []) (above b (i + size a) (omega arith) (omega arith))
+      ((near a i l (omega arith), near b (i + size a) (omega arith) (omega arith)), tt))
   above (opt a) i l h = above-both o (partsOf t i a) (option (last i a) ∷ []) (above a i l (omega arith)) (near a i l (omega arith), tt)
   above (star a) i l h = above-both o (partsOf t i a) (repeat (last i a) ∷ []) (above a i l (omega arith)) (near a i l (omega arith), tt)
   above (plus a) i l h = above-both o (partsOf t i a) (repeat1 (last i a) ∷ []) (above a i l (omega arith)) (near a i l (omega arith), tt)

@@ -6,27 +6,30 @@ use mathlib.Core.List.{List, [], _∷_, _++_}
 use mathlib.Core.Option.{Option, none, some}
 use lib.ListN.{length, getD, set}
 use mathlib.Core.Bool.{Bool}
-use Rattle.read_tokens.specs.Token.{Leaf, any}
-use Rattle.grammar.specs.Lakes.{waterOf}
+use Rattle.read_tokens.specs.Token.{Leaf}
 use Rattle.lake_step_one.specs.Intermediate.{intermediateBy}
 use Rattle.grammar.specs.Exp.{Exp, size}
 use Rattle.grammar.specs.Parts.{Part, terminal, occurs, sequence, choice, option, repeat, repeat1, affirms, denies, partsOf}
 use Rattle.grammar_table.specs.Table.{tableWords, expressionsAt, partIn}
+
+-- an expression whose parts have other numbers
+abbrev pub renamed : (ℕ → ℕ) → Part → Part
+renamed to (terminal x) = terminal x
+renamed to (occurs r) = occurs r
+renamed to (sequence a b) = sequence (to a) (to b)
+renamed to (choice a b) = choice (to a) (to b)
+renamed to (option a) = option (to a)
+renamed to (repeat a) = repeat (to a)
+renamed to (repeat1 a) = repeat1 (to a)
+renamed to (affirms a) = affirms (to a)
+renamed to (denies a) = denies (to a)
 
 -- a part's number, moved from a run at o to one at m
 abbrev pub moved : ℕ → ℕ → ℕ → ℕ
 moved o m i = i + m - o
 
 abbrev pub shift : ℕ → ℕ → Part → Part
-shift o m (terminal x) = terminal x
-shift o m (occurs r) = occurs r
-shift o m (sequence a b) = sequence (moved o m a) (moved o m b)
-shift o m (choice a b) = choice (moved o m a) (moved o m b)
-shift o m (option a) = option (moved o m a)
-shift o m (repeat a) = repeat (moved o m a)
-shift o m (repeat1 a) = repeat1 (moved o m a)
-shift o m (affirms a) = affirms (moved o m a)
-shift o m (denies a) = denies (moved o m a)
+shift o m p = renamed (moved o m) p
 
 -- the parts lie in the run
 abbrev pub Near : ℕ → ℕ → Type 0
@@ -76,14 +79,27 @@ abbrev pub BodyAt : (Leaf → ℕ) → List ℕ → ℕ → ℕ → Option (Exp 
 BodyAt number t a b none = b ≡ 0
 BodyAt number t a b (some e) = (b ≡ a + size e) × PartsRun number t a e
 
--- w behind the first m
-abbrev pub WaterTo : List ℕ → ℕ → ℕ → List ℕ → ℕ → List ℕ → ℕ → Type 0
-WaterTo t wa wb mid m mid′ m′ =
-    (number : Leaf → ℕ) (w : Option (Exp ℕ)) → length mid ≡ tableWords → number any ≡ 0 → BodyAt number t wa wb w
-    → Grew mid m (partsOf number m (waterOf w)) mid′ m′
+-- the expressions of a body, if there is one
+abbrev pub bodyParts : (Leaf → ℕ) → ℕ → Option (Exp ℕ) → List Part
+bodyParts number m none = []
+bodyParts number m (some e) = partsOf number m e
+
+-- a body, if there is one, behind the first m
+abbrev pub CopiedBody : List ℕ → ℕ → ℕ → List ℕ → ℕ → List ℕ → ℕ → Type 0
+CopiedBody t a b mid m mid′ m′ =
+    (number : Leaf → ℕ) (o : Option (Exp ℕ)) → length mid ≡ tableWords → BodyAt number t a b o → Grew mid m (bodyParts number m o) mid′ m′
 
 -- a symbol's intermediate body behind the first m
 abbrev pub BodyTo : List ℕ → Bool → ℕ → ℕ → ℕ → ℕ → List ℕ → ℕ → List ℕ → ℕ → Type 0
 BodyTo t isLake a b wa wb mid m mid′ m′ =
-    (number : Leaf → ℕ) (w o : Option (Exp ℕ)) → length mid ≡ tableWords → number any ≡ 0 → BodyAt number t wa wb w → BodyAt number t a b o
-    → Grew mid m (partsOf number m (intermediateBy isLake w o)) mid′ m′
+    (number : Leaf → ℕ) (w o : Option (Exp ℕ)) → length mid ≡ tableWords → BodyAt number t wa wb w → BodyAt number t a b o
+    → Grew mid m (bodyParts number m (intermediateBy isLake w o)) mid′ m′
+
+-- the word of a body whose expressions, behind the first m, end at p: 0 where there are none
+abbrev pub EndWord : ℕ → ℕ → ℕ → Type 0
+EndWord m p v = (p ≡ m → v ≡ 0) × ((p ≡ m → ⊥) → p < 4294967296 → v ≡ p)
+
+-- where a body's expressions end is its word; 0 where there is no body
+abbrev pub endsAt : Option (Exp ℕ) → ℕ → ℕ
+endsAt none p = 0
+endsAt (some e) p = p

@@ -18,8 +18,7 @@ use Rattle.lake_step_two.proofs.symbol.Reads as reads
 use Rattle.lake_step_two.proofs.symbol.Lts as lts
 use Rattle.lake_step_one.proofs.cap.Reads as cap-reads
 use Rattle.lake_step_one.proofs.next_from.Reads as next-from-reads
-use Rattle.lake_step_one.proofs.span.Reads as span-reads
-use Rattle.lake_sets.proofs.set_at.Reads as set-at-reads
+use Rattle.lake_sets.proofs.alt_of.Reads as alt-of-reads
 use Rattle.grammar_table.proofs.records.body.Reads as records-body-reads
 use Rattle.lake_step_two.proofs.body.Reads as body-reads
 use Rattle.grammar_table.proofs.records.kind.Reads as kind-reads
@@ -31,11 +30,8 @@ kind-requires c κs = search needs
 body-requires : tie.Need-body-requires
 body-requires c κs = search needs
 
-span-requires : tie.Need-span-requires
-span-requires c κs = search needs
-
-set-at-requires : tie.Need-set-at-requires
-set-at-requires c κs = search needs
+alt-of-requires : tie.Need-alt-of-requires
+alt-of-requires c κs = search needs
 
 body-requires-2 : tie.Need-body-requires-2
 body-requires-2 c κs = search needs
@@ -54,41 +50,39 @@ same-length c = search needs
 
 returns : tie.Need-returns
 returns c = (
-  next-lt (c .before .before .before .before .before .before .before .before .before .before .before .before .before .before .before .before .args .from)
-      (c .before .before .before .before .before .before .before .before .before .before .before .before .body .result) (c .next-from .result) (c .next-from .ensures)
-      (c .before .before .before .before .before .before .before .before .before .before .before .before .before .before .before .before .pre .3)
-      (c .before .before .before .before .before .before .before .before .before .before .before .before .body .ensures .1),
+  next-lt (c .before .before .before .before .before .before .before .before .before .before .before .before .before .before .before .args .from)
+      (c .before .before .before .before .before .before .before .before .before .before .before .body .result) (c .next-from .result) (c .next-from .ensures)
+      (c .before .before .before .before .before .before .before .before .before .before .before .before .before .before .before .pre .3)
+      (c .before .before .before .before .before .before .before .before .before .before .before .body .ensures .1),
   c .before .before .before .before .before .before .before .before .body2 .ensures .0,
-  λ g a er ex l old. subst (λ (f : ℕ). PlainMade (c .before .before .before .before .before .before .before .before .before .before .before .before .before .before .before .before .args .t .now) g
-      (c .before .before .before .before .before .before .before .before .before .before .before .before .before .before .before .before .args .s + 1) f
+  λ g a er ex l old. subst (λ (f : ℕ). PlainMade (c .before .before .before .before .before .before .before .before .before .before .before .before .before .before .before .args .t .now) g
+      (c .before .before .before .before .before .before .before .before .before .before .before .before .before .before .before .args .s + 1) f
       (c .before .before .before .before .before .before .before .before .body2 .result) (c .before .before .before .store-body .last .0)) (sym (c .next-from .ensures)) (plain-next
-      (c .before .before .before .before .before .before .before .before .before .before .before .before .before .before .before .before .args .t .now)
-      (c .before .before .before .before .before .before .before .before .before .before .before .before .before .before .before .before .args .alts .now)
-      (c .before .before .before .before .before .before .before .before .before .before .before .before .before .before .before .before .args .among .symbols)
-      (c .before .before .before .before .before .before .before .before .before .before .before .before .before .before .before .before .args .among .terminals)
-      (c .before .before .before .before .before .before .before .before .before .before .before .before .before .before .before .before .args .s)
-      (c .before .before .before .before .before .before .before .before .before .before .before .before .before .before .before .before .args .from)
-      (c .before .before .before .before .before .before .before .before .before .before .before .before .before .before .before .before .args .m)
-      (c .before .before .before .before .before .before .before .before .before .before .before .before .body .result)
+      (c .before .before .before .before .before .before .before .before .before .before .before .before .before .before .before .args .t .now)
+      (c .before .before .before .before .before .before .before .before .before .before .before .before .before .before .before .args .alts .now)
+      (c .before .before .before .before .before .before .before .before .before .before .before .before .before .before .before .args .among .symbols)
+      (c .before .before .before .before .before .before .before .before .before .before .before .before .before .before .before .args .among .terminals)
+      (c .before .before .before .before .before .before .before .before .before .before .before .before .before .before .before .args .s)
+      (c .before .before .before .before .before .before .before .before .before .before .before .before .before .before .before .args .from)
+      (c .before .before .before .before .before .before .before .before .before .before .before .before .before .before .before .args .m)
+      (c .before .before .before .before .before .before .before .before .before .before .before .body .result)
       (c .before .before .before .before .before .before .before .before .body2 .result) (c .before .before .before .before .cap .result)
-      (c .before .before .before .before .before .before .before .before .before .before .set-at .result)
-      (c .before .before .before .before .before .before .before .before .before .before .before .before .before .before .before .before .args .out .now)
+      (c .before .before .before .before .before .before .before .before .before .before .alt-of .result)
+      (c .before .before .before .before .before .before .before .before .before .before .before .before .before .before .before .args .out .now)
       (c .before .before .before .before .before .before .before .before .body2 .last .1 .0) (c .before .before .before .store-body .last .0)
-      (c .before .before .before .before .before .before .before .before .before .before .before .before .before .before .before .before .pre .2)
-      (c .before .before .before .before .before .before .before .before .before .before .before .before .body .ensures .0)
-      (c .before .before .before .before .before .before .before .before .before .before .set-at .ensures ∙ ap (λ (i : ℕ). getD
-      (c .before .before .before .before .before .before .before .before .before .before .before .before .before .before .before .before .args .alts .now) i empty)
-      (c .before .before .before .before .before .before .before .before .before .before .before .span .ensures)) (subst (λ (k : Bool). PlainTo
-      (c .before .before .before .before .before .before .before .before .before .before .before .before .before .before .before .before .args .t .now) k
-      (c .before .before .before .before .before .before .before .before .before .before .set-at .result)
-      (c .before .before .before .before .before .before .before .before .before .before .before .before .before .before .before .before .args .among .symbols)
-      (c .before .before .before .before .before .before .before .before .before .before .before .before .before .before .before .before .args .among .terminals)
-      (c .before .before .before .before .before .before .before .before .before .before .before .before .before .before .before .before .args .from)
-      (c .before .before .before .before .before .before .before .before .before .before .before .before .body .result)
-      (c .before .before .before .before .before .before .before .before .before .before .before .before .before .before .before .before .args .out .now)
-      (c .before .before .before .before .before .before .before .before .before .before .before .before .before .before .before .before .args .m)
+      (c .before .before .before .before .before .before .before .before .before .before .before .before .before .before .before .pre .2)
+      (c .before .before .before .before .before .before .before .before .before .before .before .body .ensures .0)
+      (c .before .before .before .before .before .before .before .before .before .before .alt-of .ensures) (subst (λ (k : Bool). PlainTo
+      (c .before .before .before .before .before .before .before .before .before .before .before .before .before .before .before .args .t .now) k
+      (c .before .before .before .before .before .before .before .before .before .before .alt-of .result)
+      (c .before .before .before .before .before .before .before .before .before .before .before .before .before .before .before .args .among .symbols)
+      (c .before .before .before .before .before .before .before .before .before .before .before .before .before .before .before .args .among .terminals)
+      (c .before .before .before .before .before .before .before .before .before .before .before .before .before .before .before .args .from)
+      (c .before .before .before .before .before .before .before .before .before .before .before .body .result)
+      (c .before .before .before .before .before .before .before .before .before .before .before .before .before .before .before .args .out .now)
+      (c .before .before .before .before .before .before .before .before .before .before .before .before .before .before .before .args .m)
       (c .before .before .before .before .before .before .before .before .body2 .last .1 .0) (c .before .before .before .before .before .before .before .before .body2 .result)) (ap (λ (k : ℕ). not
-      (eqb k 0)) (c .before .before .before .before .before .before .before .before .before .before .before .before .before .kind .ensures .0))
+      (eqb k 0)) (c .before .before .before .before .before .before .before .before .before .before .before .before .kind .ensures .0))
       (c .before .before .before .before .before .before .before .before .body2 .ensures .1)) (c .before .before .before .before .cap .ensures .1)
       (c .before .before .before .store-body .ensures) g a er ex l old),
 )
@@ -99,8 +93,7 @@ symbol-spec =
     (tie.spec
     kind-requires
     body-requires
-    span-requires
-    set-at-requires
+    alt-of-requires
     body-requires-2
     cap-requires
     store-body-requires

@@ -3,6 +3,7 @@ use Prim.Native.Nat.{ℕ, zero, suc, _+_, _≤_, _<_}
 use mathlib.Core.Path.{_≡_, refl, sym, ap, _∙_, subst}
 use mathlib.Core.Bool.{Bool, true, false, not, _&&_}
 use mathlib.Core.List.{List, [], _∷_, _++_}
+use mathlib.Core.Option.{Option, none, some}
 use native.Mathlib.Omega.{arith}
 use lib.ListN.{length, getD}
 use Rattle.read_tokens.specs.Token.{Symbol, Leaf, any}
@@ -11,8 +12,9 @@ use Rattle.grammar.specs.Empty.{emptyLeaf}
 use Rattle.grammar.specs.Lakes.{choiceOf, skipOf, stepTwo}
 use Rattle.grammar.specs.Numbers.{Grammar, isLake}
 use Rattle.base_words.specs.Set.{memberOf}
+use Rattle.grammar_table.specs.Holds.{present}
 use Rattle.lake_step_one.specs.Intermediate.{intermediate}
-use Rattle.lake_rules.specs.Analysis.{Analysis, analysis, bodyAlt}
+use Rattle.lake_rules.specs.Analysis.{Analysis, analysis, lakeAlt}
 use Rattle.grammar.specs.Numbers.{terminalIn}
 use Rattle.lake_step_one.specs.Proper.{Sound, SoundAll, Proper}
 use Rattle.lake_plain.specs.Plain.{nonterminalsIn, terminalsIn, alternatives, plainBy, plainFrom, plainBodies}
@@ -62,20 +64,28 @@ module _ (number : Leaf → ℕ) (r x : ℕ) (dot : number any < x) where
   skip-sound [] h = dot-sound
   skip-sound (a ∷ bs) h = (choice-sound a bs (h .0) (h .1), dot-sound)
 
-  body-sound : (l : Bool) (b : Exp ℕ) (ss : List (Exp ℕ)) → Sound number r x b → SoundAll number r x ss → Sound number r x (plainBy l b ss)
+  bare-sound : (l : Bool) (ss : List (Exp ℕ)) → SoundAll number r x ss → Sound number r x (plainBy l none ss)
+  unfolding stepTwo
+  bare-sound true ss k = skip-sound ss k
+  bare-sound false ss k = dot-sound
+
+  body-sound : (l : Bool) (b : Exp ℕ) (ss : List (Exp ℕ)) → Sound number r x b → SoundAll number r x ss → Sound number r x (plainBy l (some b) ss)
   unfolding stepTwo
   body-sound true b ss h k = (h, skip-sound ss k)
   body-sound false b ss h k = h
 
-  from-sound : (g : Grammar) (a : Analysis) → length (g .names) ≤ r → AllLeaves (g .terminals) → (i : ℕ) (hs : List Symbol) (bs : List (Exp ℕ)) → SoundAll number r x bs → SoundAll number r x (plainFrom g a i hs bs)
-  unfolding plainFrom alternatives
-  from-sound g a n ls i [] bs h = tt
-  from-sound g a n ls i (y ∷ hs) [] h = tt
-  from-sound g a n ls i (y ∷ hs) (b ∷ bs) h = (
-    body-sound (isLake y) b (nonterminalsIn (bodyAlt a i) 0 (g .names) ++ terminalsIn (bodyAlt a i) 0 (g .terminals)) (h .0)
-        (both (nonterminalsIn (bodyAlt a i) 0 (g .names)) (terminalsIn (bodyAlt a i) 0 (g .terminals)) (symbols-sound (bodyAlt a i) 0 (g .names) (omega arith)) (leaves-sound (bodyAlt a i) 0 (g .terminals) ls)),
-    from-sound g a n ls (suc i) hs bs (h .1),
-  )
+  module _ (g : Grammar) (a : Analysis) (n : length (g .names) ≤ r) (ls : AllLeaves (g .terminals)) where
+    all-sound : (u : List ℕ) → SoundAll number r x (alternatives g u)
+    unfolding alternatives
+    all-sound u = both (nonterminalsIn u 0 (g .names)) (terminalsIn u 0 (g .terminals)) (symbols-sound u 0 (g .names) (omega arith)) (leaves-sound u 0 (g .terminals) ls)
+
+    from-sound : (i : ℕ) (hs : List Symbol) (os : List (Option (Exp ℕ))) → SoundAll number r x (present os) → SoundAll number r x (plainFrom g a i hs os)
+    unfolding plainFrom present
+    from-sound i [] os h = tt
+    from-sound i (y ∷ hs) [] h = tt
+    from-sound i (y ∷ hs) (none ∷ os) h = (bare-sound (isLake y) (alternatives g (lakeAlt a i)) (all-sound (lakeAlt a i)), from-sound (suc i) hs os h)
+    from-sound i (y ∷ hs) (some b ∷ os) h =
+        (body-sound (isLake y) b (alternatives g (lakeAlt a i)) (h .0) (all-sound (lakeAlt a i)), from-sound (suc i) hs os (h .1))
 
   -- leaves by place
   by-place : (ys : List Leaf) → ((i : ℕ) → i < length ys → FullLeaf (getD ys i any)) → AllLeaves ys

@@ -3,6 +3,7 @@ use Prim.Native.Nat.{ℕ, zero, suc, _+_, _-_, _*_, _≤_, _<_}
 use mathlib.Core.Path.{_≡_, refl, sym, ap, ap₂, _∙_, subst}
 use mathlib.Core.Bool.{Bool, true, false, not, _&&_}
 use mathlib.Core.List.{List, [], _∷_, _++_}
+use mathlib.Core.Option.{none, some}
 use native.Mathlib.Omega.{arith}
 use native.Mathlib.Numerals.{add-one}
 use lib.ListN.{length, getD, length-append}
@@ -18,7 +19,8 @@ use Rattle.lake_step_one.specs.steps.Made.{lakeAt}
 use Rattle.lake_step_one.specs.laws.Stores.{grew-one, grew-none, grew-two, grew-as}
 use Rattle.lake_step_one.specs.laws.Bodies.{dot, run, both}
 use Rattle.lake_plain.specs.Plain.{plainBy}
-use Rattle.lake_step_two.specs.steps.Skips.{choiceParts, onlyIf, each, symbolIn, terminalOf, chosenIn, Adds, Added, AddedSymbol, AddedTerminal, AddedSymbols, AddedTerminals, Numbered, ChoiceTo, SkipTo, PlainTo}
+use Rattle.lake_step_two.specs.steps.Skips.{choiceParts, onlyIf, each, symbolIn, terminalOf, chosenIn, Adds, Added, AddedSymbol, AddedTerminal, AddedSymbols, AddedTerminals}
+use Rattle.lake_step_two.specs.steps.Skips.{Numbered, ChoiceTo, SkipTo, PlainTo}
 
 append-none : {A : Type 0} (l : List A) → l ++ [] ≡ l
 append-none [] = refl
@@ -68,7 +70,8 @@ module _ (op x o m : ℕ) (mid b : List ℕ) (put : b ≡ stored mid m op x 0) w
       = subst (λ (v : List ℕ). Grew b (m + 1) (K ∷ []) v (m + 1 + 1)) (sym put2) (grew-one b (m + 1) 3 l r K (two .long ∙ w)
       (λ v. ap₂ choice (hl (omega arith) ∙ (let q : m - 1 ≡ o + size C - 1 = omega arith in q)) (hr (omega arith) ∙ (let q : m ≡ o + size C + size e - 1 = omega arith in q)))) in
       grew-as (grew-two first b c o (m + 1) (m + 1 + 1) (partsOf number o C ++ partsOf number m e) (K ∷ []) two three)
-      (append-assoc (partsOf number o C) (partsOf number m e) (K ∷ []) ∙ ap (λ (i : ℕ). partsOf number o C ++ (partsOf number i e ++ (K ∷ []))) mm ∙ sym (ap (partsOf number o) (choice-more y e ss))) (omega arith)
+      (append-assoc (partsOf number o C) (partsOf number m e) (K ∷ []) ∙ ap (λ (i : ℕ). partsOf number o C ++ (partsOf number i e ++ (K ∷ []))) mm ∙ sym
+      (ap (partsOf number o) (choice-more y e ss))) (omega arith)
 
 -- ---- one symbol, one terminal
 symbol-part : (number : Leaf → ℕ) (i j : ℕ) → partsOf number j (uses i) ≡ partBy 1 i 0 ∷ []
@@ -119,7 +122,8 @@ module _ (t s : List ℕ) (r x m p : ℕ) (mid b : List ℕ) (chosen : ChoiceTo 
       by [] g = grew-as (grew-two mid b c m p (p + 1) [] (partsOf number p (ter any)) g (dot number b c p (g .long ∙ w) z put)) (ap (λ (i : ℕ). partsOf number i (ter any)) e) refl
       by (y ∷ ss) g = let bad : ⊥ = omega (arith, g .count, parts-long number (choiceOf y ss) m, size-pos (choiceOf y ss)) in absurd bad
 
-  pub skip-some : (c d f : List ℕ) (l u v : ℕ) → (p ≡ m → ⊥) → (p - 1 < 4294967296 → l ≡ p - 1) → c ≡ stored b p 8 l 0 → d ≡ stored c (p + 1) 0 0 0 → (p < 4294967296 → u ≡ p) → (p + 1 < 4294967296 → v ≡ p + 1)
+  pub skip-some : (c d f : List ℕ) (l u v : ℕ) → (p ≡ m → ⊥) → (p - 1 < 4294967296 → l ≡ p - 1) → c ≡ stored b p 8 l 0 → d ≡ stored c (p + 1) 0 0 0 → (p < 4294967296 → u ≡ p)
+      → (p + 1 < 4294967296 → v ≡ p + 1)
       → f ≡ stored d (p + 2) 2 u v → SkipTo t s r x mid m f (p + 3)
   unfolding skipOf partsOf partBy size
   skip-some c d f l u v ne hl pc pd hu hv pf number leaf n z w = by (chosenIn t leaf s r x) (chosen number leaf n w)
@@ -134,7 +138,8 @@ module _ (t s : List ℕ) (r x m p : ℕ) (mid b : List ℕ) (chosen : ChoiceTo 
           let S = sequence (m + suc (size C) - 1) (m + suc (size C) + 1 - 1) in
           let one : Grew mid m (partsOf number m C ++ (D ∷ [])) c (p + 1)
           = grew-two mid b c m p (p + 1) (partsOf number m C) (D ∷ []) g
-          (subst (λ (k : List ℕ). Grew b p (D ∷ []) k (p + 1)) (sym pc) (grew-one b p 8 l 0 D (g .long ∙ w) (λ k. ap denies (hl (omega arith) ∙ (let q : p - 1 ≡ m + size C - 1 = omega arith in q))))) in
+          (subst (λ (k : List ℕ). Grew b p (D ∷ []) k (p + 1)) (sym pc) (grew-one b p 8 l 0 D (g .long ∙ w)
+          (λ k. ap denies (hl (omega arith) ∙ (let q : p - 1 ≡ m + size C - 1 = omega arith in q))))) in
           let two : Grew c (p + 1) (terminal (number any) ∷ []) d (p + 1 + 1) = dot number c d (p + 1) (one .long ∙ w) z pd in
           let pf′ : f ≡ stored d (p + 1 + 1) 2 u v = pf ∙ ap (λ (i : ℕ). stored d i 2 u v) (let q : p + 2 ≡ p + 1 + 1 = omega arith in q) in
           let three : Grew d (p + 1 + 1) (S ∷ []) f (p + 1 + 1 + 1)
@@ -144,12 +149,26 @@ module _ (t s : List ℕ) (r x m p : ℕ) (mid b : List ℕ) (chosen : ChoiceTo 
           (grew-two c d f (p + 1) (p + 1 + 1) (p + 1 + 1 + 1) (terminal (number any) ∷ []) (S ∷ []) two three)) refl (omega arith)
 
 -- ---- a symbol's plain body
-module _ (t s : List ℕ) (r x a b m k : ℕ) (mid c : List ℕ) (span : k ≡ b - a) (copied : CopiedRun t a k mid m c) where
-  pub plain-lake : (d f : List ℕ) (p l y : ℕ) → SkipTo t s r x c (m + k) d p → (m + k - 1 < 4294967296 → l ≡ m + k - 1) → (p - 1 < 4294967296 → y ≡ p - 1) → f ≡ stored d p 3 l y → PlainTo t true s r x a b mid m f (p + 1)
+module _ (t s : List ℕ) (r x a b m : ℕ) (mid : List ℕ) where
+  -- without a body: the skip alone
+  pub plain-bare : (d : List ℕ) (p : ℕ) → b ≡ 0 → SkipTo t s r x mid m d p → PlainTo t true s r x a b mid m d p
   unfolding stepTwo
-  plain-lake d f p l y skips hl hy put number leaf e n z w q h =
-      let one : Grew mid m (partsOf number m e) c (m + k) = run number t mid c a k m b e w q span h copied in
-      both number mid c d f m k p l y e (skipOf (chosenIn t leaf s r x)) one (omega arith) (skips number leaf n z (one .long ∙ w)) w hl hy put
+  plain-bare d p e skips number leaf none n z w q = skips number leaf n z w
+  plain-bare d p e skips number leaf (some o) n z w q = absurd (omega (arith, q .0, size-pos o))
 
-  pub plain-other : PlainTo t false s r x a b mid m c (m + k)
-  plain-other number leaf e n z w q h = run number t mid c a k m b e w q span h copied
+  pub plain-dot : (c : List ℕ) → b ≡ 0 → c ≡ stored mid m 0 0 0 → PlainTo t false s r x a b mid m c (m + 1)
+  plain-dot c e put number leaf none n z w q = dot number mid c m w z put
+  plain-dot c e put number leaf (some o) n z w q = absurd (omega (arith, q .0, size-pos o))
+
+  module _ (k : ℕ) (c : List ℕ) (there : b ≡ 0 → ⊥) (span : k ≡ b - a) (copied : CopiedRun t a k mid m c) where
+    pub plain-lake : (d f : List ℕ) (p l y : ℕ) → SkipTo t s r x c (m + k) d p → (m + k - 1 < 4294967296 → l ≡ m + k - 1) → (p - 1 < 4294967296 → y ≡ p - 1) → f ≡ stored d p 3 l y
+        → PlainTo t true s r x a b mid m f (p + 1)
+    unfolding stepTwo
+    plain-lake d f p l y skips hl hy put number leaf none n z w q = absurd (there q)
+    plain-lake d f p l y skips hl hy put number leaf (some e) n z w q =
+        let one : Grew mid m (partsOf number m e) c (m + k) = run number t mid c a k m b e w (q .0) span (q .1) copied in
+        both number mid c d f m k p l y e (skipOf (chosenIn t leaf s r x)) one (omega (arith, q .0, span)) (skips number leaf n z (one .long ∙ w)) w hl hy put
+
+    pub plain-other : PlainTo t false s r x a b mid m c (m + k)
+    plain-other number leaf none n z w q = absurd (there q)
+    plain-other number leaf (some e) n z w q = run number t mid c a k m b e w (q .0) span (q .1) copied

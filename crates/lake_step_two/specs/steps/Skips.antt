@@ -4,14 +4,15 @@ use Prim.Native.Nat.{ℕ, zero, suc, _+_, _≤_, _<_}
 use mathlib.Core.Path.{_≡_}
 use mathlib.Core.Bool.{Bool, true, false, not, _&&_}
 use mathlib.Core.List.{List, [], _∷_, _++_}
+use mathlib.Core.Option.{Option}
 use lib.ListN.{length}
 use Rattle.read_tokens.specs.Token.{Leaf, any}
-use Rattle.grammar.specs.Exp.{Exp, sym, ter, size}
+use Rattle.grammar.specs.Exp.{Exp, sym, ter}
 use Rattle.grammar.specs.Lakes.{choiceOf, skipOf}
 use Rattle.grammar.specs.Parts.{Part, partsOf}
 use Rattle.grammar_table.specs.Table.{tableWords, partBy}
 use Rattle.base_words.specs.Set.{memberOf}
-use Rattle.lake_step_one.specs.steps.Runs.{Grew, PartsRun}
+use Rattle.lake_step_one.specs.steps.Runs.{Grew, BodyAt}
 use Rattle.lake_step_one.specs.steps.Made.{lakeAt}
 use Rattle.lake_plain.specs.Plain.{plainBy}
 
@@ -77,8 +78,8 @@ SkipTo t s r x mid m mid′ m′ =
     (number : Leaf → ℕ) (leaf : ℕ → Leaf) → Numbered number leaf x → number any ≡ 0 → length mid ≡ tableWords
     → Grew mid m (partsOf number m (skipOf (chosenIn t leaf s r x))) mid′ m′
 
--- the plain body of a symbol whose intermediate body is the run from a to b
+-- the plain body of a symbol whose intermediate body is the run from a to b, if it has one
 abbrev pub PlainTo : List ℕ → Bool → List ℕ → ℕ → ℕ → ℕ → ℕ → List ℕ → ℕ → List ℕ → ℕ → Type 0
 PlainTo t isLake s r x a b mid m mid′ m′ =
-    (number : Leaf → ℕ) (leaf : ℕ → Leaf) (e : Exp ℕ) → Numbered number leaf x → number any ≡ 0 → length mid ≡ tableWords → b ≡ a + size e
-    → PartsRun number t a e → Grew mid m (partsOf number m (plainBy isLake e (chosenIn t leaf s r x))) mid′ m′
+    (number : Leaf → ℕ) (leaf : ℕ → Leaf) (o : Option (Exp ℕ)) → Numbered number leaf x → number any ≡ 0 → length mid ≡ tableWords → BodyAt number t a b o
+    → Grew mid m (partsOf number m (plainBy isLake o (chosenIn t leaf s r x))) mid′ m′

@@ -1,7 +1,8 @@
 -- The plain grammar's table in the making, and what step 2 promises (01, Lakes made plain). Assumes nothing: these are definitions.
 use Prim.Native.Nat.{ℕ, zero, suc, _+_, _≤_, _<_, min}
 use mathlib.Core.Path.{_≡_}
-use mathlib.Core.List.{List, [], _∷_}
+use mathlib.Core.List.{List, [], _∷_, map}
+use mathlib.Core.Option.{some}
 use lib.ListN.{length, getD, take}
 use Rattle.read_tokens.specs.Token.{any}
 use Rattle.grammar.specs.Exp.{Exp}
@@ -33,7 +34,7 @@ plainOf g = plainBodies g (analysis g)
 
 -- the first s symbols have their plain bodies
 abbrev pub PlainMade : List ℕ → Grammar → ℕ → ℕ → ℕ → List ℕ → Type 0
-PlainMade t g s from m out = MadeOf t (middle g) (plainOf g) s from m out
+PlainMade t g s from m out = MadeOf t (middle g) (map some (plainOf g)) s from m out
 
 abbrev pub PlainNext : List ℕ → List (List ℕ) → ℕ → ℕ → ℕ → ℕ → ℕ → List ℕ → ℕ → ℕ → List ℕ → Type 0
 PlainNext t alts r x s from m out from′ m′ out′ =

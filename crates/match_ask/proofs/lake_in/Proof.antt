@@ -8,7 +8,7 @@ use Rattle.match_ask.proofs.lake_in.Statement.{statement}
 use Rattle.match_ask.proofs.lake_in.Tie as tie
 use Rattle.match_ask.proofs.lake_in.Reads as reads
 use Rattle.match_ask.proofs.lake_in.Lts as lts
-use Rattle.lake_analysis.proofs.alt_of.Reads as alt-of-reads
+use Rattle.lake_sets.proofs.alt_of.Reads as alt-of-reads
 use Rattle.lake_analysis.proofs.is_lake.Reads as is-lake-reads
 use Rattle.match_ask.proofs.no_lake.Reads as no-lake-reads
 
@@ -34,9 +34,11 @@ alt-of-requires : tie.Need-alt-of-requires
 alt-of-requires c κs = search needs
 
 returns-3 : tie.Need-returns-3
-returns-3 c = lake-there (c .before .before .before .before .args .mid .now) (c .before .before .before .before .args .alts .now) (c .before .before .before .before .args .n)
-    (c .before .before .before .before .args .symbol) (omega (arith, c .before .before .before .if1 .left)) (sym (c .before .before .is-lake .ensures) ∙ not-false
-    (c .before .before .is-lake .result) (c .before .if2 .left)) (c .alt-of .ensures)
+returns-3 c = lake-there (c .before .before .before .before .before .before .args .mid .now) (c .before .before .before .before .before .before .args .alts .now)
+    (c .before .before .before .before .before .before .args .n)
+    (c .before .before .before .before .before .before .args .symbol) (omega (arith, c .before .before .before .before .before .if1 .left))
+    (sym (c .before .before .before .before .is-lake .ensures) ∙ not-false
+    (c .before .before .before .before .is-lake .result) (c .before .before .before .if2 .left)) (c .alt-of .ensures)
 
 pub lake-in-spec : {M : Type 1} → statement M
 lake-in-spec =

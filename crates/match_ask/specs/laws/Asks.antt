@@ -19,9 +19,8 @@ use Rattle.grammar_table.specs.Table.{symbolCount, nameIn, grammarIn}
 use Rattle.grammar_table.specs.Holds.{Holds}
 use Rattle.grammar_table.specs.laws.Lists.{up-length}
 use Rattle.read_syntax.specs.Reading.{rulesOf}
-use Rattle.base_words.specs.Set.{empty}
-use Rattle.lake_rules.specs.Analysis.{analysis, bodyAlt}
-use Rattle.lake_sets.specs.steps.Steps.{rootIn}
+use Rattle.lake_rules.specs.Analysis.{analysis, lakeAlt}
+use Rattle.lake_sets.specs.steps.Steps.{altIn}
 use Rattle.lake_analysis.specs.steps.Lent.{lakeIn}
 use Rattle.lake_analysis.specs.laws.Skip.{lake-is, alt-is}
 use Rattle.lake_step_two.specs.steps.Stepped.{plainOf}
@@ -76,7 +75,7 @@ module _ (mid : List ℕ) (alts : List (List ℕ)) (n l : ℕ) where
     pub lake-other : {r : LakeAlt} → r ≡ noLake l Accepted → lakeIn mid l ≡ false → LakeIn mid alts n l r
     lake-other e h = none-in e (by-kind h)
 
-    pub lake-there : {a : List ℕ} → lakeIn mid l ≡ true → a ≡ getD alts (rootIn mid l) empty → LakeIn mid alts n l (record { symbol = l; there = true; alt = a; verdict = Accepted })
+    pub lake-there : {a : List ℕ} → lakeIn mid l ≡ true → a ≡ altIn mid alts l → LakeIn mid alts n l (record { symbol = l; there = true; alt = a; verdict = Accepted })
     lake-there h e = record { symbol = refl; there = sym (by-kind h); alt = λ y. e; verdict = refl }
 
 -- ── of a text that is accepted ──
@@ -106,7 +105,7 @@ module _ (m : Mode) (s : List ℕ) where
             ap (λ (b : Bool). b && lakeIn mid l) (le-ltb l n h)
             ∙ sym (ap (λ (b : Bool). b && isLake (getD (p .grammar .names) l (name []))) (le-ltb l (length (p .grammar .names)) (omega (arith, h, names-long))))
 
-    set-is : (a : List ℕ) → l < n → a ≡ getD alts (rootIn mid l) empty → a ≡ bodyAlt (p .analysis) l
+    set-is : (a : List ℕ) → l < n → a ≡ altIn mid alts l → a ≡ lakeAlt (p .analysis) l
     unfolding prepared preparedBy
     set-is a h x = x ∙ alt-is mid g (st .worked .between) (clear-good m s (st .clear) .proper) ms _ _ _ alts rounds (st .worked .analysed) l (omega (arith, h, names-long))
 
@@ -118,7 +117,7 @@ module _ (m : Mode) (s : List ℕ) where
       clear = st .clear;
       plain = record { holds = st .worked .plain; sound = clear-sound m s (st .clear) };
       there = w .there ∙ there-is ∙ ap (isLakeOf p) (sym (w .symbol));
-      alt = λ y. set-is (r .alt) (inside (lakeIn mid l) (sym (w .there) ∙ y)) (w .alt y) ∙ ap (bodyAlt (p .analysis)) (sym (w .symbol));
+      alt = λ y. set-is (r .alt) (inside (lakeIn mid l) (sym (w .there) ∙ y)) (w .alt y) ∙ ap (lakeAlt (p .analysis)) (sym (w .symbol));
     }
 
   module _ (out : List ℕ) (a : LakeAlt) (st : Stood m s out a) where
@@ -178,12 +177,12 @@ module _ (m : Mode) (s : List ℕ) where
               unfolding prepared preparedBy
               count-is = sym (same-symbols t own) ∙ bodies-are out g (plainOf g) (st .plain .holds)
 
-              way-all : (w : ℕ) → w ≡ wayIn (grammarIn t) i new (symbolCount t) (a .alt) l q → w ≡ wayIn (p .grammar) i (filledBy (p .bodies) i cs) (length (p .bodies)) (bodyAlt (p .analysis) l) l q
+              way-all : (w : ℕ) → w ≡ wayIn (grammarIn t) i new (symbolCount t) (a .alt) l q → w ≡ wayIn (p .grammar) i (filledBy (p .bodies) i cs) (length (p .bodies)) (lakeAlt (p .analysis) l) l q
               unfolding prepared preparedBy
               way-all w y =
                   way-is t g own (clear-good m s (st .clear) .proper) i new (symbolCount t) (a .alt) l q w y
                   ∙ ap (λ (z : List ℕ). wayIn g i new (symbolCount t) z l q) (st .alt there)
-                  ∙ ap₂ (λ (cs : List ℕ) (k : ℕ). wayIn g i cs k (bodyAlt (analysis g) l) l q) cells-are count-is
+                  ∙ ap₂ (λ (cs : List ℕ) (k : ℕ). wayIn g i cs k (lakeAlt (analysis g) l) l q) cells-are count-is
 
               pub answered : (w : ℕ) (r : Way) → w ≡ wayIn (grammarIn t) i new (symbolCount t) (a .alt) l q → r ≡ wayOf w → lent (record { way = r; verdict = Accepted }) new ≡ askedOf p i cs l q
               answered w r y z =

@@ -12,8 +12,8 @@ use Rattle.grammar.specs.Numbers.{numbered, isLake}
 use Rattle.grammar.specs.Refusal.{Refusal, refuseIf, _▸_}
 use Rattle.read_syntax.specs.Reading.{rulesOf}
 use Rattle.base_words.specs.Set.{empty}
-use Rattle.lake_rules.specs.Analysis.{bodyAlt}
-use Rattle.lake_sets.specs.steps.Steps.{rootIn}
+use Rattle.lake_rules.specs.Analysis.{lakeAlt}
+use Rattle.lake_sets.specs.steps.Steps.{altIn}
 use Rattle.lake_analysis.specs.steps.Lent.{lakeIn}
 use Rattle.lake_step_two.specs.steps.Stepped.{plainOf}
 use Rattle.match_cells.specs.steps.Runs.{Plain}
@@ -59,7 +59,7 @@ abbrev pub askedAfter : Option Refusal → Prepared → List ℕ → List ℕ �
 askedAfter (some r) p s cs l q = lent (notAsked (VerdictRefused (r .number) (r .place))) cs
 askedAfter none p s cs l q =
     lent
-    (record { way = wayOf (wayIn (p .grammar) s (filledBy (p .bodies) s cs) (length (p .bodies)) (bodyAlt (p .analysis) l) l q); verdict = Accepted })
+    (record { way = wayOf (wayIn (p .grammar) s (filledBy (p .bodies) s cs) (length (p .bodies)) (lakeAlt (p .analysis) l) l q); verdict = Accepted })
     (filledBy (p .bodies) s cs)
 
 -- 9, 10, then 14
@@ -74,7 +74,7 @@ noLake l v = record { symbol = l; there = false; alt = empty; verdict = v }
 pub record LakeIn (mid : List ℕ) (alts : List (List ℕ)) (n l : ℕ) (r : LakeAlt) : Type 0 where
   pub symbol : r .symbol ≡ l
   pub there : r .there ≡ (ltb l n && lakeIn mid l)
-  pub alt : r .there ≡ true → r .alt ≡ getD alts (rootIn mid l) empty
+  pub alt : r .there ≡ true → r .alt ≡ altIn mid alts l
   pub verdict : r .verdict ≡ Accepted
 
 -- of a text that is accepted: the table of its plain form, and all that is asked of a symbol
@@ -82,7 +82,7 @@ pub record Stood (m : Mode) (s out : List ℕ) (r : LakeAlt) : Type 0 where
   pub clear : refuses m s ≡ none
   pub plain : Plain out (numbered (rulesOf m s)) (plainOf (numbered (rulesOf m s)))
   pub there : r .there ≡ isLakeOf (prepared m s) (r .symbol)
-  pub alt : r .there ≡ true → r .alt ≡ bodyAlt (prepared m s .analysis) (r .symbol)
+  pub alt : r .there ≡ true → r .alt ≡ lakeAlt (prepared m s .analysis) (r .symbol)
 
 -- the verdict on a text, and that where it is no refusal
 pub record Looked (m : Mode) (s out : List ℕ) (l : ℕ) (r : LakeAlt) : Type 0 where

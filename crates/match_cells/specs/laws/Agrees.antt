@@ -14,7 +14,10 @@ use borrow.Author.Tests.{ltb-true, ltb-false}
 use Rattle.base_facts.specs.laws.Bools.{and-both, or-holds}
 use Rattle.read_tokens.specs.Token.{literal}
 use Rattle.grammar.specs.Exp.{Exp, sym, ter, seq, alt, opt, star, plus, ahead, never}
-use Rattle.match_meaning.specs.Meaning.{Node, rule, lake, Ask, exp, inside, own, wet, some-of, Tries, any-takes, any-fails, lit-takes, lit-fails, cls-takes, cls-fails, sym-takes, sym-fails, seq-fails, seq-fails-later, seq-takes, alt-first, alt-second, star-ends, star-idles, star-goes, plus-fails, plus-takes, opt-skips, opt-takes, ahead-fails, ahead-takes, never-takes, never-fails, by-rule, by-own, by-water, by-skip, stopped, at-end, own-none, own-is, dry-end, dry, wet-is, none-of, this-one, later-one, Derives}
+use Rattle.match_meaning.specs.Meaning.{Node, rule, lake, Ask, exp, inside, own, wet, some-of, Tries, any-takes, any-fails, lit-takes, lit-fails, cls-takes, cls-fails, sym-takes}
+use Rattle.match_meaning.specs.Meaning.{sym-fails, seq-fails, seq-fails-later, seq-takes, alt-first, alt-second, star-ends, star-idles, star-goes, plus-fails, plus-takes}
+use Rattle.match_meaning.specs.Meaning.{opt-skips, opt-takes, ahead-fails, ahead-takes, never-takes, never-fails, by-rule, by-own, by-water, by-skip, stopped, at-end, own-none}
+use Rattle.match_meaning.specs.Meaning.{own-is, dry, wet-is, none-of, this-one, later-one, Derives}
 use Rattle.match_meaning.specs.laws.One.{one}
 use Rattle.match_meaning.specs.laws.Shape.{within}
 use Rattle.match_eval.specs.Eval.{nowhere, bodyOf, rep, ev}
@@ -81,8 +84,7 @@ module _ (bodies : List (Exp ℕ)) (s : List ℕ) (m : ℕ → Bool) (marked : M
   empties-all (at-end t u v h) = tt
   empties-all own-none = tt
   empties-all (own-is t) = tt
-  empties-all (dry-end h) = tt
-  empties-all (dry h) = tt
+  empties-all dry = tt
   empties-all (wet-is t) = tt
   empties-all none-of = tt
   empties-all (this-one t) = tt

@@ -7,7 +7,7 @@ use mathlib.Core.List.{List, [], _∷_, _++_}
 use native.Mathlib.Omega.{arith}
 use lib.ListN.{length}
 use Rattle.grammar.specs.Exp.{Exp, sym, ter, seq, alt, opt, star, plus, ahead, never}
-use Rattle.match_meaning.specs.Meaning.{Node, nd, rule, lake, Ask, exp, inside, own, wet, some-of, Tries, any-takes, any-fails, lit-takes, lit-fails, cls-takes, cls-fails, sym-takes, sym-fails, seq-fails, seq-fails-later, seq-takes, alt-first, alt-second, star-ends, star-idles, star-goes, plus-fails, plus-takes, opt-skips, opt-takes, ahead-fails, ahead-takes, never-takes, never-fails, by-rule, by-own, by-water, by-skip, stopped, at-end, own-none, own-is, dry-end, dry, wet-is, none-of, this-one, later-one, Derives}
+use Rattle.match_meaning.specs.Meaning.{Node, nd, rule, lake, Ask, exp, inside, own, wet, some-of, Tries, any-takes, any-fails, lit-takes, lit-fails, cls-takes, cls-fails, sym-takes, sym-fails, seq-fails, seq-fails-later, seq-takes, alt-first, alt-second, star-ends, star-idles, star-goes, plus-fails, plus-takes, opt-skips, opt-takes, ahead-fails, ahead-takes, never-takes, never-fails, by-rule, by-own, by-water, by-skip, stopped, at-end, own-none, own-is, dry, wet-is, none-of, this-one, later-one, Derives}
 use Rattle.match_meaning.specs.laws.Shape.{From, shape, within}
 use Rattle.match_eval.specs.Eval.{bodyOf, cellAt, ev}
 use Rattle.match_list.specs.Nodes.{repN, walkOf, nodeIf, nodesOf}
@@ -119,8 +119,7 @@ module _ (bodies : List (Exp ℕ)) (s cs : List ℕ) (right : Right bodies s cs)
   says (at-end t u v h) l = tt
   says own-none l = tt
   says (own-is t) l = tt
-  says (dry-end h) l = tt
-  says (dry h) l = tt
+  says dry l = tt
   says (wet-is t) l = tt
   says none-of l = tt
   says (this-one t) l = tt

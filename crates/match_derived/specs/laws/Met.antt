@@ -2,17 +2,16 @@
 -- nodes are those of 01's lines. Assumes nothing.
 use Prim.Native.Nat.{ℕ, zero, suc, _<_}
 use mathlib.Core.Path.{_≡_, refl, subst}
-use mathlib.Core.Bool.{Bool, true, false≢true}
+use mathlib.Core.Bool.{Bool, true, false, false≢true}
 use mathlib.Core.Option.{none}
 use mathlib.Core.List.{List, [], _∷_}
 use mathlib.Core.Logic.{inl, inr}
 use native.Mathlib.Omega.{arith}
-use lib.Dec.{eqb}
 use lib.ListN.{replicate}
 use Rattle.read_tokens.specs.Token.{any, literal}
 use Rattle.read_tokens.specs.Bounds.{depthBound, nodeWords}
 use Rattle.grammar.specs.Exp.{Exp, sym, ter, seq, alt, star, never}
-use Rattle.grammar.specs.Lakes.{waterOf, stepOne, choiceOf, skipOf, stepTwo}
+use Rattle.grammar.specs.Lakes.{stepOne, choiceOf, skipOf, stepTwo}
 use Rattle.match_meaning.specs.Meaning.{nd}
 use Rattle.match_eval.specs.Eval.{bodyOf, stands, leafAt, cellAt, joinOf, seqOf, altOf, stepOf, rep, plusOf, optOf, aheadOf, neverOf, ev}
 use Rattle.match_cells.specs.Cells.{bodyTakes, rowOf, fillOf, cells}
@@ -35,12 +34,12 @@ stmt = alt (sym 2) (sym 0)
 abbrev expr-stmt : Exp ℕ
 expr-stmt = seq (star (sym 3)) (byte 59)
 
--- `!. / !(block / '}' / ';') .`
+-- `!(block / '}' / ';') .` (02, §4)
 abbrev elake : Exp ℕ
-elake = alt (never (ter any)) (seq (never (alt (alt (sym 0) (byte 125)) (byte 59))) (ter any))
+elake = seq (never (alt (alt (sym 0) (byte 125)) (byte 59))) (ter any)
 
 elake-is : stepTwo (stepOne none none) (sym 0 ∷ byte 125 ∷ byte 59 ∷ []) ≡ elake
-unfolding waterOf stepOne choiceOf skipOf stepTwo
+unfolding stepOne choiceOf skipOf stepTwo
 elake-is = refl
 
 abbrev G : List (Exp ℕ)
@@ -52,9 +51,9 @@ text = 123 ∷ 97 ∷ 59 ∷ 125 ∷ []
 abbrev order : List ℕ
 order = 0 ∷ 3 ∷ 2 ∷ 1 ∷ []
 
--- only the lake has ε
+-- no symbol has ε
 abbrev marks : ℕ → Bool
-marks r = eqb r 3
+marks r = false
 
 marked : Markings marks G
 unfolding hasEmpty emptyLeaf
@@ -64,14 +63,14 @@ marked = record { marks = has; terse = full }
     has zero l h = absurd (false≢true h)
     has (suc zero) l h = absurd (false≢true h)
     has (suc (suc zero)) l h = absurd (false≢true h)
-    has (suc (suc (suc zero))) l h = refl
+    has (suc (suc (suc zero))) l h = absurd (false≢true h)
     has (suc (suc (suc (suc r)))) l h = absurd (omega arith)
 
     full : (r : ℕ) → Terse (bodyOf G r)
     full zero = ((refl, tt), refl)
     full (suc zero) = (tt, tt)
     full (suc (suc zero)) = (tt, refl)
-    full (suc (suc (suc zero))) = (refl, (((tt, refl), refl), refl))
+    full (suc (suc (suc zero))) = (((tt, refl), refl), refl)
     full (suc (suc (suc (suc r)))) = refl
 
 block-first : (x : ℕ) → Calls marks block x → x < 4 → ⊥
@@ -81,11 +80,10 @@ block-first x (inl (inr e)) l = false≢true (e .0)
 block-first x (inr e) l = e .1
 
 lake-first : (x : ℕ) → Calls marks elake x → x < 4 → In x (0 ∷ [])
-lake-first x (inl e) l = absurd e
-lake-first x (inr (inl (inl (inl e)))) l = inl e
-lake-first x (inr (inl (inl (inr e)))) l = absurd e
-lake-first x (inr (inl (inr e))) l = absurd e
-lake-first x (inr (inr e)) l = absurd (e .1)
+lake-first x (inl (inl (inl e))) l = inl e
+lake-first x (inl (inl (inr e))) l = absurd e
+lake-first x (inl (inr e)) l = absurd e
+lake-first x (inr e) l = absurd (e .1)
 
 expr-first : (x : ℕ) → Calls marks expr-stmt x → x < 4 → In x (3 ∷ 0 ∷ [])
 expr-first x (inl e) l = inl e
@@ -106,7 +104,7 @@ ordered : Ordered marks G [] order
 ordered = (omega arith, λ x c l. absurd (block-first x c l), (omega arith, lake-first, (omega arith, expr-first, (omega arith, stmt-first, every))))
 
 abbrev twenty : List ℕ
-twenty = 5 ∷ 5 ∷ 0 ∷ 0 ∷ 0 ∷ 3 ∷ 3 ∷ 2 ∷ 0 ∷ 2 ∷ 2 ∷ 0 ∷ 0 ∷ 0 ∷ 0 ∷ 0 ∷ 0 ∷ 0 ∷ 0 ∷ 1 ∷ []
+twenty = 5 ∷ 5 ∷ 0 ∷ 0 ∷ 0 ∷ 3 ∷ 3 ∷ 2 ∷ 0 ∷ 2 ∷ 2 ∷ 0 ∷ 0 ∷ 0 ∷ 0 ∷ 0 ∷ 0 ∷ 0 ∷ 0 ∷ 0 ∷ []
 
 -- lent words, whatever they held
 abbrev lent : List ℕ

@@ -4,7 +4,7 @@ use mathlib.Core.Path.{_≡_, refl, ap, ap₂, _∙_, subst}
 use mathlib.Core.Path.{sym as flip}
 use mathlib.Core.Bool.{Bool, true, false, not, cond, _&&_}
 use mathlib.Core.List.{List, [], _∷_, _++_}
-use mathlib.Core.Option.{Option, none, some}
+use mathlib.Core.Option.{Option, none}
 use native.Mathlib.Omega.{arith}
 use native.Mathlib.Numerals.{add-one}
 use lib.Dec.{ltb, eqb}
@@ -13,7 +13,6 @@ use lib.Seq.{drop-cons}
 use borrow.Author.Tests.{eq-eqb, ne-eqb, lt-ltb, le-ltb, ltb-true, ltb-false}
 use Rattle.read_tokens.specs.Token.{Symbol, Leaf, name, lake, any}
 use Rattle.grammar.specs.Exp.{Exp, sym, ter}
-use Rattle.grammar.specs.Lakes.{waterOf}
 use Rattle.grammar.specs.Same.{sameSymbol, indexOf}
 use Rattle.grammar.specs.Numbers.{Grammar, isLake}
 use Rattle.grammar_table.specs.Table.{upTo, symbolCount, terminalCount, symbolWord, symbolBy, nameIn, leafIn, bodyBy, bodyIn, grammarIn, treeAt}
@@ -22,8 +21,7 @@ use Rattle.base_words.specs.Set.{memberOf}
 use Rattle.lake_step_one.specs.Intermediate.{waterName, waterIn}
 use Rattle.lake_plain.specs.Plain.{nonterminalsIn, terminalsIn, alternatives}
 use Rattle.lake_step_one.specs.laws.Water.{index-at, index-none}
-use Rattle.match_eval.specs.Eval.{leafAt, cellAt, neverOf, ev}
-use Rattle.match_eval.specs.laws.EvalSteps.{any-takes, any-fails}
+use Rattle.match_eval.specs.Eval.{leafAt, cellAt, ev}
 use Rattle.grammar_table.specs.Trees.{treeOf}
 use Rattle.match_lake.specs.Asking.{noneMatches, ownTakes, wayNumber, wayIn, symbolFails, terminalFails}
 
@@ -39,22 +37,6 @@ module _ (t s cs : List ℕ) (n p : ℕ) where
   pub body-takes : (b v : ℕ) → (b ≡ 0 → ⊥) → v ≡ ev s cs n (treeOf t b) p → (v ≡ 0 → ⊥) → true ≡ ownTakes s cs n (bodyBy t b) p
   body-takes zero v f h e = absurd (f refl)
   body-takes (suc b) v f h e = flip (ap not (ne-eqb (ev s cs n (treeAt t b) p) 0 (λ z. e (h ∙ z))))
-
-  -- water's body, or `!.`
-  pub water-none-ends : (b : ℕ) → b ≡ 0 → length s ≤ p → true ≡ ownTakes s cs n (some (waterOf (bodyBy t b))) p
-  unfolding waterOf ev neverOf
-  water-none-ends b e h =
-      flip (ap (λ (x : ℕ). ownTakes s cs n (some (waterOf (bodyBy t x))) p) e ∙ ap (λ (x : ℕ). not (eqb (neverOf x) 0)) (flip (any-fails s p h)))
-
-  pub water-none : (b : ℕ) → b ≡ 0 → p < length s → false ≡ ownTakes s cs n (some (waterOf (bodyBy t b))) p
-  unfolding waterOf ev neverOf
-  water-none b e h =
-      flip (ap (λ (x : ℕ). ownTakes s cs n (some (waterOf (bodyBy t x))) p) e ∙ ap (λ (x : ℕ). not (eqb (neverOf x) 0)) (flip (any-takes s p h)))
-
-  pub water-body : (b : ℕ) → (b ≡ 0 → ⊥) → ownTakes s cs n (bodyBy t b) p ≡ ownTakes s cs n (some (waterOf (bodyBy t b))) p
-  unfolding waterOf
-  water-body zero f = absurd (f refl)
-  water-body (suc b) f = refl
 
 -- ── the symbol called `water` ──
 module _ (t : List ℕ) (n : ℕ) where
@@ -115,7 +97,8 @@ module _ (s cs : List ℕ) (n p : ℕ) where
   none-append (e ∷ a) b = ap (λ (x : Bool). eqb (ev s cs n e p) 0 && x) (none-append a b) ∙ and-assoc (eqb (ev s cs n e p) 0) (noneMatches s cs n a p) (noneMatches s cs n b p)
 
   module _ (set : List ℕ) where
-    symbol-next : (i : ℕ) (h : Symbol) (hs : List Symbol) → noneMatches s cs n (nonterminalsIn set i (h ∷ hs)) p ≡ (symbolFails s cs n set i h p && noneMatches s cs n (nonterminalsIn set (suc i) hs) p)
+    symbol-next : (i : ℕ) (h : Symbol) (hs : List Symbol) → noneMatches s cs n (nonterminalsIn set i (h ∷ hs)) p ≡
+        (symbolFails s cs n set i h p && noneMatches s cs n (nonterminalsIn set (suc i) hs) p)
     unfolding nonterminalsIn noneMatches
     symbol-next i h hs = go (memberOf set i && not (isLake h))
       where
@@ -124,7 +107,8 @@ module _ (s cs : List ℕ) (n p : ℕ) where
         go true = refl
         go false = refl
 
-    terminal-next : (i : ℕ) (x : Leaf) (xs : List Leaf) → noneMatches s cs n (terminalsIn set i (x ∷ xs)) p ≡ (terminalFails s cs n set (64 + i) x p && noneMatches s cs n (terminalsIn set (suc i) xs) p)
+    terminal-next : (i : ℕ) (x : Leaf) (xs : List Leaf) → noneMatches s cs n (terminalsIn set i (x ∷ xs)) p ≡
+        (terminalFails s cs n set (64 + i) x p && noneMatches s cs n (terminalsIn set (suc i) xs) p)
     unfolding terminalsIn noneMatches
     terminal-next i x xs = go (memberOf set (64 + i))
       where
@@ -147,7 +131,8 @@ module _ (s cs : List ℕ) (n p : ℕ) where
 
       pub symbols-end : (i : ℕ) → m ≤ i → true ≡ symbolsFrom i
       unfolding noneMatches nonterminalsIn
-      symbols-end i h = let k : length (upTo (nameIn t) m) ≤ i = omega (arith, h, up-length (nameIn t) m) in flip (ap (λ (l : List Symbol). noneMatches s cs n (nonterminalsIn set i l) p) (drop-of-length-le (upTo (nameIn t) m) k))
+      symbols-end i h = let k : length (upTo (nameIn t) m) ≤ i = omega (arith, h, up-length (nameIn t) m) in flip
+          (ap (λ (l : List Symbol). noneMatches s cs n (nonterminalsIn set i l) p) (drop-of-length-le (upTo (nameIn t) m) k))
 
       abbrev pub terminalsFrom : ℕ → Bool
       terminalsFrom i = noneMatches s cs n (terminalsIn set i (drop i (upTo (leafIn t) m))) p
@@ -161,7 +146,8 @@ module _ (s cs : List ℕ) (n p : ℕ) where
 
       pub terminals-end : (i : ℕ) → m ≤ i → true ≡ terminalsFrom i
       unfolding noneMatches terminalsIn
-      terminals-end i h = let k : length (upTo (leafIn t) m) ≤ i = omega (arith, h, up-length (leafIn t) m) in flip (ap (λ (l : List Leaf). noneMatches s cs n (terminalsIn set i l) p) (drop-of-length-le (upTo (leafIn t) m) k))
+      terminals-end i h = let k : length (upTo (leafIn t) m) ≤ i = omega (arith, h, up-length (leafIn t) m) in flip
+          (ap (λ (l : List Leaf). noneMatches s cs n (terminalsIn set i l) p) (drop-of-length-le (upTo (leafIn t) m) k))
 
 -- one symbol, one terminal
 module _ (t s cs : List ℕ) (n : ℕ) (set : List ℕ) (i p : ℕ) where
@@ -211,9 +197,9 @@ picked false false true = 3
 picked false false false = 0
 
 way-picks : (s cs : List ℕ) (n : ℕ) (own water : Option (Exp ℕ)) (ss : List (Exp ℕ)) (p : ℕ)
-    → picked (ownTakes s cs n own p) (ownTakes s cs n (some (waterOf water)) p) (ltb p (length s) && noneMatches s cs n ss p) ≡ wayNumber s cs n own water ss p
+    → picked (ownTakes s cs n own p) (ownTakes s cs n water p) (ltb p (length s) && noneMatches s cs n ss p) ≡ wayNumber s cs n own water ss p
 unfolding wayNumber
-way-picks s cs n own water ss p = go (ownTakes s cs n own p) (ownTakes s cs n (some (waterOf water)) p) (ltb p (length s) && noneMatches s cs n ss p)
+way-picks s cs n own water ss p = go (ownTakes s cs n own p) (ownTakes s cs n water p) (ltb p (length s) && noneMatches s cs n ss p)
   where
     go : (a w m : Bool) → picked a w m ≡ elim a as (λ c. ℕ) [ true ↦ 1 | false ↦ elim w as (λ c. ℕ) [ true ↦ 2 | false ↦ elim m as (λ c. ℕ) [ true ↦ 3 | false ↦ 0 ] ] ]
     go true w m = refl
@@ -229,7 +215,8 @@ module _ (t s cs : List ℕ) (n : ℕ) (set : List ℕ) (l p b : ℕ) (count : n
   unfolding grammarIn bodyIn
   own-is = ap (bodyBy t) own ∙ flip (up-at (bodyIn t) none (symbolCount t) l (omega (arith, inside, count)))
 
-  none-is : (noneMatches s cs n (nonterminalsIn set 0 (drop 0 (upTo (nameIn t) n))) p && noneMatches s cs n (terminalsIn set 0 (drop 0 (upTo (leafIn t) (terminalCount t)))) p) ≡ noneMatches s cs n (alternatives g set) p
+  none-is : (noneMatches s cs n (nonterminalsIn set 0 (drop 0 (upTo (nameIn t) n))) p && noneMatches s cs n (terminalsIn set 0 (drop 0 (upTo (leafIn t) (terminalCount t)))) p) ≡ noneMatches s cs
+      n (alternatives g set) p
   unfolding grammarIn alternatives
   none-is =
       ap (λ (m : ℕ). noneMatches s cs n (nonterminalsIn set 0 (upTo (nameIn t) m)) p && noneMatches s cs n (terminalsIn set 0 (upTo (leafIn t) (terminalCount t))) p) count
@@ -240,16 +227,16 @@ module _ (t s cs : List ℕ) (n : ℕ) (set : List ℕ) (l p b : ℕ) (count : n
     by-own = first ∙ ap (λ (o : Option (Exp ℕ)). ownTakes s cs n o p) own-is
 
     -- by the three tests, as code has them
-    by-tests : (w m : Bool) → w ≡ ownTakes s cs n (some (waterOf (waterIn g))) p → m ≡ (ltb p (length s) && noneMatches s cs n (alternatives g set) p) → picked a w m ≡ wayIn g s cs n set l p
+    by-tests : (w m : Bool) → w ≡ ownTakes s cs n (waterIn g) p → m ≡ (ltb p (length s) && noneMatches s cs n (alternatives g set) p) → picked a w m ≡ wayIn g s cs n set l p
     unfolding wayIn
     by-tests w m e f =
         ap (λ (x : Bool). picked x w m) by-own ∙ ap (λ (x : Bool). picked (ownTakes s cs n (getD (g .rights) l none) p) x m) e
-        ∙ ap (picked (ownTakes s cs n (getD (g .rights) l none) p) (ownTakes s cs n (some (waterOf (waterIn g))) p)) f ∙ way-picks s cs n (getD (g .rights) l none) (waterIn g) (alternatives g set) p
+        ∙ ap (picked (ownTakes s cs n (getD (g .rights) l none) p) (ownTakes s cs n (waterIn g) p)) f ∙ way-picks s cs n (getD (g .rights) l none) (waterIn g) (alternatives g set) p
 
     pub way-own : a ≡ true → 1 ≡ wayIn g s cs n set l p
-    way-own e = ap (λ (x : Bool). picked x (ownTakes s cs n (some (waterOf (waterIn g))) p) (ltb p (length s) && noneMatches s cs n (alternatives g set) p)) (flip e) ∙ by-tests _ _ refl refl
+    way-own e = ap (λ (x : Bool). picked x (ownTakes s cs n (waterIn g) p) (ltb p (length s) && noneMatches s cs n (alternatives g set) p)) (flip e) ∙ by-tests _ _ refl refl
 
-    module _ (w : Bool) (second : w ≡ ownTakes s cs n (some (waterOf (waterIn g))) p) (not-own : a ≡ false) where
+    module _ (w : Bool) (second : w ≡ ownTakes s cs n (waterIn g) p) (not-own : a ≡ false) where
       pub way-water : w ≡ true → 2 ≡ wayIn g s cs n set l p
       way-water e =
           ap₂ (λ (x y : Bool). picked x y (ltb p (length s) && noneMatches s cs n (alternatives g set) p)) (flip not-own) (flip e) ∙ by-tests w _ second refl

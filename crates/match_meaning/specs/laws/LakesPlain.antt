@@ -8,9 +8,9 @@ use mathlib.Core.List.{List, [], _∷_}
 use native.Mathlib.Omega.{arith}
 use lib.ListN.{length}
 use Rattle.grammar.specs.Exp.{Exp, alt}
-use Rattle.match_meaning.specs.Meaning.{Meant, Node, SymbolBody, rule, lake, Ask, exp, inside, own, wet, some-of, Tries, any-takes, any-fails, lit-takes, lit-fails, cls-takes, cls-fails, sym-takes, sym-fails, seq-fails, seq-fails-later, seq-takes, alt-first, alt-second, star-ends, star-idles, star-goes, plus-fails, plus-takes, opt-skips, opt-takes, ahead-fails, ahead-takes, never-takes, never-fails, by-rule, by-own, by-water, by-skip, stopped, at-end, own-none, own-is, dry-end, dry, wet-is, none-of, this-one, later-one, Derives, plainBody, plainOf}
+use Rattle.match_meaning.specs.Meaning.{Meant, Node, SymbolBody, rule, lake, Ask, exp, inside, own, wet, some-of, Tries, any-takes, any-fails, lit-takes, lit-fails, cls-takes, cls-fails, sym-takes, sym-fails, seq-fails, seq-fails-later, seq-takes, alt-first, alt-second, star-ends, star-idles, star-goes, plus-fails, plus-takes, opt-skips, opt-takes, ahead-fails, ahead-takes, never-takes, never-fails, by-rule, by-own, by-water, by-skip, stopped, at-end, own-none, own-is, dry, wet-is, none-of, this-one, later-one, Derives, plainBody, plainOf}
 use Rattle.match_meaning.specs.laws.One.{bare}
-use Rattle.grammar.specs.Lakes.{waterOf, stepOne, choiceOf, skipOf, stepTwo}
+use Rattle.grammar.specs.Lakes.{stepOne, choiceOf, skipOf, stepTwo}
 
 -- in ONE grammar: what a lake tries, and the expression that stands for it
 module _ (g : Meant) (s : List ℕ) where
@@ -18,26 +18,25 @@ module _ (g : Meant) (s : List ℕ) where
   without : {d p : ℕ} {q : Ask} {ns : List Node} → Tries g s d q p 0 ns → Tries g s d q p 0 []
   without {d} {p} {q} t = subst (λ (l : List Node). Tries g s d q p 0 l) (bare g s t refl) t
 
-  water-in : {d p x : ℕ} {w : Option (Exp ℕ)} {ns : List Node} → Tries g s d (wet w) p x ns → Tries g s d (exp (waterOf w)) p x ns
-  unfolding waterOf
-  water-in (dry-end h) = never-takes (any-fails h)
-  water-in (dry h) = never-fails (any-takes h)
-  water-in (wet-is t) = t
+  -- the plain body, from what the lake's own right side, water and the skip derive
+  own-in : (w o : Option (Exp ℕ)) (ss : List (Exp ℕ)) {d p m : ℕ} {ns : List Node} → Tries g s d (own o) p (suc m) ns → Tries g s d (exp (stepTwo (stepOne w o) ss)) p (suc m) ns
+  unfolding stepOne stepTwo
+  own-in none (some e) ss (own-is t) = alt-first t
+  own-in (some w) (some e) ss (own-is t) = alt-first (alt-first t)
 
-  water-out : {d p x : ℕ} (w : Option (Exp ℕ)) {ns : List Node} → Tries g s d (exp (waterOf w)) p x ns → Tries g s d (wet w) p x ns
-  unfolding waterOf
-  water-out none (never-takes (any-fails h)) = dry-end h
-  water-out none (never-fails (any-takes h)) = dry h
-  water-out (some w) t = wet-is t
+  water-in : (w o : Option (Exp ℕ)) (ss : List (Exp ℕ)) {d p m : ℕ} {ks ns : List Node} → Tries g s d (own o) p 0 ks → Tries g s d (wet w) p (suc m) ns
+      → Tries g s d (exp (stepTwo (stepOne w o) ss)) p (suc m) ns
+  unfolding stepOne stepTwo
+  water-in (some w) none ss own-none (wet-is u) = alt-first u
+  water-in (some w) (some e) ss (own-is t) (wet-is u) = alt-first (alt-second t u)
 
-  own-in : (w : Option (Exp ℕ)) {d p m : ℕ} {o : Option (Exp ℕ)} {ns : List Node} → Tries g s d (own o) p (suc m) ns → Tries g s d (exp (stepOne w o)) p (suc m) ns
-  unfolding stepOne
-  own-in w (own-is t) = alt-first t
-
-  base-in : {d p x : ℕ} {o w : Option (Exp ℕ)} {ks ns : List Node} → Tries g s d (own o) p 0 ks → Tries g s d (wet w) p x ns → Tries g s d (exp (stepOne w o)) p x ns
-  unfolding stepOne
-  base-in own-none u = water-in u
-  base-in (own-is t) u = alt-second t (water-in u)
+  skip-in : (w o : Option (Exp ℕ)) (ss : List (Exp ℕ)) {d p x : ℕ} {ks js ns : List Node} → Tries g s d (own o) p 0 ks → Tries g s d (wet w) p 0 js
+      → Tries g s d (exp (skipOf ss)) p x ns → Tries g s d (exp (stepTwo (stepOne w o) ss)) p x ns
+  unfolding stepOne stepTwo
+  skip-in none none ss own-none dry k = k
+  skip-in none (some e) ss (own-is t) dry k = alt-second t k
+  skip-in (some w) none ss own-none (wet-is u) k = alt-second u k
+  skip-in (some w) (some e) ss (own-is t) (wet-is u) k = alt-second (alt-second t u) k
 
   -- a is the choice of those tried before
   choice-takes : (a : Exp ℕ) (ss : List (Exp ℕ)) {d p m : ℕ} {ns : List Node} → Tries g s d (exp a) p (suc m) ns → Tries g s d (exp (choiceOf a ss)) p (suc m) ns
@@ -85,33 +84,42 @@ module _ (g : Meant) (s : List ℕ) where
   skip-stops (this-one {a = a} {ss = ss} t) = seq-fails (never-fails (choice-takes a ss t))
   skip-stops (later-one {a = a} {ss = ss} t u) = seq-fails (never-fails (choice-in a ss t u))
 
-  -- the lake, from what its base and its skip derive
-  base-out : {d p m : ℕ} (o : Option (Exp ℕ)) {ss : List (Exp ℕ)} {ns : List Node} → Tries g s d (exp (stepOne (g .water) o)) p (suc m) ns → Tries g s d (inside (lake o ss)) p (suc m) ns
-  unfolding stepOne
-  base-out none t = by-water own-none (water-out (g .water) t)
-  base-out (some e) (alt-first t) = by-own (own-is t)
-  base-out (some e) (alt-second t u) = by-water (own-is t) (water-out (g .water) u)
+  -- the same backwards: what of the three the plain body's success or failure came from
+  data Came (w o : Option (Exp ℕ)) (ss : List (Exp ℕ)) (d p : ℕ) : ℕ → List Node → Type 0 where
+    from-own : {m : ℕ} {ns : List Node} → Tries g s d (own o) p (suc m) ns → Came w o ss d p (suc m) ns
+    from-water : {m : ℕ} {ks ns : List Node} → Tries g s d (own o) p 0 ks → Tries g s d (wet w) p (suc m) ns → Came w o ss d p (suc m) ns
+    from-skip : {x : ℕ} {ks js ns : List Node} → Tries g s d (own o) p 0 ks → Tries g s d (wet w) p 0 js → Tries g s d (exp (skipOf ss)) p x ns → Came w o ss d p x ns
 
-  -- both of base's parts fail
-  base-fails : {d p : ℕ} (o : Option (Exp ℕ)) {ns : List Node} → Tries g s d (exp (stepOne (g .water) o)) p 0 ns → Tries g s d (own o) p 0 [] × Tries g s d (wet (g .water)) p 0 []
-  unfolding stepOne
-  base-fails none t = (own-none, without (water-out (g .water) t))
-  base-fails (some e) (alt-second t u) = (without (own-is t), without (water-out (g .water) u))
+  came : (w o : Option (Exp ℕ)) (ss : List (Exp ℕ)) {d p x : ℕ} {ns : List Node} → Tries g s d (exp (stepTwo (stepOne w o) ss)) p x ns → Came w o ss d p x ns
+  unfolding stepOne stepTwo
+  came none none ss k = from-skip own-none dry k
+  came none (some e) ss (alt-first t) = from-own (own-is t)
+  came none (some e) ss (alt-second t k) = from-skip (own-is t) dry k
+  came (some w) none ss (alt-first u) = from-water own-none (wet-is u)
+  came (some w) none ss (alt-second u k) = from-skip own-none (wet-is u) k
+  came (some w) (some e) ss (alt-first (alt-first t)) = from-own (own-is t)
+  came (some w) (some e) ss (alt-first (alt-second t u)) = from-water (own-is t) (wet-is u)
+  came (some w) (some e) ss (alt-second (alt-second t u) k) = from-skip (own-is t) (wet-is u) k
 
-  skip-out : {d p x : ℕ} (o : Option (Exp ℕ)) (ss : List (Exp ℕ)) {ns : List Node} → Tries g s d (own o) p 0 [] × Tries g s d (wet (g .water)) p 0 [] → Tries g s d (exp (skipOf ss)) p x ns → Tries g s d (inside (lake o ss)) p x ns
+  skip-out : {d p x : ℕ} (o : Option (Exp ℕ)) (ss : List (Exp ℕ)) {ks js ns : List Node} → Tries g s d (own o) p 0 ks → Tries g s d (wet (g .water)) p 0 js → Tries g s d (exp (skipOf ss)) p x ns
+      → Tries g s d (inside (lake o ss)) p x ns
   unfolding skipOf
-  skip-out o [] b (any-takes h) = by-skip (b .0) (b .1) none-of h
-  skip-out o [] b (any-fails h) = at-end (b .0) (b .1) none-of h
-  skip-out o (a ∷ ss) b (seq-fails (never-fails t)) = stopped (b .0) (b .1) (choice-one a ss t)
-  skip-out o (a ∷ ss) b (seq-fails-later (never-takes t) (any-fails h)) = at-end (b .0) (b .1) (choice-none a ss t) (omega arith)
-  skip-out o (a ∷ ss) b (seq-takes (never-takes t) (any-takes h)) = by-skip (b .0) (b .1) (choice-none a ss t) (omega arith)
+  skip-out o [] t u (any-takes h) = by-skip t u none-of h
+  skip-out o [] t u (any-fails h) = at-end t u none-of h
+  skip-out o (a ∷ ss) t u (seq-fails (never-fails v)) = stopped t u (choice-one a ss v)
+  skip-out o (a ∷ ss) t u (seq-fails-later (never-takes v) (any-fails h)) = at-end t u (choice-none a ss v) (omega arith)
+  skip-out o (a ∷ ss) t u (seq-takes (never-takes v) (any-takes h)) = by-skip t u (choice-none a ss v) (omega arith)
+
+  lake-out : (o : Option (Exp ℕ)) (ss : List (Exp ℕ)) {d p x : ℕ} {ns : List Node} → Came (g .water) o ss d p x ns → Tries g s d (inside (lake o ss)) p x ns
+  lake-out o ss (from-own t) = by-own t
+  lake-out o ss (from-water t u) = by-water t u
+  lake-out o ss (from-skip t u k) = skip-out o ss t u k
 
   -- a body, from what its plain right side derives
   body-out : {d p x : ℕ} (b : SymbolBody) {ns : List Node} → Tries g s d (exp (plainBody (g .water) b)) p x ns → Tries g s d (inside b) p x ns
-  unfolding plainBody stepTwo
+  unfolding plainBody
   body-out (rule e) t = by-rule t
-  body-out (lake o ss) (alt-first t) = base-out o t
-  body-out (lake o ss) (alt-second t u) = skip-out o ss (base-fails o t) u
+  body-out (lake o ss) t = lake-out o ss (came (g .water) o ss t)
 
 -- what is tried in the plain grammar where q is tried in g
 unfoldable askOf : Meant → Ask → Ask
@@ -123,7 +131,7 @@ askOf g (some-of ss) = some-of ss
 
 module _ (g : Meant) (s : List ℕ) where
   to-plain : {d p x : ℕ} {q : Ask} {ns : List Node} → Tries g s d q p x ns → Tries (plainOf g) s d (askOf g q) p x ns
-  unfolding askOf plainBody stepTwo
+  unfolding askOf plainBody
   to-plain (any-takes h) = any-takes h
   to-plain (any-fails h) = any-fails h
   to-plain (lit-takes h) = lit-takes h
@@ -149,15 +157,14 @@ module _ (g : Meant) (s : List ℕ) where
   to-plain (never-takes t) = never-takes (to-plain t)
   to-plain (never-fails t) = never-fails (to-plain t)
   to-plain (by-rule t) = by-rule (to-plain t)
-  to-plain (by-own t) = by-rule (alt-first (own-in (plainOf g) s (g .water) (to-plain t)))
-  to-plain (by-water t u) = by-rule (alt-first (base-in (plainOf g) s (to-plain t) (to-plain u)))
-  to-plain (by-skip t u v h) = by-rule (alt-second (base-in (plainOf g) s (to-plain t) (to-plain u)) (skip-takes (plainOf g) s (to-plain v) h))
-  to-plain (stopped t u v) = by-rule (alt-second (base-in (plainOf g) s (to-plain t) (to-plain u)) (skip-stops (plainOf g) s (to-plain v)))
-  to-plain (at-end t u v h) = by-rule (alt-second (base-in (plainOf g) s (to-plain t) (to-plain u)) (skip-ends (plainOf g) s (to-plain v) h))
+  to-plain (by-own {o = o} {ss = ss} t) = by-rule (own-in (plainOf g) s (g .water) o ss (to-plain t))
+  to-plain (by-water {o = o} {ss = ss} t u) = by-rule (water-in (plainOf g) s (g .water) o ss (to-plain t) (to-plain u))
+  to-plain (by-skip {o = o} {ss = ss} t u v h) = by-rule (skip-in (plainOf g) s (g .water) o ss (to-plain t) (to-plain u) (skip-takes (plainOf g) s (to-plain v) h))
+  to-plain (stopped {o = o} {ss = ss} t u v) = by-rule (skip-in (plainOf g) s (g .water) o ss (to-plain t) (to-plain u) (skip-stops (plainOf g) s (to-plain v)))
+  to-plain (at-end {o = o} {ss = ss} t u v h) = by-rule (skip-in (plainOf g) s (g .water) o ss (to-plain t) (to-plain u) (skip-ends (plainOf g) s (to-plain v) h))
   to-plain own-none = own-none
   to-plain (own-is t) = own-is (to-plain t)
-  to-plain (dry-end h) = dry-end h
-  to-plain (dry h) = dry h
+  to-plain dry = dry
   to-plain (wet-is t) = wet-is (to-plain t)
   to-plain none-of = none-of
   to-plain (this-one t) = this-one (to-plain t)
@@ -205,8 +212,7 @@ module _ (g : Meant) (s : List ℕ) where
   from-plain (at-end t u v h) = tt
   from-plain own-none = tt
   from-plain (own-is t) = tt
-  from-plain (dry-end h) = tt
-  from-plain (dry h) = tt
+  from-plain dry = tt
   from-plain (wet-is t) = tt
   from-plain none-of = tt
   from-plain (this-one t) = tt

@@ -7,7 +7,7 @@ use mathlib.Core.List.{List, [], _∷_}
 use native.Mathlib.Omega.{arith}
 use Rattle.read_tokens.specs.Token.{any, literal}
 use Rattle.grammar.specs.Exp.{Exp, sym, ter, seq, opt, star, plus}
-use Rattle.match_meaning.specs.Meaning.{Meant, nd, SymbolBody, rule, lake, Here, any-takes, lit-takes, lit-fails, sym-takes, sym-fails, seq-takes, star-idles, plus-takes, opt-skips, opt-takes, by-rule, by-water, by-skip, stopped, own-none, dry-end, dry, wet-is, none-of, this-one, Derives}
+use Rattle.match_meaning.specs.Meaning.{Meant, nd, SymbolBody, rule, lake, Here, any-takes, lit-takes, lit-fails, sym-takes, sym-fails, seq-fails-later, seq-takes, star-idles, plus-takes, opt-skips, opt-takes, by-rule, by-water, by-skip, stopped, at-end, own-none, dry, wet-is, none-of, this-one, Derives}
 
 -- ── `a <- 'x' <y>` ──
 abbrev bodies : List (Exp ℕ) → ℕ → SymbolBody
@@ -22,17 +22,17 @@ x-first k s = lit-takes {p = 0} {bs = 120 ∷ []} (omega arith, refl, tt)
 
 -- on `xz`: match 2, the lake skips `z`
 skips-z : Derives xy (120 ∷ 122 ∷ []) 1 (sym 1) 1 2 (nd 1 1 2 1 ∷ [])
-skips-z = sym-takes {r = 1} {m = 1} (by-skip {p = 1} own-none (dry {p = 1} (omega arith)) none-of (omega arith))
+skips-z = sym-takes {r = 1} {m = 1} (by-skip {p = 1} own-none (dry {p = 1}) none-of (omega arith))
 
 pub skips : Derives xy (120 ∷ 122 ∷ []) 0 (sym 0) 0 3 (nd 0 0 2 0 ∷ nd 1 1 2 1 ∷ [])
 skips = sym-takes {r = 0} {m = 2} (by-rule (seq-takes {m = 1} {k = 1} (x-first xy (122 ∷ [])) skips-z))
 
--- on `x`: match 1, `<y>` from 1 to 1
-empty-y : Derives xy (120 ∷ []) 1 (sym 1) 1 1 (nd 1 1 1 1 ∷ [])
-empty-y = sym-takes {r = 1} {m = 0} (by-water own-none (dry-end {p = 1} (omega arith)))
+-- on `x` there is no match: at the text's end there is neither a rule of `<y>` nor water, and no byte (02, §4)
+no-y : Derives xy (120 ∷ []) 1 (sym 1) 1 0 []
+no-y = sym-fails {r = 1} (at-end {p = 1} own-none (dry {p = 1}) none-of (omega arith))
 
-pub at-the-end : Derives xy (120 ∷ []) 0 (sym 0) 0 2 (nd 0 0 1 0 ∷ nd 1 1 1 1 ∷ [])
-at-the-end = sym-takes {r = 0} {m = 1} (by-rule (seq-takes {m = 1} {k = 0} (x-first xy []) empty-y))
+pub at-the-end : Derives xy (120 ∷ []) 0 (sym 0) 0 0 []
+at-the-end = sym-fails {r = 0} (by-rule (seq-fails-later {m = 1} (x-first xy []) no-y))
 
 -- with `water <- '#' .` the lake takes `#z`, and there is no node for water
 abbrev watered : Meant
@@ -52,7 +52,7 @@ abbrev stopping : Meant
 stopping = record { body = bodies (ter (literal (122 ∷ [])) ∷ []); water = none }
 
 pub stops : Derives stopping (122 ∷ []) 0 (sym 1) 0 0 []
-stops = sym-fails {r = 1} (stopped own-none (dry {p = 0} (omega arith)) (this-one {m = 1} (lit-takes {p = 0} {bs = 122 ∷ []} (omega arith, refl, tt))))
+stops = sym-fails {r = 1} (stopped own-none (dry {p = 0}) (this-one {m = 1} (lit-takes {p = 0} {bs = 122 ∷ []} (omega arith, refl, tt))))
 
 -- ── on the empty text, with `b <- 'x'?`: "that round is dropped with its nodes, but the first round of `+` counts"; `?` is no repeat ──
 abbrev maybe : Meant

@@ -4,7 +4,7 @@ use Prim.Native.Nat.{ℕ, suc, _+_}
 use mathlib.Core.Path.{_≡_, refl, ap₂, subst}
 use mathlib.Core.List.{List, [], _∷_, _++_}
 use native.Mathlib.Omega.{arith}
-use Rattle.match_meaning.specs.Meaning.{Meant, Node, nd, Ask, Tries, any-takes, any-fails, lit-takes, lit-fails, cls-takes, cls-fails, sym-takes, sym-fails, seq-fails, seq-fails-later, seq-takes, alt-first, alt-second, star-ends, star-idles, star-goes, plus-fails, plus-takes, opt-skips, opt-takes, ahead-fails, ahead-takes, never-takes, never-fails, by-rule, by-own, by-water, by-skip, stopped, at-end, own-none, own-is, dry-end, dry, wet-is, none-of, this-one, later-one}
+use Rattle.match_meaning.specs.Meaning.{Meant, Node, nd, Ask, Tries, any-takes, any-fails, lit-takes, lit-fails, cls-takes, cls-fails, sym-takes, sym-fails, seq-fails, seq-fails-later, seq-takes, alt-first, alt-second, star-ends, star-idles, star-goes, plus-fails, plus-takes, opt-skips, opt-takes, ahead-fails, ahead-takes, never-takes, never-fails, by-rule, by-own, by-water, by-skip, stopped, at-end, own-none, own-is, dry, wet-is, none-of, this-one, later-one}
 
 abbrev pub Same : ℕ → ℕ → List Node → List Node → Type 0
 Same x y ns ms = (x ≡ y) × (ns ≡ ms)
@@ -114,10 +114,7 @@ module _ (g : Meant) (s : List ℕ) where
   one (at-end t k j l) (at-end u v w i) = (refl, refl)
   one own-none own-none = (refl, refl)
   one (own-is t) (own-is u) = one t u
-  one (dry-end h) (dry-end k) = (refl, refl)
-  one (dry-end h) (dry k) = absurd (omega arith)
-  one (dry h) (dry-end k) = absurd (omega arith)
-  one (dry h) (dry k) = (refl, refl)
+  one dry dry = (refl, refl)
   one (wet-is t) (wet-is u) = one t u
   one none-of none-of = (refl, refl)
   one (this-one t) (this-one u) = one t u
@@ -159,8 +156,7 @@ module _ (g : Meant) (s : List ℕ) where
   bare (at-end t u v l) h = refl
   bare own-none h = refl
   bare (own-is t) h = bare t h
-  bare (dry-end k) h = refl
-  bare (dry k) h = refl
+  bare dry h = refl
   bare (wet-is t) h = bare t h
   bare none-of h = refl
   bare (this-one t) h = bare t h

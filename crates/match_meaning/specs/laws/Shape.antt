@@ -5,7 +5,7 @@ use Prim.Native.Nat.{ℕ, suc, _+_, _≤_}
 use mathlib.Core.List.{List, [], _∷_, _++_}
 use native.Mathlib.Omega.{arith}
 use lib.ListN.{length}
-use Rattle.match_meaning.specs.Meaning.{Meant, Node, Here, Ask, Tries, any-takes, any-fails, lit-takes, lit-fails, cls-takes, cls-fails, sym-takes, sym-fails, seq-fails, seq-fails-later, seq-takes, alt-first, alt-second, star-ends, star-idles, star-goes, plus-fails, plus-takes, opt-skips, opt-takes, ahead-fails, ahead-takes, never-takes, never-fails, by-rule, by-own, by-water, by-skip, stopped, at-end, own-none, own-is, dry-end, dry, wet-is, none-of, this-one, later-one}
+use Rattle.match_meaning.specs.Meaning.{Meant, Node, Here, Ask, Tries, any-takes, any-fails, lit-takes, lit-fails, cls-takes, cls-fails, sym-takes, sym-fails, seq-fails, seq-fails-later, seq-takes, alt-first, alt-second, star-ends, star-idles, star-goes, plus-fails, plus-takes, opt-skips, opt-takes, ahead-fails, ahead-takes, never-takes, never-fails, by-rule, by-own, by-water, by-skip, stopped, at-end, own-none, own-is, dry, wet-is, none-of, this-one, later-one}
 
 abbrev pub From : ℕ → List Node → Type 0
 From d [] = Unit
@@ -84,8 +84,7 @@ module _ (g : Meant) (s : List ℕ) where
   shape (at-end t u v h) = (tt, tt)
   shape own-none = (tt, tt)
   shape (own-is t) = shape t
-  shape (dry-end h) = (tt, tt)
-  shape (dry h) = (tt, tt)
+  shape dry = (tt, tt)
   shape (wet-is t) = shape t
   shape none-of = (tt, tt)
   shape (this-one t) = shape t
@@ -124,8 +123,7 @@ module _ (g : Meant) (s : List ℕ) where
   within (at-end t u v h) k = omega arith
   within own-none k = omega arith
   within (own-is t) k = within t k
-  within (dry-end h) k = omega arith
-  within (dry h) k = omega arith
+  within dry k = omega arith
   within (wet-is t) k = within t k
   within none-of k = omega arith
   within (this-one t) k = within t k
@@ -164,8 +162,7 @@ module _ (g : Meant) (s : List ℕ) where
   spans (at-end t u v h) k = tt
   spans own-none k = tt
   spans (own-is t) k = spans t k
-  spans (dry-end h) k = tt
-  spans (dry h) k = tt
+  spans dry k = tt
   spans (wet-is t) k = spans t k
   spans none-of k = tt
   spans (this-one t) k = spans t k

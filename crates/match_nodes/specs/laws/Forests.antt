@@ -17,7 +17,7 @@ use Rattle.grammar_table.specs.Table.{opOf, leftOf, rightOf, partBy, partIn, pa
 use Rattle.grammar_table.specs.Holds.{Holds, present, rootsFrom}
 use Rattle.grammar_table.specs.Trees.{below}
 use Rattle.grammar_table.specs.laws.Places.{upTo-long, upTo-at}
-use Rattle.grammar_table.specs.laws.Parts.{parts-long, size-pos, total, Seg, seg-left, seg-right, seg-one}
+use Rattle.grammar_table.specs.laws.Parts.{parts-long, size-pos, root-le, total, Seg, seg-left, seg-right, seg-one}
 use Rattle.grammar_table.specs.laws.Trees.{below-in}
 use Rattle.lake_step_one.specs.laws.Held.{rights-long, expressions-are}
 use Rattle.lake_calls.specs.laws.Rights.{root-at}
@@ -117,12 +117,14 @@ module _ (t : List ℕ) (number : Leaf → ℕ) (f : ℕ → ℕ) where
     says-left : Says o a (suc (o + size a + size b))
     says-left i k l =
         h i k (omega (arith, l))
-        ∙ ap (λ (c : Bool). cond c (parentIn o a (suc (o + size a + size b)) i) (cond (ltb i (o + size a + size b)) (parentIn (o + size a) b (suc (o + size a + size b)) i) top)) (lt-ltb i (o + size a) l)
+        ∙ ap (λ (c : Bool). cond c (parentIn o a (suc (o + size a + size b)) i) (cond (ltb i (o + size a + size b)) (parentIn (o + size a) b (suc (o + size a + size b)) i) top))
+        (lt-ltb i (o + size a) l)
 
     says-right : Says (o + size a) b (suc (o + size a + size b))
     says-right i k l =
         h i (omega (arith, k)) (omega (arith, l))
-        ∙ ap (λ (c : Bool). cond c (parentIn o a (suc (o + size a + size b)) i) (cond (ltb i (o + size a + size b)) (parentIn (o + size a) b (suc (o + size a + size b)) i) top)) (le-ltb i (o + size a) k)
+        ∙ ap (λ (c : Bool). cond c (parentIn o a (suc (o + size a + size b)) i) (cond (ltb i (o + size a + size b)) (parentIn (o + size a) b (suc (o + size a + size b)) i) top))
+        (le-ltb i (o + size a) k)
         ∙ ap (λ (c : Bool). cond c (parentIn (o + size a) b (suc (o + size a + size b)) i) top) (lt-ltb i (o + size a + size b) l)
 
   -- the parent of a root
@@ -243,14 +245,6 @@ module _ (t : List ℕ) (f : ℕ → ℕ) (j : ℕ) where
   by-kind (suc (suc (suc (suc (suc zero))))) l r h = subst (λ (a : ℕ). above f a ≡ suc j) (inside l (h .1)) (h .0)
   by-kind (suc (suc (suc (suc (suc (suc zero)))))) l r h = subst (λ (a : ℕ). above f a ≡ suc j) (inside l (h .1)) (h .0)
   by-kind (suc (suc (suc (suc (suc (suc (suc k))))))) l r h = tt
-
-root-le : (os : List (Option (Exp ℕ))) (o s : ℕ) → getD (rootsFrom o os) s 0 ≤ o + total (present os)
-unfolding rootsFrom present total
-root-le [] o s = omega arith
-root-le (none ∷ os) o zero = omega arith
-root-le (none ∷ os) o (suc s) = root-le os o s
-root-le (some e ∷ os) o zero = omega (arith, size-pos e)
-root-le (some e ∷ os) o (suc s) = omega (arith, root-le os (o + size e) s)
 
 module _ (t : List ℕ) (g : Grammar) (h : Holds t g) where
   -- a body is one of the expressions

@@ -2,7 +2,7 @@
 use Prim.Native.Nat.{ℕ, _≤_, _<_}
 use mathlib.Core.Path.{_≡_, refl, sym, ap, _∙_, subst}
 use mathlib.Core.Bool.{Bool, true, false, true≢false}
-use mathlib.Core.List.{List}
+use mathlib.Core.List.{List, map}
 use mathlib.Core.Option.{Option, none, some}
 use native.Mathlib.Omega.{arith}
 use lib.ListN.{length, length-map}
@@ -162,7 +162,7 @@ same-count : (t : List ℕ) (g : Grammar) (bs : List (Exp ℕ)) → Holds t (wit
 unfolding rootsIn
 same-count t g bs h =
     let a : symbolCount t ≡ length (g .names) = sym (upTo-long (nameIn t) (symbolCount t)) ∙ ap length (h .names) in
-    let b : symbolCount t ≡ length bs = sym (upTo-long (λ r. symbolWord t r 1) (symbolCount t)) ∙ ap length (h .roots) ∙ from-long bs 0 in
+    let b : symbolCount t ≡ length bs = sym (upTo-long (λ r. symbolWord t r 1) (symbolCount t)) ∙ ap length (h .roots) ∙ from-long (map some bs) 0 ∙ length-map bs some in
     sym a ∙ b
 
 -- ── the whole answer, from what the parts answer ──

@@ -26,7 +26,6 @@ use Rattle.read_grammar.specs.laws.Whole.{all-names}
 use Rattle.grammar.specs.Numbers.{terminalIn}
 use Rattle.lake_step_one.specs.Proper.{Sound as SoundExp, SoundAll, Proper}
 use Rattle.lake_step_one.specs.laws.Proper.{proper-of}
-use Rattle.prepare.specs.laws.Dot.{dot-in}
 use Rattle.prepare.specs.laws.Short.{terminals-adds, to-tokens}
 use Rattle.prepare.specs.laws.Full.{Full, all-full, full-leaves}
 use Rattle.prepare.specs.laws.There.{In, adds-has, uses-among}
@@ -114,4 +113,4 @@ module _ (m : Mode) (s : List ℕ) (g : Rules) (sound : Sound m s g) where
       (trees g) (length (looseLakes (trees g))) uses-known leaves-met
 
   pub proper : Proper (numbered (trees g))
-  proper = proper-of (numbered (trees g)) (dot-in (trees g)) sound-rights
+  proper = proper-of (numbered (trees g)) sound-rights

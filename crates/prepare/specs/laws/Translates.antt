@@ -1,6 +1,6 @@
 -- Steps 1 and 2 with the sets between them decide on refusal 7. Assumes nothing.
 use Prim.Native.Nat.{ℕ, _≤_, _<_, min}
-use mathlib.Core.Path.{_≡_}
+use mathlib.Core.Path.{_≡_, sym, _∙_}
 use mathlib.Core.Bool.{Bool}
 use mathlib.Core.List.{List}
 use native.Mathlib.Omega.{arith}
@@ -15,6 +15,8 @@ use Rattle.lake_rules.specs.Analysis.{analysis}
 use Rattle.lake_step_one.specs.Proper.{middle}
 use Rattle.grammar_table.specs.laws.Parts.{total}
 use Rattle.lake_step_one.specs.steps.Made.{withBodies}
+use Rattle.lake_step_one.specs.laws.Held.{names-are}
+use Rattle.lake_step_one.specs.laws.Next.{middle-long}
 use Rattle.lake_step_two.specs.steps.Stepped.{SteppedTwo, plainOf}
 use Rattle.lake_step_two.specs.laws.Once.{once-numbered}
 use Rattle.lake_step_two.specs.laws.Refused.{refused, let-through, refused-early}
@@ -30,7 +32,7 @@ module _ (mid : List ℕ) (alts : List (List ℕ)) (out : List ℕ) (n : ℕ) wh
   pub early-over : 1024 < n → Follows n mid alts out n
   early-over h = record {
     translated = λ t ms sets eps succ rounds w. record {
-      over = λ g a b l. refused-early g (analysis g) n (w .stepped g a (b .once .dot) (b .short) .0) h;
+      over = λ g a b l. refused-early g (analysis g) n (sym (names-are t g a) ∙ sym (middle-long t g a)) (w .stepped g a (b .short) .0) h;
       within = λ g a b l. absurd (omega arith);
     };
   }
@@ -39,7 +41,7 @@ module _ (mid : List ℕ) (alts : List (List ℕ)) (out : List ℕ) (n : ℕ) wh
     module _ (t : List ℕ) (ms : List Bool) (sets : List (List ℕ)) (eps : List Bool) (succ : List (List ℕ)) (rounds : ℕ) (w : Between t mid ms sets eps succ alts n rounds)
         (g : Grammar) (a : Holds t g) (b : Good g) where
       held : Holds mid (middle g)
-      held = let one = w .stepped g a (b .once .dot) (b .short) in one .1 (omega (arith, one .0, h))
+      held = let one = w .stepped g a (b .short) in one .1 (omega (arith, one .0, h))
 
       two : (k ≡ min 1025 (total (plainOf g))) × (total (plainOf g) ≤ 1024 → Holds out (withBodies g (plainOf g)))
       two = q g (record { holds = held; proper = b .proper; once = b .once; alts-are = w .fronted h g held (b .proper) .alts-is }) (b .short)

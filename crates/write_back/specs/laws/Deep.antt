@@ -11,13 +11,13 @@ use Rattle.read_tokens.specs.declared.Mode.the-variants.{Lake, Plain}
 use Rattle.read_tokens.specs.Token.{Symbol, name, lake, Leaf}
 use Rattle.read_tokens.specs.Bounds.{openBound}
 use Rattle.grammar.specs.Exp.{Exp, Rule, sym, ter, seq, alt, opt, star, plus, ahead, never, rename}
-use Rattle.grammar.specs.Lakes.{waterOf, stepOne, choiceOf, skipOf, stepTwo}
+use Rattle.grammar.specs.Lakes.{stepOne, choiceOf, skipOf, stepTwo}
 use Rattle.grammar.specs.Same.{sameSymbol, indexOf}
 use Rattle.grammar.specs.Numbers.{Grammar, isLake, rightBy}
 use Rattle.base_words.specs.Set.{memberOf}
-use Rattle.lake_step_one.specs.Intermediate.{rightOr, intermediateBy, bodiesBy}
-use Rattle.lake_rules.specs.Analysis.{Analysis, bodyAlt}
-use Rattle.lake_plain.specs.Plain.{nonterminalsIn, terminalsIn, alternatives, plainBy, plainFrom, rulesBy}
+use Rattle.lake_step_one.specs.Intermediate.{intermediateBy, bodiesBy}
+use Rattle.lake_rules.specs.Analysis.{Analysis, lakeAlt}
+use Rattle.lake_plain.specs.Plain.{nonterminalsIn, terminalsIn, alternatives, rightOr, plainBy, plainFrom, rulesBy}
 use Rattle.grammar_table.specs.laws.Rows.{All}
 use Rattle.write_rules.specs.laws.Pairs.{Levels, conc, written}
 use Rattle.write_rules.specs.laws.Depth.{peak, deepC, deepS, deepP, deepF, deepQ, peak-c, shallow}
@@ -98,15 +98,12 @@ module _ (k : ℕ → Symbol) where
   in-choice : (e : Exp ℕ) → deepS (conc (rename k e) .s) ≤ suc (deep e)
   in-choice e = let u = shallow (rename k e) in omega (arith, u .sp, u .pf, u .fq, u .qc)
 
-  water-upto : (n : ℕ) (w : Option (Exp ℕ)) → Upto n w → deep (waterOf w) ≤ n
-  unfolding waterOf rename conc
-  water-upto n none u = omega arith
-  water-upto n (some w) u = u
-
-  one-upto : (n : ℕ) (w o : Option (Exp ℕ)) → Upto n w → Upto n o → deep (stepOne w o) ≤ suc n
+  one-upto : (n : ℕ) (w o : Option (Exp ℕ)) → Upto n w → Upto n o → Upto (suc n) (stepOne w o)
   unfolding stepOne rename conc
-  one-upto n w none u v = omega (arith, water-upto n w u)
-  one-upto n w (some e) u v = omega (arith, water-upto n w u, in-choice (waterOf w), v)
+  one-upto n none none u v = tt
+  one-upto n none (some e) u v = omega (arith, v)
+  one-upto n (some w) none u v = omega (arith, u)
+  one-upto n (some w) (some e) u v = omega (arith, u, in-choice w, v)
 
   right-or : (n : ℕ) (o : Option (Exp ℕ)) → Upto n o → deep (rightOr o) ≤ n
   unfolding rename conc
@@ -149,9 +146,10 @@ module _ (k : ℕ → Symbol) where
   skip-flat (a ∷ bs) f =
       omega (arith, in-guard (choiceOf a bs), choice-flat a bs (let u = shallow (rename k a) in omega (arith, u .cs, f .0)) (f .1))
 
-  two-upto : (n : ℕ) (b : Exp ℕ) (ss : List (Exp ℕ)) → deep b ≤ n → 1 ≤ n → All Flat ss → deep (stepTwo b ss) ≤ n
+  two-upto : (n : ℕ) (b : Option (Exp ℕ)) (ss : List (Exp ℕ)) → Upto n b → 1 ≤ n → All Flat ss → deep (stepTwo b ss) ≤ n
   unfolding stepTwo rename conc
-  two-upto n b ss h l f = omega (arith, h, l, skip-flat ss f)
+  two-upto n none ss h l f = let u = shallow (rename k (skipOf ss)) in omega (arith, u .cs, skip-flat ss f, l)
+  two-upto n (some b) ss h l f = omega (arith, h, l, skip-flat ss f)
 
   body-upto : (m : Mode) (h : Symbol) (w o : Option (Exp ℕ)) (ss : List (Exp ℕ)) → FitName m h → Upto (openBound m) w → Upto (openBound m) o → All Flat ss
       → deep (plainBy (isLake h) (intermediateBy (isLake h) w o) ss) ≤ 33
@@ -164,13 +162,14 @@ module _ (k : ℕ → Symbol) where
   abbrev pub Within : Exp ℕ → Type 0
   Within e = deep e ≤ 33
 
-  pub bodies-upto : (m : Mode) (g : Grammar) (a : Analysis) (w : Option (Exp ℕ)) (r : ℕ) (hs : List Symbol) (os : List (Option (Exp ℕ))) → Upto (openBound m) w → All (FitName m) hs → All (Upto (openBound m)) os
+  pub bodies-upto : (m : Mode) (g : Grammar) (a : Analysis) (w : Option (Exp ℕ)) (r : ℕ) (hs : List Symbol) (os : List (Option (Exp ℕ))) → Upto (openBound m) w → All (FitName m) hs → All
+      (Upto (openBound m)) os
       → All Within (plainFrom g a r hs (bodiesBy w hs os))
   unfolding plainFrom bodiesBy
   bodies-upto m g a w r [] os u p q = tt
   bodies-upto m g a w r (h ∷ hs) [] u p q = tt
   bodies-upto m g a w r (h ∷ hs) (o ∷ os) u p q =
-      (body-upto m h w o (alternatives g (bodyAlt a r)) (p .0) u (q .0) (flat-all g (bodyAlt a r)), bodies-upto m g a w (suc r) hs os u (p .1) (q .1))
+      (body-upto m h w o (alternatives g (lakeAlt a r)) (p .0) u (q .0) (flat-all g (lakeAlt a r)), bodies-upto m g a w (suc r) hs os u (p .1) (q .1))
 
   pub rules-upto : (es : List (Exp ℕ)) (r : ℕ) → All Within es → All (ShallowBy 33) (rulesBy k r es)
   unfolding rulesBy

@@ -17,7 +17,7 @@ use Rattle.grammar.specs.Syntax.{Rules}
 use Rattle.grammar.specs.Trees.{trees}
 use Rattle.grammar.specs.Numbers.{Grammar, isLake, leftSides, symbolsOf, rightBy, numbered}
 use Rattle.lake_step_one.specs.Intermediate.{waterIn, intermediateBy, bodiesBy, intermediate}
-use Rattle.lake_rules.specs.Analysis.{Analysis, analysis, bodyAlt}
+use Rattle.lake_rules.specs.Analysis.{Analysis, analysis, lakeAlt}
 use Rattle.grammar.specs.Numbers.{terminalIn}
 use Rattle.lake_step_one.specs.Proper.{Sound as SoundExp, SoundAll}
 use Rattle.lake_plain.specs.Plain.{alternatives, plainBy, plainFrom, plainBodies, rulesBy, plainRules}
@@ -71,12 +71,13 @@ module _ (number : Leaf → ℕ) (n x : ℕ) (k : ℕ → Symbol) (names : List 
 dry-body : (h : Symbol) (w : Option (Exp ℕ)) (e : Exp ℕ) (ss : List (Exp ℕ)) → Dry h → plainBy (isLake h) (intermediateBy (isLake h) w (some e)) ss ≡ e
 dry-body h w e ss d = ap (λ (b : Bool). plainBy b (intermediateBy b w (some e)) ss) d
 
-dry-bodies : (g : Grammar) (a : Analysis) (w : Option (Exp ℕ)) (hs : List Symbol) (es : List (Exp ℕ)) (r : ℕ) → All Dry hs → length hs ≡ length es → plainFrom g a r hs (bodiesBy w hs (map some es)) ≡ es
+dry-bodies : (g : Grammar) (a : Analysis) (w : Option (Exp ℕ)) (hs : List Symbol) (es : List (Exp ℕ)) (r : ℕ) → All Dry hs → length hs ≡ length es → plainFrom g a r hs
+    (bodiesBy w hs (map some es)) ≡ es
 unfolding plainFrom bodiesBy
 dry-bodies g a w [] [] r d l = refl
 dry-bodies g a w [] (e ∷ es) r d l = absurd (omega (arith, l))
 dry-bodies g a w (h ∷ hs) [] r d l = absurd (omega (arith, l))
-dry-bodies g a w (h ∷ hs) (e ∷ es) r d l = ap₂ _∷_ (dry-body h w e (alternatives g (bodyAlt a r)) (d .0)) (dry-bodies g a w hs es (suc r) (d .1) (omega (arith, l)))
+dry-bodies g a w (h ∷ hs) (e ∷ es) r d l = ap₂ _∷_ (dry-body h w e (alternatives g (lakeAlt a r)) (d .0)) (dry-bodies g a w hs es (suc r) (d .1) (omega (arith, l)))
 
 all-dry : (l : List Symbol) → All Dry (map plainName l)
 all-dry [] = tt
