@@ -2,3 +2,4 @@
 pub mod Forests
 pub mod Turns
 pub mod Passes
+pub mod Lanes

@@ -14,6 +14,7 @@ ghost use Rattle.match_walks.specs.steps.Tasks.{enter as entering, after, liste
 ghost use Rattle.match_walks.specs.steps.Waits.{going, waiting, tasksOf, climb};
 ghost use Rattle.match_nodes.specs.steps.Passes.{out, note as noted, run, decode};
 ghost use Rattle.match_nodes.specs.steps.Turns.{Ready, said, Left, State, Turned};
+ghost use Rattle.match_nodes.specs.steps.Lanes.{Laned, Strides};
 use grammar_table::Table;
 use match_eval::memory::Memory;
 use match_walks::DONE;
@@ -58,6 +59,12 @@ struct Entry {
     symbol: usize,
     level: usize,
     x: usize,
+    place: usize,
+    at: usize,
+}
+
+// How far rounds go that need no walk: in the text, in the list.
+struct Reached {
     place: usize,
     at: usize,
 }
@@ -153,7 +160,121 @@ fn leave(desk: &[u32], st: Stand) -> Stand
     }
 }
 
-// One turn: an expression is walked, or one that is done gives way to what comes behind it.
+// A round of the expression of a stand, if the byte at its place decides what it takes and lists; else it stays there.
+fn by_byte(
+    t: &Table,
+    s: &[u8],
+    cells: &[u32],
+    mem: &Memory,
+    nodes: &mut [u32],
+    desk: &[u32],
+    tour: Tour,
+) -> Reached
+    requires { ⌜ Ready (now t) (now s) (now cells) (tour .setting .n) × Desk (now t) (now desk) (expressionCount (now t))
+        × (tour .stand .at < 4611686018427387904) × (tour .stand .level ≤ 256) × (tour .stand .x ≤ expressionCount (now t))
+        × (tour .stand .place ≤ length (now s)) × Knows (now t) (now s) (now cells) (tour .setting .n) (now mem) 0 0 ⌝ }
+    ensures { λ r.
+        ⌜ Laned (now (t .entry)) (now (s .entry)) (now (cells .entry)) (tour .setting .n) (tour .setting .room) (tour .setting .write)
+        (out (now (nodes .entry)) (tour .stand .at)) (out (now (nodes .exit)) (r .at)) (tour .stand .x) (tour .stand .level) (tour .stand .place) (r .place) ⌝ }
+{
+    let g = tour.setting;
+    let st = tour.stand;
+    let p = st.place;
+    let b = match_eval::byte_at(s, p);
+    let r = match_lone::lone(t, mem, desk, st.x, b);
+    if r == match_lone::UNKNOWN {
+        return Reached {
+            place: p,
+            at: st.at,
+        };
+    }
+    if r == match_lone::SILENT {
+        return Reached {
+            place: p + 1,
+            at: st.at,
+        };
+    }
+    let v = note(nodes, g, st.at, r, p, p + 1, st.level);
+    Reached {
+        place: p + 1,
+        at: v,
+    }
+}
+
+// Such rounds one after the other, as many as there are.
+fn stride(
+    t: &Table,
+    s: &[u8],
+    cells: &[u32],
+    mem: &Memory,
+    nodes: &mut [u32],
+    desk: &[u32],
+    tour: Tour,
+) -> Reached
+    requires { ⌜ Ready (now t) (now s) (now cells) (tour .setting .n) × Desk (now t) (now desk) (expressionCount (now t))
+        × (tour .stand .at < 4611686018427387904) × (tour .stand .level ≤ 256) × (tour .stand .x ≤ expressionCount (now t))
+        × (tour .stand .place ≤ length (now s)) × Knows (now t) (now s) (now cells) (tour .setting .n) (now mem) 0 0 ⌝ }
+    ensures { λ r.
+        ⌜ Laned (now (t .entry)) (now (s .entry)) (now (cells .entry)) (tour .setting .n) (tour .setting .room) (tour .setting .write)
+        (out (now (nodes .entry)) (tour .stand .at)) (out (now (nodes .exit)) (r .at)) (tour .stand .x) (tour .stand .level) (tour .stand .place) (r .place) ⌝ }
+{
+    let g = tour.setting;
+    let first = tour.stand;
+    let mut q = first.place;
+    let mut at = first.at;
+    while q < s.len() {
+        let st = Stand {
+            mode: DONE,
+            level: first.level,
+            x: first.x,
+            place: q,
+            at: at,
+        };
+        let now = Tour {
+            setting: g,
+            stand: st,
+        };
+        let l = by_byte(t, s, cells, mem, nodes, desk, now);
+        if l.place == q {
+            return l;
+        }
+        q = l.place;
+        at = l.at;
+        if REFUSED <= at {
+            return Reached { place: q, at: at };
+        }
+    }
+    Reached { place: q, at: at }
+}
+
+// The same behind a round of a repeat; anywhere else it stays.
+fn lane(
+    t: &Table,
+    s: &[u8],
+    cells: &[u32],
+    mem: &Memory,
+    nodes: &mut [u32],
+    desk: &[u32],
+    tour: Tour,
+) -> Reached
+    requires { ⌜ Ready (now t) (now s) (now cells) (tour .setting .n) × Desk (now t) (now desk) (expressionCount (now t))
+        × (tour .stand .at < 4611686018427387904) × (tour .stand .level ≤ 256) × (tour .stand .x < 4294967296)
+        × (tour .stand .place ≤ length (now s)) × Knows (now t) (now s) (now cells) (tour .setting .n) (now mem) 0 0 ⌝ }
+    ensures { λ r.
+        ⌜ Strides (now (t .entry)) (now (s .entry)) (now (cells .entry)) (tour .setting .n) (tour .setting .room) (tour .setting .write) (now (desk .entry))
+        (out (now (nodes .entry)) (tour .stand .at)) (out (now (nodes .exit)) (r .at)) (tour .stand .x) (tour .stand .level) (tour .stand .place) (r .place) ⌝ }
+{
+    let st = tour.stand;
+    if match_lone::repeats(t, desk, st.x) {
+        return stride(t, s, cells, mem, nodes, desk, tour);
+    }
+    Reached {
+        place: st.place,
+        at: st.at,
+    }
+}
+
+// One turn: an expression is walked, or one that is done gives way to what comes behind it; of rounds that bytes decide all are one turn.
 fn turn(
     t: &Table,
     s: &[u8],
@@ -179,12 +300,26 @@ fn turn(
         if m.kind == OVER {
             return leave(desk, st);
         }
-        return Stand {
+        let up = Stand {
             mode: m.kind,
             level: st.level,
             x: m.x,
             place: m.place,
             at: st.at,
+        };
+        if m.x != st.x {
+            return up;
+        }
+        let l = lane(t, s, cells, mem, nodes, desk, tour);
+        if l.place == st.place {
+            return up;
+        }
+        return Stand {
+            mode: DONE,
+            level: st.level,
+            x: st.x,
+            place: l.place,
+            at: l.at,
         };
     }
     let m = walk(t, s, cells, mem, g.n, desk, st);

@@ -67,6 +67,10 @@ pub run-node : (room w : ℕ) (o o₁ o₂ : Out) (n : Node) (b l : List Node) �
 unfolding run
 run-node room w o o₁ o₂ n b l h g e = g ∙ ap (λ (x : Out). run room w x b) h ∙ ap (run room w o) e
 
+pub run-single : (room w : ℕ) (o i : Out) (n : Node) (l : List Node) → i ≡ note room w o n → n ∷ [] ≡ l → i ≡ run room w o l
+unfolding run
+run-single room w o i n l h e = h ∙ ap (run room w o) e
+
 -- a pass that only looks ends with the answer's number
 look-by : (room k : ℕ) (ws : List ℕ) (n : Node) (ns : List Node) (b c : Bool) → ltb depthBound (n .depth) ≡ b → ltb k room ≡ c → k < big
     → (k < room → run room 0 (out ws (suc k)) ns ≡ out ws (numberOf (listingOf room (suc k) ns))) → run room 0 (out ws k) (n ∷ ns) ≡ out ws (numberOf (listingOf room k (n ∷ ns)))

@@ -63,8 +63,24 @@ module _ (t s cs : List ℕ) (n : ℕ) (ready : Ready t s cs n) where
     cell-body b e =
         ap (λ (x : ℕ). ev s cs n (treeOf t x) p) e ∙ ap (λ (x : Exp ℕ). ev s cs n x p) (flip body-is)
         ∙ ap (λ (m : ℕ). ev s cs m (bodyOf (bodiesOf t) r) p) many
-        ∙ one (plainly (bodiesOf t)) s (sym-is (bodiesOf t) s r p (ev s cs (length (bodiesOf t)) (bodyOf (bodiesOf t) r) p) (ev-sound (bodiesOf t) s cs (ready .right) (bodyOf (bodiesOf t) r) p l) 0 .1) (ev-sound (bodiesOf t) s cs (ready .right) (sym r) p l 0 .1) .0
+        ∙ one (plainly (bodiesOf t)) s (sym-is (bodiesOf t) s r p (ev s cs (length (bodiesOf t)) (bodyOf (bodiesOf t) r) p) (ev-sound (bodiesOf t) s cs (ready .right) (bodyOf
+        (bodiesOf t) r) p l) 0 .1) (ev-sound (bodiesOf t) s cs (ready .right) (sym r) p l 0 .1) .0
         ∙ ap (λ (m : ℕ). cellAt s cs m r p) (flip many)
+
+  -- the nodes of a symbol that matches: its own, then those of its body
+  module _ (d r p c b : ℕ) (inside : p ≤ length s) (able : cellAt s cs n r p ≡ 0 → ⊥) (depth : d ≤ 256) (cell : c ≡ cellAt s cs n r p) (body : b ≡ symbolWord t r 1) where
+    pub under-is : nd r p (p + (c - 1)) d ∷ walked t s cs n b (d + 1) p ≡ under t s cs n d r p
+    unfolding under levels depthBound
+    under-is =
+        let f : c ≡ 0 → ⊥ = λ z. able (flip cell ∙ z) in
+        let i : levels - (d + 1) ≡ levels - d - 1 = omega arith in
+        let g : levels - d ≡ 0 → ⊥ = λ z. omega (arith, z, depth) in
+        ap (λ (x : List Node). nd r p (p + (c - 1)) d ∷ x)
+        (ap (λ (x : ℕ). walkOf s (λ e i. ev s cs n e i) (λ r i. nodesOf (bodiesOf t) s cs (levels - (d + 1)) (d + 1) r i) (treeOf t x) p) body
+        ∙ ap (λ (x : Exp ℕ). walkOf s (λ e i. ev s cs n e i) (λ r i. nodesOf (bodiesOf t) s cs (levels - (d + 1)) (d + 1) r i) x p) (flip (body-is r p (symbol-in r p able) inside))
+        ∙ ap (λ (m : ℕ). walkOf s (λ e i. ev s cs m e i) (λ r i. nodesOf (bodiesOf t) s cs (levels - (d + 1)) (d + 1) r i) (bodyOf (bodiesOf t) r) p) many
+        ∙ ap (λ (x : ℕ). walkOf s (λ e i. ev s cs (length (bodiesOf t)) e i) (λ r i. nodesOf (bodiesOf t) s cs x (d + 1) r i) (bodyOf (bodiesOf t) r) p) i)
+        ∙ nodes-more (bodiesOf t) s cs d r p (levels - d) c g (cell ∙ ap (λ (m : ℕ). cellAt s cs m r p) many) f
 
   module _ (room w d r p at c b : ℕ) (o : Out) (ws : List ℕ) (inside : p ≤ length s) (able : cellAt s cs n r p ≡ 0 → ⊥) (depth : d ≤ 256) (begun : at < big)
       (cell : c ≡ cellAt s cs n r p) (body : b ≡ symbolWord t r 1) (noted : o ≡ note room w (out ws at) (nd r p (p + (c - 1)) d)) where
@@ -73,19 +89,6 @@ module _ (t s cs : List ℕ) (n : ℕ) (ready : Ready t s cs n) where
 
     small-b : b ≤ 1024
     small-b = omega (arith, body, ready .small r within-n, ready .fits)
-
-    under-is : nd r p (p + (c - 1)) d ∷ walked t s cs n b (d + 1) p ≡ under t s cs n d r p
-    unfolding under levels depthBound
-    under-is =
-        let f : c ≡ 0 → ⊥ = λ z. able (flip cell ∙ z) in
-        let i : levels - (d + 1) ≡ levels - d - 1 = omega arith in
-        let g : levels - d ≡ 0 → ⊥ = λ z. omega (arith, z, depth) in
-        ap (λ (x : List Node). nd r p (p + (c - 1)) d ∷ x)
-        (ap (λ (x : ℕ). walkOf s (λ e i. ev s cs n e i) (λ r i. nodesOf (bodiesOf t) s cs (levels - (d + 1)) (d + 1) r i) (treeOf t x) p) body
-        ∙ ap (λ (x : Exp ℕ). walkOf s (λ e i. ev s cs n e i) (λ r i. nodesOf (bodiesOf t) s cs (levels - (d + 1)) (d + 1) r i) x p) (flip (body-is r p within-n inside))
-        ∙ ap (λ (m : ℕ). walkOf s (λ e i. ev s cs m e i) (λ r i. nodesOf (bodiesOf t) s cs (levels - (d + 1)) (d + 1) r i) (bodyOf (bodiesOf t) r) p) many
-        ∙ ap (λ (x : ℕ). walkOf s (λ e i. ev s cs (length (bodiesOf t)) e i) (λ r i. nodesOf (bodiesOf t) s cs x (d + 1) r i) (bodyOf (bodiesOf t) r) p) i)
-        ∙ nodes-more (bodiesOf t) s cs d r p (levels - d) c g (cell ∙ ap (λ (m : ℕ). cellAt s cs m r p) many) f
 
     after-is : after t s cs n (walk b (d + 1)) p ≡ after t s cs n (enter r d) p
     unfolding after
@@ -111,7 +114,7 @@ module _ (t s cs : List ℕ) (n : ℕ) (ready : Ready t s cs n) where
     enter-same zs =
         ap (λ (i : ℕ). run room w o (walked t s cs n b (d + 1) p ++ listed t s cs n zs i)) after-is
         ∙ ap (λ (u : Out). run room w u (walked t s cs n b (d + 1) p ++ listed t s cs n zs (after t s cs n (enter r d) p))) noted
-        ∙ ap (λ (l : List Node). run room w (out ws at) (l ++ listed t s cs n zs (after t s cs n (enter r d) p))) under-is
+        ∙ ap (λ (l : List Node). run room w (out ws at) (l ++ listed t s cs n zs (after t s cs n (enter r d) p))) (under-is d r p c b inside able depth cell body)
 
     -- x is the symbol's use, on whose level are the tasks behind it
     module _ (k : List ℕ) (x : ℕ) (desk : Desk t k (expressionCount t)) (small-x : x < 4294967296) (rest : AllAble t s cs n (going t k d x ++ waiting t k d) (after t s cs n (enter r d) p)) where
