@@ -188,6 +188,31 @@ pub fn eval_with(
     }
 }
 
+// The same for a part that is most often a symbol: that is looked up without the evaluation's frame.
+pub fn part_at(
+    t: &Table,
+    s: &[u8],
+    cells: &[u32],
+    mem: &Memory,
+    n: usize,
+    x: usize,
+    p: usize,
+) -> usize
+    requires { ⌜ ((n ≤ 64) × (x ≤ 4294967296) × (length (now s) ≤ 65535) × (p ≤ length (now s))) × Knows (now t) (now s) (now cells) n (now mem) 0 p ⌝ }
+    ensures { λ r. ⌜ r ≡ ev (now (s .entry)) (now (cells .entry)) n (treeOf (now (t .entry)) x) p ⌝ }
+{
+    if x == 0 {
+        return any_at(s, p);
+    }
+    let e = x - 1;
+    let op = records::op(t, e);
+    if op == grammar_table::SYMBOL {
+        let l = records::left(t, e);
+        return cell_at(s, cells, n, l, p);
+    }
+    eval_with(t, s, cells, mem, n, x, p)
+}
+
 // The bytes that rounds of expression x - 1 take from p on: up to the first that fails or takes nothing, or to a place from which they are known. What the byte
 // at a place decides is asked first: where it says that no round begins, nothing is remembered.
 pub fn many(t: &Table, s: &[u8], cells: &[u32], mem: &Memory, n: usize, x: usize, p: usize) -> usize

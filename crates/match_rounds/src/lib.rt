@@ -4,8 +4,10 @@ ghost use mathlib.Core.Path.{_≡_};
 ghost use lib.ListN.{length};
 ghost use Rattle.grammar_table.specs.Trees.{treeOf};
 ghost use Rattle.match_eval.specs.Eval.{ev};
+ghost use Rattle.match_eval.specs.steps.Firsts.{byteAt};
+ghost use Rattle.match_plan.specs.steps.Plan.{Takes, Planned};
 ghost use Rattle.match_eval.specs.steps.Memory.{Knows, Front, About, endOf};
-ghost use Rattle.match_rounds.specs.steps.Noted.{Noted};
+ghost use Rattle.match_rounds.specs.steps.Noted.{Noted, GoesOn};
 use base_words::put;
 use base_words::word;
 use grammar_table::Table;
@@ -25,9 +27,8 @@ use match_eval::memory::key;
 use match_eval::memory::said;
 use match_eval::memory::says;
 use match_eval::memory::slot;
-
-// What is said of a part that takes just the byte at a place.
-const TAKES: usize = 3;
+use match_plan::Plan;
+use match_plan::listed;
 
 // Entry i says from now on that rounds of key k take c bytes from p on.
 fn note(mem: &mut Memory, i: usize, k: usize, p: usize, c: usize)
@@ -79,6 +80,20 @@ fn keep_block(mem: &mut Memory, k: usize, p: usize)
     }
 }
 
+// Whether the newest run of key k begins behind p: then it goes on to p. Asked only where the first round from p on is just its byte.
+fn go_on(mem: &mut Memory, k: usize, p: usize) -> bool
+    requires { ⌜ (0 < k) × (k ≤ 1025) × (p < 65535) ⌝ }
+    ensures { λ r. ⌜ GoesOn k p (now (mem .entry)) (now (mem .exit)) r ⌝ }
+{
+    let i = RUNS + k;
+    if begins(mem, i, k, p + 1) {
+        lengthen(mem, i, k, p);
+        keep_block(mem, k, p);
+        return true;
+    }
+    false
+}
+
 // The newest run of key k goes on to p, from where rounds take c bytes, or a new one begins there.
 fn run_on(mem: &mut Memory, k: usize, p: usize, c: usize)
     requires { ⌜ (k ≤ 1025) × (p < 65535) × (0 < c) × (c ≤ 65535) ⌝ }
@@ -113,7 +128,7 @@ fn learn_rounds(t: &Table, s: &[u8], cells: &[u32], mem: &mut Memory, n: usize, 
 {
     let k = key(mem, y);
     if k != 0 {
-        let a = match_eval::eval_with(t, s, cells, mem, n, y, p);
+        let a = match_eval::part_at(t, s, cells, mem, n, y, p);
         if 1 < a {
             let c = match_eval::many(t, s, cells, mem, n, y, p + (a - 1));
             remember(mem, k, p, a - 1 + c);
@@ -129,14 +144,22 @@ fn learn_byte(t: &Table, s: &[u8], cells: &[u32], mem: &mut Memory, n: usize, y:
 {
     let k = key(mem, y);
     if k != 0 {
-        let i = RUNS + k;
-        if begins(mem, i, k, p + 1) {
-            lengthen(mem, i, k, p);
-            keep_block(mem, k, p);
-        } else {
+        if !go_on(mem, k, p) {
             let c = match_eval::many(t, s, cells, mem, n, y, p + 1);
-            note(mem, i, k, p, c + 1);
+            note(mem, RUNS + k, k, p, c + 1);
         }
+    }
+}
+
+// The same for key k + 1 by the plan: its part is asked for only where the run does not go on.
+fn run_byte(t: &Table, s: &[u8], cells: &[u32], mem: &mut Memory, n: usize, k: usize, p: usize)
+    requires { ⌜ ((n ≤ 64) × (k < 64) × (length (now s) ≤ 65535) × (p ≤ length (now s)) × Takes (now mem) (byteAt (now s) p) k)
+        × Knows (now t) (now s) (now cells) n (now mem) p p ⌝ }
+    ensures { λ _. ⌜ Knows (now (t .entry)) (now (s .entry)) (now (cells .entry)) n (now (mem .exit)) p p × Front (now (mem .entry)) (now (mem .exit)) ⌝ }
+{
+    if !go_on(mem, k + 1, p) {
+        let y = word(mem, PARTS_AT + k);
+        learn_byte(t, s, cells, mem, n, y, p);
     }
 }
 
@@ -151,23 +174,52 @@ fn learn(t: &Table, s: &[u8], cells: &[u32], mem: &mut Memory, n: usize, y: usiz
         learn_rounds(t, s, cells, mem, n, y, p);
         return;
     }
-    if w == TAKES {
+    if w == match_plan::JUST {
         if p < s.len() {
             learn_byte(t, s, cells, mem, n, y, p);
         }
     }
 }
 
-// The rounds of a part of each key.
-pub fn learn_all(t: &Table, s: &[u8], cells: &[u32], mem: &mut Memory, n: usize, p: usize)
-    requires { ⌜ ((n ≤ 64) × (length (now s) ≤ 65535) × (p ≤ length (now s))) × Knows (now t) (now s) (now cells) n (now mem) p p ⌝ }
+// The rounds of key k + 1, of which the plan says nothing: if it could have, nothing is said of its part either.
+fn learn_key(t: &Table, s: &[u8], cells: &[u32], mem: &mut Memory, n: usize, k: usize, p: usize)
+    requires { ⌜ ((n ≤ 64) × (k < 4294967296) × (length (now s) ≤ 65535) × (p ≤ length (now s))) × Knows (now t) (now s) (now cells) n (now mem) p p ⌝ }
     ensures { λ _. ⌜ Knows (now (t .entry)) (now (s .entry)) (now (cells .entry)) n (now (mem .exit)) p p × Front (now (mem .entry)) (now (mem .exit)) ⌝ }
 {
-    let d = word(mem, COUNT);
-    let mut k: usize = 0;
-    while k < d {
-        let y = word(mem, PARTS_AT + k);
-        learn(t, s, cells, mem, n, y, p);
-        k += 1;
+    let y = word(mem, PARTS_AT + k);
+    if k < match_plan::BITS {
+        learn_rounds(t, s, cells, mem, n, y, p);
+        return;
+    }
+    learn(t, s, cells, mem, n, y, p);
+}
+
+// The rounds of a part of each key. What the byte at p says of all keys is in the plan; the others are evaluated.
+pub fn learn_all(
+    t: &Table,
+    s: &[u8],
+    cells: &[u32],
+    mem: &mut Memory,
+    plan: &Plan,
+    n: usize,
+    p: usize,
+)
+    requires { ⌜ ((n ≤ 64) × (length (now s) ≤ 65535) × (p ≤ length (now s))) × Knows (now t) (now s) (now cells) n (now mem) p p
+        × Planned (now t) (now mem) n (now plan) ⌝ }
+    ensures { λ _. ⌜ Knows (now (t .entry)) (now (s .entry)) (now (cells .entry)) n (now (mem .exit)) p p × Front (now (mem .entry)) (now (mem .exit)) ⌝ }
+{
+    let b = match_eval::byte_at(s, p);
+    let takes = match_plan::at(plan, b, match_plan::TAKES);
+    let idle = match_plan::at(plan, b, match_plan::IDLE);
+    let mut k = word(mem, COUNT);
+    while 0 < k {
+        k -= 1;
+        if !listed(idle, k) {
+            if listed(takes, k) {
+                run_byte(t, s, cells, mem, n, k, p);
+            } else {
+                learn_key(t, s, cells, mem, n, k, p);
+            }
+        }
     }
 }

@@ -3,7 +3,7 @@
 use Prim.Native.Nat.{ℕ, zero, suc, _+_, _-_, _*_, _^_, _≤_, _<_}
 use mathlib.Core.Path.{_≡_, refl, ap, _∙_, subst}
 use mathlib.Core.Path.{sym as flip}
-use mathlib.Core.Bool.{Bool, true, false, true≢false}
+use mathlib.Core.Bool.{Bool, true, false, true≢false, _&&_}
 use mathlib.Core.List.{List, []}
 use mathlib.Core.Logic.{_⊎_, inl, inr}
 use native.Mathlib.Omega.{arith}
@@ -13,6 +13,7 @@ use lib.Bits.{bitOr}
 use lib.Dec.{eqb}
 use lib.ListN.{getD, length, set, length-set}
 use lib.Seq.{getD-set-same, getD-set-other, ext-getD, set-getD}
+use Rattle.base_facts.specs.laws.Bools.{and-parts}
 use Rattle.base_facts.specs.laws.Numbers.{lt-or-ge}
 use Rattle.grammar.specs.Exp.{Exp, sym}
 use Rattle.match_meaning.specs.laws.One.{one}
@@ -24,11 +25,13 @@ use Rattle.match_cells.specs.laws.Sound.{plainly, Means}
 use Rattle.match_cells.specs.laws.Agrees.{Known, After, Right}
 use Rattle.match_cells.specs.laws.Filled.{Room, row-length, row-right, row-frame, filled-right, filled-behind, filled-length}
 use Rattle.match_eval.specs.laws.Memory.{knows-cells, knows-ready}
-use Rattle.match_eval.specs.laws.Said.{said-same}
+use Rattle.match_eval.specs.laws.Said.{said-same, said-end}
 use Rattle.match_cells.specs.laws.Rows.{stored}
 use Rattle.match_eval.specs.steps.Firsts.{byteAt, wordOf, Heard, Silent, putSaid, presetOf}
 use Rattle.match_eval.specs.steps.Memory.{Ready, Knows, Roomy, Front}
-use Rattle.match_cells.specs.steps.Runs.{Open, fillBy, FilledBy}
+use Rattle.match_cells.specs.steps.Runs.{Open, Fillable, fillBy, FilledBy}
+use Rattle.match_plan.specs.steps.Plan.{Planned}
+use Rattle.match_plan.specs.laws.Plan.{planned-front}
 use Rattle.lake_plain.specs.Calls.{holds}
 use Rattle.lake_plain.specs.laws.Exact.{up-l, up-r}
 use Rattle.base_words.specs.laws.Members.{bit-pow-same}
@@ -124,13 +127,33 @@ module _ (t mem : List ℕ) (b n : ℕ) where
   -- nothing is, and the word has it from now on
   pub open-with : (w k : ℕ) → 0 < k → Open t mem b k n w → Open t mem b (k - 1) n (bitOr w (2 ^ (k - 1)))
   open-with w k z o r l m h q = elim (lt-or-ge r k) [
-    | inl a ↦ (let g : k - 1 ≡ r = omega (arith, z) in true≢false (flip (up-r w (2 ^ (k - 1)) r (ap (λ (j : ℕ). holds (2 ^ (k - 1)) j) (flip g) ∙ ap (λ (y : ℕ). eqb y 1) (bit-pow-same (k - 1)))) ∙ h))
+    | inl a ↦ (let g : k - 1 ≡ r = omega (arith, z) in true≢false (flip (up-r w (2 ^ (k - 1)) r (ap (λ (j : ℕ). holds (2 ^ (k - 1)) j) (flip g) ∙ ap (λ (y : ℕ). eqb y 1)
+        (bit-pow-same (k - 1)))) ∙ h))
     | inr a ↦ kept r a m h q (holds w r) refl
   ]
     where
       kept : (r : ℕ) → k ≤ r → r < n → holds (bitOr w (2 ^ (k - 1))) r ≡ false → wordOf t mem b r ≡ 0 → (y : Bool) → holds w r ≡ y → ⊥
       kept r a m h q true e = true≢false (flip (up-l w (2 ^ (k - 1)) r e) ∙ h)
       kept r a m h q false e = o r a m e q
+
+-- ── the text's end: nothing is said, and a word of ones has every symbol ──
+allHold : ℕ → ℕ → Bool
+allHold w zero = true
+allHold w (suc k) = holds w k && allHold w k
+
+held : (w m : ℕ) → allHold w m ≡ true → (r : ℕ) → r < m → holds w r ≡ true
+unfolding allHold
+held w zero e r l = absurd (omega arith)
+held w (suc m) e r l =
+    let h = and-parts (holds w m) (allHold w m) e in
+    elim (lt-or-ge r m) [ inl a ↦ held w m (h .1) r a | inr a ↦ (let g : m ≡ r = omega arith in subst (λ (j : ℕ). holds w j ≡ true) g (h .0)) ]
+
+pub open-all : (t mem : List ℕ) (b n : ℕ) → n ≤ 64 → Open t mem b 0 n 18446744073709551615
+unfolding allHold
+open-all t mem b n few r l m h q = true≢false (flip (held 18446744073709551615 64 refl r (omega (arith, m, few))) ∙ h)
+
+pub preset-end : (t mem : List ℕ) (b i n : ℕ) (cs : List ℕ) → 256 ≤ b → cs ≡ presetOf t mem b i n cs
+preset-end t mem b i n cs l = flip (preset-silent t mem b i n cs (λ r. flip (said-end mem b (symbolWord t r 1) l)))
 
 -- a cell of which something is said stands already as it is to be stored
 pub said-stays : (t s cs mem : List ℕ) (n r p k : ℕ) → n ≡ symbolCount t → r < n → p ≤ length s → (wordOf t mem (byteAt s p) r ≡ 0 → ⊥)
@@ -172,12 +195,36 @@ module _ (t s cs mem : List ℕ) (n p b : ℕ) (e : b ≡ byteAt s p) (within : 
       go q m (inr a) = λ r v l d. behind (q * n + r) (omega (arith, mul-le-mul-right {m = p + 1} {n = q} n (omega arith))) ∙ w .heard q (omega arith) m r v l d
 
 -- before the last place is filled
-pub knows-first : (t s cs : List ℕ) (n : ℕ) {mem : List ℕ} → Ready t n mem × Roomy mem s n (length cs) → Knows t s cs n mem (length s + 1) (length s + 1) × Roomy mem s n (length cs)
-knows-first t s cs n {mem} (w, r) = (knows-ready t s cs mem n (length s + 1) (length s + 1) (omega arith) w, r)
+pub fillable-first : (t s cs order : List ℕ) (n : ℕ) {mem plan : List ℕ} → n ≡ symbolCount t → n ≤ 64 → ((j : ℕ) → j < n → getD order j 0 < n) → length s ≤ 65535
+    → Ready t n mem × Roomy mem s n (length cs) → Planned t mem n plan → Fillable t s cs mem order plan (symbolCount t) (length s + 1)
+fillable-first t s cs order n {mem} {plan} e l f h (w, r) o = subst (λ (m : ℕ). Fillable t s cs mem order plan m (length s + 1)) e (record {
+  few = l;
+  symbols = f;
+  short = h;
+  within = omega arith;
+  known = knows-ready t s cs mem n (length s + 1) (length s + 1) (omega arith) w;
+  roomy = r;
+  planned = o;
+})
 
-pub roomy-front : (old new s : List ℕ) (n have got : ℕ) → Front old new → got ≡ have → Roomy old s n have → Roomy new s n got
+roomy-front : (old new s : List ℕ) (n have got : ℕ) → Front old new → got ≡ have → Roomy old s n have → Roomy new s n got
 roomy-front old new s n have got f e (inl h) = inl (omega (arith, h, e))
 roomy-front old new s n have got f e (inr q) = inr (λ b x. said-same old new (λ j l m. f j m) b x ∙ q b x)
+
+-- before the place below i is
+pub fillable-next : (t s cs ds old new order plan : List ℕ) (n k i : ℕ) → 0 < i → i ≤ k → Front old new → length ds ≡ length cs → Knows t s ds n new i i
+    → Fillable t s cs old order plan n k → Fillable t s ds new order plan n (i - 1 + 1)
+fillable-next t s cs ds old new order plan n k i z l f e w h =
+    let y : i ≡ i - 1 + 1 = omega arith in
+    record {
+      few = h .few;
+      symbols = h .symbols;
+      short = h .short;
+      within = omega (arith, h .within);
+      known = subst (λ (j : ℕ). Knows t s ds n new j j) y w;
+      roomy = roomy-front old new s n (length cs) (length ds) f e (h .roomy);
+      planned = planned-front t old new f n plan (h .planned);
+    }
 
 -- ── place after place, as code does it ──
 pub by-more : (t mem : List ℕ) (bodies : List (Exp ℕ)) (s : List ℕ) (n : ℕ) (order cs new : List ℕ) (k : ℕ) → 0 < k
@@ -270,7 +317,8 @@ by-silent : (t mem : List ℕ) (bodies : List (Exp ℕ)) (s order : List ℕ) �
 unfolding fillBy fillOf
 by-silent t mem bodies s order f zero cs = refl
 by-silent t mem bodies s order f (suc p) cs =
-    ap (λ (l : List ℕ). fillBy t mem bodies s (length bodies) p order (rowOf bodies s p order l)) (preset-silent t mem (byteAt s p) (p * length bodies) (length bodies) cs (λ r. f (byteAt s p) (symbolWord t r 1)))
+    ap (λ (l : List ℕ). fillBy t mem bodies s (length bodies) p order (rowOf bodies s p order l)) (preset-silent t mem (byteAt s p) (p * length bodies) (length bodies) cs (λ r. f
+    (byteAt s p) (symbolWord t r 1)))
     ∙ by-silent t mem bodies s order f p (rowOf bodies s p order cs)
 
 pub filled-same : (t : List ℕ) (bodies : List (Exp ℕ)) (s : List ℕ) (m : ℕ → Bool) → Markings m bodies → (order old new : List ℕ) → Ordered m bodies [] order

@@ -4,7 +4,7 @@ use mathlib.Core.Bool.{false}
 use mathlib.Core.Path.{_≡_}
 use mathlib.Core.List.{List}
 use mathlib.Core.Option.{none}
-use lib.ListN.{length}
+use lib.ListN.{getD, length}
 use Rattle.grammar.specs.Exp.{Exp}
 use Rattle.grammar.specs.Numbers.{Grammar}
 use Rattle.grammar_table.specs.Holds.{Holds}
@@ -14,7 +14,8 @@ use Rattle.lake_step_one.specs.steps.Made.{withBodies}
 use Rattle.lake_plain.specs.Calls.{holds, loop, order}
 use Rattle.match_cells.specs.Cells.{rowOf, cells}
 use Rattle.match_eval.specs.steps.Firsts.{byteAt, wordOf, presetOf}
-use Rattle.match_eval.specs.steps.Memory.{Roomy}
+use Rattle.match_eval.specs.steps.Memory.{Knows, Roomy}
+use Rattle.match_plan.specs.steps.Plan.{Planned}
 
 -- a table that holds a plain grammar with a body for each symbol, whose symbols and terminals are all there
 pub record Plain (t : List ℕ) (g : Grammar) (bodies : List (Exp ℕ)) : Type 0 where
@@ -24,6 +25,16 @@ pub record Plain (t : List ℕ) (g : Grammar) (bodies : List (Exp ℕ)) : Type 0
 -- a word that has every symbol from k on, of those below n, of which nothing is said where byte b stands
 abbrev pub Open : List ℕ → List ℕ → ℕ → ℕ → ℕ → ℕ → Type 0
 Open t mem b k n w = (r : ℕ) → k ≤ r → r < n → holds w r ≡ false → wordOf t mem b r ≡ 0 → ⊥
+
+-- what the places below k ask for to be filled: the order has symbols, the cells from k on are right and there is room, and the plan says what the memory says
+pub record Fillable (t s cs mem order plan : List ℕ) (n k : ℕ) : Type 0 where
+  pub few : n ≤ 64
+  pub symbols : (j : ℕ) → j < n → getD order j 0 < n
+  pub short : length s ≤ 65535
+  pub within : k ≤ length s + 1
+  pub known : Knows t s cs n mem k k
+  pub roomy : Roomy mem s n (length cs)
+  pub planned : Planned t mem n plan
 
 -- the cells after the places below the first number have been stored, the last first, each after its cells were set to what is said by its byte
 unfoldable pub fillBy : List ℕ → List ℕ → List (Exp ℕ) → List ℕ → ℕ → ℕ → List ℕ → List ℕ → List ℕ

@@ -14,7 +14,7 @@ use Rattle.match_eval.specs.laws.EvalSteps.{seq-left, seq-right, seq-bot
 use Rattle.match_eval.specs.laws.EvalSteps.{never-fails, rep-ends, rep-none, rep-more}
 use Rattle.grammar_table.specs.Trees.{treeOf, below}
 use Rattle.grammar_table.specs.laws.Trees.{node-never, below-le}
-use Rattle.match_eval.specs.laws.Evaluated.{node-ev}
+use Rattle.match_eval.specs.laws.Evaluated.{zero-tree, node-ev}
 use Rattle.match_eval.specs.laws.Memory.{known-ends, said-right, knows-from}
 use borrow.Author.Needs.{needs}
 use Prim.Native.Nat.{ℕ, suc, _+_, _-_, _*_, _≤_, _<_}
@@ -41,10 +41,6 @@ use Rattle.match_eval.proofs.memory.known.Reads as known-reads
 use Rattle.match_eval.proofs.memory.said.Reads as said-reads
 use Rattle.match_eval.proofs.+eval_with+many+round.{statement}
 use Rattle.match_eval.proofs.+eval_with+many+round.Tie.{close}
-
-zero-tree : (s cs t : List ℕ) (n x p : ℕ) → x ≡ 0 → leafAt s any p ≡ ev s cs n (treeOf t x) p
-unfolding ev
-zero-tree s cs t n x p z = ap (λ (y : ℕ). ev s cs n (treeOf t y) p) (sym z)
 
 rounds-within : (s cs t : List ℕ) (n x q : ℕ) → q ≤ length s → rep (length s) (λ (i : ℕ). ev s cs n (treeOf t x) i) q + q ≤ length s
 rounds-within s cs t n x q h = rep-within _ _ (λ (i : ℕ). ev s cs n (treeOf t x) i) (λ i g. ev-within s cs n (treeOf t x) i g) q h

@@ -12,15 +12,15 @@ use Rattle.match_rounds.proofs.learn_rounds.Tie as tie
 use Rattle.match_rounds.proofs.learn_rounds.Reads as reads
 use Rattle.match_rounds.proofs.learn_rounds.Lts as lts
 use Rattle.match_rounds.proofs.remember.Reads as remember-reads
-use Rattle.match_eval.proofs.eval_with.Reads as eval-with-reads
+use Rattle.match_eval.proofs.part_at.Reads as part-at-reads
 use Rattle.match_eval.proofs.many.Reads as many-reads
 use Rattle.match_eval.proofs.memory.key.Reads as key-reads
 
 key-requires : tie.Need-key-requires
 key-requires c κs = search needs
 
-eval-with-requires : tie.Need-eval-with-requires
-eval-with-requires c κs = (
+part-at-requires : tie.Need-part-at-requires
+part-at-requires c κs = (
   omega (arith, c .before .before .before .before .before .before .before .pre .0),
   knows-from
       (c .before .before .before .before .before .before .before .args .t .now) (c .before .before .before .before .before .before .before .args .s .now)
@@ -43,7 +43,7 @@ add-many c = omega (
       (c .before .before .before .before .before .before .before .before .before .before .args .y))
       (c .before .before .before .before .before .before .before .before .before .before .args .p) (omega
       (arith, c .before .before .before .before .before .before .before .before .before .before .pre .0)),
-  c .before .before .eval-with .ensures,
+  c .before .before .part-at .ensures,
   c .before
       .before .before .before .before .before .before .before .before .before .pre .0,
 )
@@ -59,7 +59,7 @@ many-requires c κs = (
         (c .before .before .before .before .before .before .before .before .before .before .args .y))
         (c .before .before .before .before .before .before .before .before .before .before .args .p) (omega
         (arith, c .before .before .before .before .before .before .before .before .before .before .pre .0)),
-    c .before .before .eval-with .ensures,
+    c .before .before .part-at .ensures,
     c .before
         .before .before .before .before .before .before .before .before .before .pre .0,
     c .before .if2 .taken,
@@ -72,7 +72,7 @@ many-requires c κs = (
       (c .before .before .before .before .before .before .before .before .before .before .args .n)
       (c .before .before .before .before .before .before .before .before .before .before .args .p) 0
       (c .before .before .before .before .before .before .before .before .before .before .args .p)
-      (c .before .before .before .before .before .before .before .before .before .before .args .p + (c .before .before .eval-with .result - 1)) (omega arith)
+      (c .before .before .before .before .before .before .before .before .before .before .args .p + (c .before .before .part-at .result - 1)) (omega arith)
       (omega arith) (c .before .before .before .before .before .before .before .before .before .before .pre .1),
 )
 
@@ -89,7 +89,7 @@ add-remember c = omega (
       (c .before .before .before .before .before .before .before .before .before .before .before .before .args .y))
       (c .before .before .before .before .before .before .before .before .before .before .before .before .args .p) (omega
       (arith, c .before .before .before .before .before .before .before .before .before .before .before .before .pre .0)),
-  c .before .before .before .before .eval-with .ensures,
+  c .before .before .before .before .part-at .ensures,
   c .before .many .ensures,
   c .before .before .before .before .before .before .before .before .before .before .before .before .pre .0,
   c .before .before .before .if2 .taken,
@@ -98,7 +98,7 @@ add-remember c = omega (
       (c .before .before .before .before .before .before .before .before .before .before .before .before .args .cells .now)
       (c .before .before .before .before .before .before .before .before .before .before .before .before .args .n)
       (c .before .before .before .before .before .before .before .before .before .before .before .before .args .y)
-      (c .before .before .before .before .before .before .before .before .before .before .before .before .args .p + (c .before .before .before .before .eval-with .result - 1))
+      (c .before .before .before .before .before .before .before .before .before .before .before .before .args .p + (c .before .before .before .before .part-at .result - 1))
       (omega (
         arith,
         ev-within (c .before .before .before .before .before .before .before .before .before .before .before .before .args .s .now)
@@ -109,7 +109,7 @@ add-remember c = omega (
             (c .before .before .before .before .before .before .before .before .before .before .before .before .args .p) (omega
             (arith, c .before .before .before .before .before .before .before .before .before .before .before .before .pre .0)),
         c .before .before .before
-            .before .eval-with .ensures,
+            .before .part-at .ensures,
         c .before .before .before .before .before .before .before .before .before .before .before .before .pre .0,
         c .before
             .before .before .if2 .taken,
@@ -128,7 +128,7 @@ remember-requires c κs = omega (
       (c .before .before .before .before .before .before .before .before .before .before .before .before .args .y))
       (c .before .before .before .before .before .before .before .before .before .before .before .before .args .p) (omega
       (arith, c .before .before .before .before .before .before .before .before .before .before .before .before .pre .0)),
-  c .before .before .before .before .eval-with .ensures,
+  c .before .before .before .before .part-at .ensures,
   c .before .many .ensures,
   c .before .before .before .before .before .before .before .before .before .before .before .before .pre .0,
   c .before .before .before .if2 .taken,
@@ -137,7 +137,7 @@ remember-requires c κs = omega (
       (c .before .before .before .before .before .before .before .before .before .before .before .before .args .cells .now)
       (c .before .before .before .before .before .before .before .before .before .before .before .before .args .n)
       (c .before .before .before .before .before .before .before .before .before .before .before .before .args .y)
-      (c .before .before .before .before .before .before .before .before .before .before .before .before .args .p + (c .before .before .before .before .eval-with .result - 1))
+      (c .before .before .before .before .before .before .before .before .before .before .before .before .args .p + (c .before .before .before .before .part-at .result - 1))
       (omega (
         arith,
         ev-within (c .before .before .before .before .before .before .before .before .before .before .before .before .args .s .now)
@@ -148,7 +148,7 @@ remember-requires c κs = omega (
             (c .before .before .before .before .before .before .before .before .before .before .before .before .args .p) (omega
             (arith, c .before .before .before .before .before .before .before .before .before .before .before .before .pre .0)),
         c .before .before .before
-            .before .eval-with .ensures,
+            .before .part-at .ensures,
         c .before .before .before .before .before .before .before .before .before .before .before .before .pre .0,
         c .before
             .before .before .if2 .taken,
@@ -168,16 +168,16 @@ returns c = learnt (c .before .before .before .before .before .before .before .b
     (c .before .before .before .before .before .before .before .before .key .ensures .0 (omega
     (arith, c .before .before .before .before .before .before .before .if1 .taken)))
     (c .before .before .before .before .before .before .before .before .before .before .before .before .before .pre .1) (c .remember .ensures)
-    (ap (λ (v : ℕ). c .before .before .before .before .before .eval-with .result - 1 + v) (c .before .before .many .ensures)
+    (ap (λ (v : ℕ). c .before .before .before .before .before .part-at .result - 1 + v) (c .before .before .many .ensures)
     ∙ rounds-next (c .before .before .before .before .before .before .before .before .before .before .before .before .before .args .t .now)
     (c .before .before .before .before .before .before .before .before .before .before .before .before .before .args .s .now)
     (c .before .before .before .before .before .before .before .before .before .before .before .before .before .args .cells .now)
     (c .before .before .before .before .before .before .before .before .before .before .before .before .before .args .n)
     (c .before .before .before .before .before .before .before .before .before .before .before .before .before .args .y)
     (c .before .before .before .before .before .before .before .before .before .before .before .before .before .args .p)
-    (c .before .before .before .before .before .eval-with .result) (omega
+    (c .before .before .before .before .before .part-at .result) (omega
     (arith, c .before .before .before .before .before .before .before .before .before .before .before .before .before .pre .0))
-    (c .before .before .before .before .before .eval-with .ensures) (c .before .before .before .before .if2 .taken))
+    (c .before .before .before .before .before .part-at .ensures) (c .before .before .before .before .if2 .taken))
 
 returns-2 : tie.Need-returns-2
 returns-2 c = (c .before .before .before .before .before .before .before .before .before .pre .1, λ j l. refl)
@@ -190,7 +190,7 @@ learn-rounds-spec =
     tie.close
     (tie.spec
     key-requires
-    eval-with-requires
+    part-at-requires
     sub-many
     add-many
     many-requires

@@ -15,7 +15,7 @@ use Rattle.match_eval.specs.steps.Firsts.{saidOf}
 use Rattle.match_eval.specs.steps.Memory.{countAt, keysAt, entriesAt, roundsOf, Key, About, firstOf, pastOf, endOf, Knows, Front}
 use Rattle.match_eval.specs.laws.Said.{said-same}
 use Rattle.match_eval.specs.laws.Memory.{wider-same, words-same, heard-back, rounds-next}
-use Rattle.match_rounds.specs.steps.Noted.{Noted}
+use Rattle.match_rounds.specs.steps.Noted.{Noted, runsAt, Longer}
 
 -- an entry is made
 module _ (t s cs old new : List ℕ) (n x k p c : ℕ) (small : p < 65536) (has : Key old x k) (h : ℕ) (w : Knows t s cs n old p h) (o : Noted k p c old new)
@@ -210,3 +210,10 @@ run-goes-on t s cs mem n y k i p l h w a b e =
 pub learnt : (t s cs old new : List ℕ) (n y k p c : ℕ) → p < 65536 → Key old y k → Knows t s cs n old p p → Noted k p c old new → c ≡ roundsOf t s cs n y p
     → Knows t s cs n new p p × Front old new
 learnt t s cs old new n y k p c small a w o e = (knows-noted t s cs old new n y k p c small a p w o e, o .front)
+
+-- and so is where the newest run goes on
+pub longer-learnt : (t s cs old new : List ℕ) (n y k p : ℕ) → length s ≤ 65535 → p < length s → Key old y k → Knows t s cs n old p p → ev s cs n (treeOf t y) p ≡ 2
+    → Longer k p old new → Knows t s cs n new p p × Front old new
+longer-learnt t s cs old new n y k p l h a w e (b, o) =
+    learnt t s cs old new n y k p (roundsOf t s cs n y p) (omega (arith, l, h)) a w
+    (o (roundsOf t s cs n y p) (run-goes-on t s cs old n y k (runsAt + k) p l h w a b e)) refl
