@@ -7,7 +7,7 @@ ghost use mathlib.Core.Bool.{true};
 ghost use lib.Bits.{bitOr};
 ghost use lib.ListN.{getD};
 ghost use Rattle.lake_plain.specs.Calls.{holds};
-ghost use Rattle.match_plan.specs.steps.Plan.{firstOf, Row, Takes, AllTake, Planned};
+ghost use Rattle.match_plan.specs.steps.Plan.{inFirst, Row, Takes, AllTake, Planned};
 use base_words::word;
 use grammar_table::records;
 use match_eval::memory::BYTES;
@@ -77,7 +77,7 @@ pub fn at(plan: &[u64], b: usize, i: usize) -> u64
 
 // How many of n symbols are in a byte's first word.
 pub fn first(n: usize) -> usize
-    ensures { λ m. ⌜ (m ≡ firstOf n) × (m ≤ n) ⌝ }
+    ensures { λ m. ⌜ (m ≡ inFirst n) × (m ≤ n) ⌝ }
 {
     if SYMBOLS < n {
         return SYMBOLS;

@@ -18,6 +18,7 @@ use Rattle.match_meaning.specs.Meaning.{Node}
 use Rattle.match_list.specs.Nodes.{seqN, altN, optN, stepN, repN, walkOf}
 use Rattle.match_desk.specs.steps.Desk.{parentsAt, deskWords, markOf, parentOf, kindOf, leftPart, rightPart, Parted, Forest, Silent, Desk}
 use Rattle.match_desk.specs.steps.Parts.{shape, Made}
+use Rattle.match_desk.specs.laws.Parts.{shaped}
 use Rattle.match_desk.specs.laws.Desks.{keep}
 
 -- ── an expression that holds no symbol, but under `&` and `!`, lists no node ──
@@ -71,7 +72,7 @@ silent-plus a h s f w p =
 
 module _ (t : List ℕ) (x k l y z : ℕ) (made : Made t x k l y z) where
   by-shape : (j : ℕ) → k ≡ j → Silent (shape j (leafIn t l) l (treeOf t y) (treeOf t z)) → Silent (treeOf t x)
-  by-shape j e h = subst Silent (ap (λ (i : ℕ). shape i (leafIn t l) l (treeOf t y) (treeOf t z)) (flip e) ∙ made .tree) h
+  by-shape j e h = subst Silent (shaped t x k l y z j made e) h
 
   -- terminals and guards
   pub silent-other : (k ≡ 1 → ⊥) → (k ≡ 2 → ⊥) → (k ≡ 3 → ⊥) → (k ≡ 4 → ⊥) → (k ≡ 5 → ⊥) → (k ≡ 6 → ⊥) → Silent (treeOf t x)

@@ -1,6 +1,6 @@
 -- An expression by its words. Assumes nothing.
 use Prim.Native.Nat.{ℕ, zero, suc, _-_, _<_}
-use mathlib.Core.Path.{_≡_, refl, ap, _∙_}
+use mathlib.Core.Path.{_≡_, refl, sym, ap, _∙_}
 use mathlib.Core.List.{List}
 use native.Mathlib.Omega.{arith}
 use Rattle.read_tokens.specs.Token.{Leaf}
@@ -21,6 +21,10 @@ node-shape (suc (suc (suc (suc (suc zero))))) l r leaf part = refl
 node-shape (suc (suc (suc (suc (suc (suc zero)))))) l r leaf part = refl
 node-shape (suc (suc (suc (suc (suc (suc (suc zero))))))) l r leaf part = refl
 node-shape (suc (suc (suc (suc (suc (suc (suc (suc k)))))))) l r leaf part = refl
+
+-- the tree of an expression of a known kind
+pub shaped : (t : List ℕ) (x k l y z j : ℕ) → Made t x k l y z → k ≡ j → shape j (leafIn t l) l (treeOf t y) (treeOf t z) ≡ treeOf t x
+shaped t x k l y z j made e = ap (λ (i : ℕ). shape i (leafIn t l) l (treeOf t y) (treeOf t z)) (sym e) ∙ made .tree
 
 -- the words of expression x - 1, as code has read them
 pub made-of : (t : List ℕ) (x k l r y z : ℕ) → 0 < x → k ≡ opOf t (x - 1) → l ≡ leftOf t (x - 1) → r ≡ rightOf t (x - 1)

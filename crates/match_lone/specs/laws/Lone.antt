@@ -17,6 +17,7 @@ use Rattle.match_list.specs.Nodes.{walkOf}
 use Rattle.match_list.specs.laws.NodeSteps.{alt-left as list-left, alt-right as list-right}
 use Rattle.match_desk.specs.steps.Desk.{parentOf, markOf, Desk}
 use Rattle.match_desk.specs.steps.Parts.{shape, Made}
+use Rattle.match_desk.specs.laws.Parts.{shaped}
 use Rattle.match_desk.specs.laws.Desks.{parent-above}
 use Rattle.match_walks.specs.laws.Waits.{up-star, up-plus}
 use Rattle.match_lone.specs.steps.Lone.{Wherever, Stands, Settles, Single, Lone, Repeated}
@@ -36,7 +37,7 @@ module _ (t mem : List ℕ) (b x w : ℕ) (is : w ≡ saidOf mem b x) where
   module _ (op l y z : ℕ) (made : Made t x op l y z) (choice : op ≡ 3) (three : w ≡ 3) where
     tree : alt (treeOf t y) (treeOf t z) ≡ treeOf t x
     unfolding shape
-    tree = ap (λ (i : ℕ). shape i (leafIn t l) l (treeOf t y) (treeOf t z)) (flip choice) ∙ made .tree
+    tree = shaped t x op l y z 3 made choice
 
     pub settles-left : (r : ℕ) → Settles t mem b y r → Settles t mem b x r
     unfolding walkOf
@@ -85,7 +86,7 @@ module _ (t mem k : List ℕ) (b x : ℕ) where
   lone-symbol y op l i j v h made is h′ =
       record {
         silent = λ e. let u = h′ (λ f. omega (arith, e, f)) in absurd (omega (arith, e, u .0, u .1 .0));
-        one = λ f g. let u = h′ g in ((y, h, flip (made .tree) ∙ ap (λ (a : ℕ). shape a (leafIn t l) l (treeOf t i) (treeOf t j)) is ∙ ap sym (flip (u .0))), by-name (flip (u .0)) (u .1));
+        one = λ f g. let u = h′ g in ((y, h, flip (shaped t y op l i j 1 made is) ∙ ap sym (flip (u .0))), by-name (flip (u .0)) (u .1));
       }
     where
       by-name : {a : ℕ} → a ≡ v → Single t mem k b a → Single t mem k b v

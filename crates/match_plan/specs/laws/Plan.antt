@@ -24,7 +24,7 @@ use Rattle.match_eval.specs.steps.Firsts.{byteAt, saidOf, wordOf}
 use Rattle.match_eval.specs.steps.Memory.{keysAt, partsAt, Key, Knows, Front}
 use Rattle.match_eval.specs.laws.Memory.{said-right}
 use Rattle.match_eval.specs.laws.Said.{said-small, said-inside, said-same}
-use Rattle.match_plan.specs.steps.Plan.{rowNumber, firstOf, Row, Takes, AllTake, Planned}
+use Rattle.match_plan.specs.steps.Plan.{rowNumber, inFirst, Row, Takes, AllTake, Planned}
 
 -- ── the digits ──
 module _ (t mem : List ℕ) (b : ℕ) where
@@ -68,12 +68,12 @@ module _ (t mem : List ℕ) (b : ℕ) where
         omega (arith, row-small r, h, e)
 
 -- as code counts the first ones
-pub first-all : (n : ℕ) → n ≤ 31 → n ≡ firstOf n
-unfolding firstOf
+pub first-all : (n : ℕ) → n ≤ 31 → n ≡ inFirst n
+unfolding inFirst
 first-all n l = sym (ap (λ (c : Bool). cond c 31 n) (le-ltb 31 n l))
 
-pub first-some : (n : ℕ) → 31 < n → 31 ≡ firstOf n
-unfolding firstOf
+pub first-some : (n : ℕ) → 31 < n → 31 ≡ inFirst n
+unfolding inFirst
 first-some n l = sym (ap (λ (c : Bool). cond c 31 n) (lt-ltb 31 n l))
 
 -- ── the bits ──
@@ -133,10 +133,10 @@ module _ (t mem : List ℕ) (n : ℕ) where
     aside A l i j y m h f o d = subst (A d) (sym (getD-set-other l (4 * b + j) (4 * d + i) y 0 (λ e. f (omega (arith, m, h, e))))) (o d)
 
     abbrev Low : ℕ → ℕ → Type 0
-    Low d y = Row t mem 0 (firstOf n) d y
+    Low d y = Row t mem 0 (inFirst n) d y
 
     abbrev High : ℕ → ℕ → Type 0
-    High d y = Row t mem (firstOf n) n d y
+    High d y = Row t mem (inFirst n) n d y
 
     zero-more : (d : ℕ) → 4 * d + 0 ≡ 4 * d
     zero-more d = omega arith
@@ -148,7 +148,7 @@ module _ (t mem : List ℕ) (n : ℕ) where
         (aside Low one 0 1 x (omega arith) (omega arith) (λ e. omega (arith, e))
         (kept Low plan 0 u r (λ d. subst (λ (j : ℕ). Low d (getD plan j 0)) (sym (zero-more d)) (o .rows d)))))
 
-    pub planned-byte : Row t mem 0 (firstOf n) b u → Row t mem (firstOf n) n b x → AllTake mem b v → Planned t mem n plan
+    pub planned-byte : Row t mem 0 (inFirst n) b u → Row t mem (inFirst n) n b x → AllTake mem b v → Planned t mem n plan
         → Planned t mem n (set (set (set (set plan (4 * b + 0) u) (4 * b + 1) x) (4 * b + 2) v) (4 * b + 3) w)
     planned-byte r q a o = record {
       rows = λ d. subst (λ (j : ℕ). Low d (getD (set three (4 * b + 3) w) j 0)) (zero-more d) (low-four r o d);
@@ -184,8 +184,8 @@ module _ (t old new : List ℕ) (f : Front old new) where
 
   pub planned-front : (n : ℕ) (plan : List ℕ) → Planned t old n plan → Planned t new n plan
   planned-front n plan o = record {
-    rows = λ b. row-same 0 (firstOf n) b (getD plan (4 * b) 0) (o .rows b);
-    later = λ b. row-same (firstOf n) n b (getD plan (4 * b + 1) 0) (o .later b);
+    rows = λ b. row-same 0 (inFirst n) b (getD plan (4 * b) 0) (o .rows b);
+    later = λ b. row-same (inFirst n) n b (getD plan (4 * b + 1) 0) (o .later b);
     takes = λ b k l h. take-same b k l (o .takes b k l h);
   }
 
@@ -194,15 +194,15 @@ row-read : (t mem : List ℕ) (lo hi b w : ℕ) → Row t mem lo hi b w → (w �
 row-read t mem lo hi b w (inl e) f = absurd (f e)
 row-read t mem lo hi b w (inr e) f = omega (arith, e)
 
-module _ (t mem plan : List ℕ) (n b w m : ℕ) (o : Planned t mem n plan) (is : m ≡ firstOf n) (some : w ≡ 0 → ⊥) where
+module _ (t mem plan : List ℕ) (n b w m : ℕ) (o : Planned t mem n plan) (is : m ≡ inFirst n) (some : w ≡ 0 → ⊥) where
   pub planned-row : w ≡ getD plan (4 * b + 0) 0 → w - 1 ≡ rowNumber t mem b 0 (m - 0)
   planned-row e =
       let z : 4 * b + 0 ≡ 4 * b = omega arith in
       let g : getD plan (4 * b) 0 ≡ w = sym (e ∙ ap (λ (j : ℕ). getD plan j 0) z) in
-      row-read t mem 0 m b w (subst (λ (k : ℕ). Row t mem 0 k b w) (sym is) (subst (Row t mem 0 (firstOf n) b) g (o .rows b))) some
+      row-read t mem 0 m b w (subst (λ (k : ℕ). Row t mem 0 k b w) (sym is) (subst (Row t mem 0 (inFirst n) b) g (o .rows b))) some
 
   pub planned-later : w ≡ getD plan (4 * b + 1) 0 → w - 1 ≡ rowNumber t mem b m (n - m)
-  planned-later e = row-read t mem m n b w (subst (λ (k : ℕ). Row t mem k n b w) (sym is) (subst (Row t mem (firstOf n) n b) (sym e) (o .later b))) some
+  planned-later e = row-read t mem m n b w (subst (λ (k : ℕ). Row t mem k n b w) (sym is) (subst (Row t mem (inFirst n) n b) (sym e) (o .later b))) some
 
 pub planned-takes : (t old new plan s : List ℕ) (n p b k w : ℕ) → Planned t old n plan → Front old new → b ≡ byteAt s p → w ≡ getD plan (4 * b + 2) 0 → k < 64
     → holds w k ≡ true → Takes new (byteAt s p) k

@@ -17,8 +17,8 @@ rowNumber t mem b a zero = 0
 rowNumber t mem b a (suc r) = 4 * rowNumber t mem b a r + wordOf t mem b (a + r)
 
 -- how many of n symbols are in a byte's first word
-unfoldable pub firstOf : ℕ → ℕ
-firstOf n = cond (ltb 31 n) 31 n
+unfoldable pub inFirst : ℕ → ℕ
+inFirst n = cond (ltb 31 n) 31 n
 
 -- a word: 1 + what is said of the symbols from lo on, below hi, or 0
 abbrev pub Row : List ℕ → List ℕ → ℕ → ℕ → ℕ → ℕ → Type 0
@@ -34,6 +34,6 @@ AllTake mem b w = (k : ℕ) → k < 64 → holds w k ≡ true → Takes mem b k
 
 -- the words of each byte; of the fourth nothing is asked
 pub record Planned (t mem : List ℕ) (n : ℕ) (plan : List ℕ) : Type 0 where
-  pub rows : (b : ℕ) → Row t mem 0 (firstOf n) b (getD plan (4 * b) 0)
-  pub later : (b : ℕ) → Row t mem (firstOf n) n b (getD plan (4 * b + 1) 0)
+  pub rows : (b : ℕ) → Row t mem 0 (inFirst n) b (getD plan (4 * b) 0)
+  pub later : (b : ℕ) → Row t mem (inFirst n) n b (getD plan (4 * b + 1) 0)
   pub takes : (b : ℕ) → AllTake mem b (getD plan (4 * b + 2) 0)

@@ -14,6 +14,7 @@ use Rattle.match_eval.specs.laws.EvalSteps.{alt-left, alt-right}
 use Rattle.match_list.specs.laws.NodeSteps.{alt-left as list-left, alt-right as list-right}
 use Rattle.grammar_table.specs.Trees.{treeOf}
 use Rattle.match_desk.specs.steps.Parts.{shape, Made}
+use Rattle.match_desk.specs.laws.Parts.{shaped}
 use Rattle.match_walks.specs.steps.Picks.{Picked, Chosen}
 use Rattle.match_walks.specs.laws.Waits.{choice-left, choice-right}
 
@@ -31,7 +32,7 @@ module _ (t s cs : List ℕ) (n x p : ℕ) where
   module _ (k l y z : ℕ) (made : Made t x k l y z) (is : k ≡ 3) where
     choice : alt (treeOf t y) (treeOf t z) ≡ treeOf t x
     unfolding shape
-    choice = ap (λ (i : ℕ). shape i (leafIn t l) l (treeOf t y) (treeOf t z)) (flip is) ∙ made .tree
+    choice = shaped t x k l y z 3 made is
 
     takes-is : ev s cs n (alt (treeOf t y) (treeOf t z)) p ≡ ev s cs n (treeOf t x) p
     takes-is = ap (λ (e : Exp ℕ). ev s cs n e p) choice

@@ -20,6 +20,7 @@ use Rattle.grammar_table.specs.Trees.{treeOf}
 use Rattle.match_walks.specs.steps.Tasks.{Task, walk, again, enter, under, walked, takes, nodes, after, rank, cost, costOf, Step}
 use Rattle.match_desk.specs.steps.Desk.{Silent}
 use Rattle.match_desk.specs.steps.Parts.{shape, Made}
+use Rattle.match_desk.specs.laws.Parts.{shaped}
 use Rattle.match_walks.specs.steps.Picks.{Chosen}
 use Rattle.match_list.specs.laws.Rounds.{rounds-step, nodes-step}
 use Rattle.match_walks.specs.laws.Steps.{cost-one, cost-less, cost-two, cost-rounds, cost-again, step-none, step-one, step-two, step-then}
@@ -78,7 +79,7 @@ module _ (t s cs : List ℕ) (n d p : ℕ) (inside : p ≤ length s) where
   module _ (x k l y z : ℕ) (small : x < 2048) (able : takes t s cs n x p ≡ 0 → ⊥) (made : Made t x k l y z) where
     -- its tree, where k is known
     tree-is : (j : ℕ) → k ≡ j → shape j (leafIn t l) l (treeOf t y) (treeOf t z) ≡ treeOf t x
-    tree-is j e = ap (λ (i : ℕ). shape i (leafIn t l) l (treeOf t y) (treeOf t z)) (flip e) ∙ made .tree
+    tree-is j e = shaped t x k l y z j made e
 
     takes-is : (e : Exp ℕ) → e ≡ treeOf t x → ev s cs n e p ≡ takes t s cs n x p
     takes-is e h = ap (λ (i : Exp ℕ). ev s cs n i p) h
