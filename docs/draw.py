@@ -78,7 +78,7 @@ class Picture:
 STAGES = {
     "read": ("a text into a table", ["read_tokens", "read_spelling", "read_syntax", "read_walks", "read_order", "read_names", "read_entries", "read_grammar"]),
     "lake": ("lakes made plain", ["lake_step_one", "lake_rules", "lake_sets", "lake_analysis", "lake_plain", "lake_before", "lake_step_two", "lake_calls"]),
-    "match": ("a text into spans", ["match_meaning", "match_eval", "match_firsts", "match_keys", "match_plan", "match_rounds", "match_cells", "match_list", "match_derived", "match_desk", "match_walks", "match_lone", "match_nodes", "match_lake", "match_run", "match_ask"]),
+    "match": ("a text into spans", ["match_meaning", "match_eval", "match_firsts", "match_keys", "match_parts", "match_plan", "match_rounds", "match_cells", "match_list", "match_derived", "match_desk", "match_walks", "match_lone", "match_nodes", "match_lake", "match_run", "match_ask"]),
     "write": ("a table into a text", ["write_rules", "write_leaves", "write_exp", "write_text", "write_put", "write_back"]),
     "tree": ("spans as JSON, records", ["tree_list", "tree_json", "tree_write", "tree_read", "tree_summary"]),
 }

@@ -8,3 +8,4 @@ pub mod Order
 pub mod Full
 pub mod Runs
 pub mod Preset
+pub mod Tasks

@@ -267,3 +267,76 @@ pub fn round(
     }
     eval_with(t, s, cells, mem, n, x, p)
 }
+
+// The rounds of `many`, where the newest run tells them, without its frame: at p itself, or behind the byte there if that is a round by itself.
+pub fn many_at(
+    t: &Table,
+    s: &[u8],
+    cells: &[u32],
+    mem: &Memory,
+    n: usize,
+    x: usize,
+    p: usize,
+) -> usize
+    requires { ⌜ ((n ≤ 64) × (x ≤ 4294967296) × (length (now s) ≤ 65535) × (p ≤ length (now s))) × Knows (now t) (now s) (now cells) n (now mem) 0 p ⌝ }
+    ensures { λ r. ⌜ r ≡ roundsOf (now (t .entry)) (now (s .entry)) (now (cells .entry)) n x p ⌝ }
+{
+    let b = byte_at(s, p);
+    let w = memory::said(mem, x, b);
+    if w == 0 {
+        let c = memory::running(mem, x, p);
+        if c < memory::UNKNOWN {
+            return c;
+        }
+        return many(t, s, cells, mem, n, x, p);
+    }
+    if w < 3 {
+        return 0;
+    }
+    let c = memory::running(mem, x, p + 1);
+    if c < memory::UNKNOWN {
+        return c + 1;
+    }
+    many(t, s, cells, mem, n, x, p)
+}
+
+// The same as `round`, for a part that is most often decided, a symbol or a repeat: these are answered without the evaluation's frame.
+pub fn piece(
+    t: &Table,
+    s: &[u8],
+    cells: &[u32],
+    mem: &Memory,
+    n: usize,
+    x: usize,
+    p: usize,
+) -> usize
+    requires { ⌜ ((n ≤ 64) × (x ≤ 4294967296) × (length (now s) ≤ 65535) × (p ≤ length (now s))) × Knows (now t) (now s) (now cells) n (now mem) 0 p ⌝ }
+    ensures { λ r. ⌜ r ≡ ev (now (s .entry)) (now (cells .entry)) n (treeOf (now (t .entry)) x) p ⌝ }
+{
+    let b = byte_at(s, p);
+    let w = memory::said(mem, x, b);
+    if w != 0 {
+        return w - 1;
+    }
+    if x == 0 {
+        return any_at(s, p);
+    }
+    let e = x - 1;
+    let op = records::op(t, e);
+    let l = records::left(t, e);
+    if op == grammar_table::SYMBOL {
+        return cell_at(s, cells, n, l, p);
+    }
+    if op == grammar_table::STAR {
+        let y = grammar_table::part(l, e);
+        return many_at(t, s, cells, mem, n, y, p) + 1;
+    }
+    if op == grammar_table::PLUS {
+        let y = grammar_table::part(l, e);
+        let v = memory::said(mem, y, b);
+        if v == 3 {
+            return many_at(t, s, cells, mem, n, y, p) + 1;
+        }
+    }
+    eval_with(t, s, cells, mem, n, x, p)
+}

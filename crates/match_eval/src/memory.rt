@@ -192,6 +192,18 @@ pub fn begins(mem: &Memory, i: usize, k: usize, q: usize) -> bool
     q < past
 }
 
+// The bytes that rounds of part x take from q on if the newest run of its key is about them, else more than a text has.
+pub fn running(mem: &Memory, x: usize, q: usize) -> usize
+    requires { ⌜ q ≤ 65535 ⌝ }
+    ensures { λ r. ⌜ (r < 65536 → Told (now (mem .entry)) x q r) ⌝ }
+{
+    let k = key(mem, x);
+    if k == 0 {
+        return UNKNOWN;
+    }
+    says(mem, RUNS + k, k, q)
+}
+
 // The bytes that rounds of part x take from q on if an entry is about them, else more than a text has. What lies before a key's newest run is not known yet.
 pub fn known(mem: &Memory, x: usize, q: usize) -> usize
     requires { ⌜ q ≤ 65535 ⌝ }

@@ -1,11 +1,11 @@
 // Rounds that are remembered: at each place that is done, entries for each key (01, Meaning of a match). What the words of the memory are: match_eval.
 ghost use Prim.Native.Nat.{ℕ, _+_, _<_, _≤_};
 ghost use mathlib.Core.Path.{_≡_};
-ghost use lib.ListN.{length};
+ghost use lib.ListN.{getD, length};
 ghost use Rattle.grammar_table.specs.Trees.{treeOf};
 ghost use Rattle.match_eval.specs.Eval.{ev};
 ghost use Rattle.match_eval.specs.steps.Firsts.{byteAt};
-ghost use Rattle.match_plan.specs.steps.Plan.{Takes, Planned};
+ghost use Rattle.match_plan.specs.steps.Plan.{Takes};
 ghost use Rattle.match_eval.specs.steps.Memory.{Knows, Front, About, endOf};
 ghost use Rattle.match_rounds.specs.steps.Noted.{Noted, GoesOn};
 use base_words::put;
@@ -28,7 +28,6 @@ use match_eval::memory::said;
 use match_eval::memory::says;
 use match_eval::memory::slot;
 use match_plan::Plan;
-use match_plan::listed;
 
 // Entry i says from now on that rounds of key k take c bytes from p on.
 fn note(mem: &mut Memory, i: usize, k: usize, p: usize, c: usize)
@@ -121,19 +120,40 @@ fn remember(mem: &mut Memory, k: usize, p: usize, c: usize)
     run_on(mem, k, p, c);
 }
 
-// The rounds of part y from p on, where the byte decides nothing. Where there is none, nothing need be remembered.
+// The first round of part y from p on: 0 for none, else 1 + the bytes that it takes.
+pub struct First {
+    pub y: usize,
+    pub p: usize,
+    pub a: usize,
+}
+
+// The rounds of a part, if it has a key, whose first is known. Where there is none, nothing need be remembered.
+pub fn learn_first(t: &Table, s: &[u8], cells: &[u32], mem: &mut Memory, n: usize, first: First)
+    requires { ⌜ ((n ≤ 64) × (first .y < 4294967296) × (length (now s) ≤ 65535) × (first .p ≤ length (now s))
+        × (first .a ≡ ev (now s) (now cells) n (treeOf (now t) (first .y)) (first .p)))
+        × Knows (now t) (now s) (now cells) n (now mem) (first .p) (first .p) ⌝ }
+    ensures { λ _.
+        ⌜ Knows (now (t .entry)) (now (s .entry)) (now (cells .entry)) n (now (mem .exit)) (first .p) (first .p)
+        × Front (now (mem .entry)) (now (mem .exit)) ⌝ }
+{
+    let k = key(mem, first.y);
+    if k == 0 {
+        return;
+    }
+    if first.a <= 1 {
+        return;
+    }
+    let c = match_eval::many_at(t, s, cells, mem, n, first.y, first.p + (first.a - 1));
+    remember(mem, k, first.p, first.a - 1 + c);
+}
+
+// The rounds of part y from p on, where the byte decides nothing.
 fn learn_rounds(t: &Table, s: &[u8], cells: &[u32], mem: &mut Memory, n: usize, y: usize, p: usize)
     requires { ⌜ ((n ≤ 64) × (y < 4294967296) × (length (now s) ≤ 65535) × (p ≤ length (now s))) × Knows (now t) (now s) (now cells) n (now mem) p p ⌝ }
     ensures { λ _. ⌜ Knows (now (t .entry)) (now (s .entry)) (now (cells .entry)) n (now (mem .exit)) p p × Front (now (mem .entry)) (now (mem .exit)) ⌝ }
 {
-    let k = key(mem, y);
-    if k != 0 {
-        let a = match_eval::part_at(t, s, cells, mem, n, y, p);
-        if 1 < a {
-            let c = match_eval::many(t, s, cells, mem, n, y, p + (a - 1));
-            remember(mem, k, p, a - 1 + c);
-        }
-    }
+    let a = match_eval::part_at(t, s, cells, mem, n, y, p);
+    learn_first(t, s, cells, mem, n, First { y: y, p: p, a: a });
 }
 
 // The same where the byte decides that the first round is just this byte: most often the newest run goes on.
@@ -153,7 +173,7 @@ fn learn_byte(t: &Table, s: &[u8], cells: &[u32], mem: &mut Memory, n: usize, y:
 
 // The same for key k + 1 by the plan: its part is asked for only where the run does not go on.
 fn run_byte(t: &Table, s: &[u8], cells: &[u32], mem: &mut Memory, n: usize, k: usize, p: usize)
-    requires { ⌜ ((n ≤ 64) × (k < 64) × (length (now s) ≤ 65535) × (p ≤ length (now s)) × Takes (now mem) (byteAt (now s) p) k)
+    requires { ⌜ ((n ≤ 64) × (k < 1025) × (length (now s) ≤ 65535) × (p ≤ length (now s)) × Takes (now mem) (byteAt (now s) p) k)
         × Knows (now t) (now s) (now cells) n (now mem) p p ⌝ }
     ensures { λ _. ⌜ Knows (now (t .entry)) (now (s .entry)) (now (cells .entry)) n (now (mem .exit)) p p × Front (now (mem .entry)) (now (mem .exit)) ⌝ }
 {
@@ -181,45 +201,47 @@ fn learn(t: &Table, s: &[u8], cells: &[u32], mem: &mut Memory, n: usize, y: usiz
     }
 }
 
-// The rounds of key k + 1, of which the plan says nothing: if it could have, nothing is said of its part either.
-fn learn_key(t: &Table, s: &[u8], cells: &[u32], mem: &mut Memory, n: usize, k: usize, p: usize)
-    requires { ⌜ ((n ≤ 64) × (k < 4294967296) × (length (now s) ≤ 65535) × (p ≤ length (now s))) × Knows (now t) (now s) (now cells) n (now mem) p p ⌝ }
+// The rounds of a part of each key.
+pub fn learn_all(t: &Table, s: &[u8], cells: &[u32], mem: &mut Memory, n: usize, p: usize)
+    requires { ⌜ ((n ≤ 64) × (length (now s) ≤ 65535) × (p ≤ length (now s))) × Knows (now t) (now s) (now cells) n (now mem) p p ⌝ }
     ensures { λ _. ⌜ Knows (now (t .entry)) (now (s .entry)) (now (cells .entry)) n (now (mem .exit)) p p × Front (now (mem .entry)) (now (mem .exit)) ⌝ }
 {
-    let y = word(mem, PARTS_AT + k);
-    if k < match_plan::BITS {
-        learn_rounds(t, s, cells, mem, n, y, p);
-        return;
+    let mut k = word(mem, COUNT);
+    while 0 < k {
+        k -= 1;
+        let y = word(mem, PARTS_AT + k);
+        learn(t, s, cells, mem, n, y, p);
     }
-    learn(t, s, cells, mem, n, y, p);
 }
 
-// The rounds of a part of each key. What the byte at p says of all keys is in the plan; the others are evaluated.
-pub fn learn_all(
+// The keys that a plan lists from i on, d of them, each of which takes just the byte at p.
+pub struct Takers {
+    pub i: usize,
+    pub d: usize,
+    pub p: usize,
+}
+
+// The rounds of such keys.
+pub fn run_all(
     t: &Table,
     s: &[u8],
     cells: &[u32],
     mem: &mut Memory,
     plan: &Plan,
     n: usize,
-    p: usize,
+    all: Takers,
 )
-    requires { ⌜ ((n ≤ 64) × (length (now s) ≤ 65535) × (p ≤ length (now s))) × Knows (now t) (now s) (now cells) n (now mem) p p
-        × Planned (now t) (now mem) n (now plan) ⌝ }
-    ensures { λ _. ⌜ Knows (now (t .entry)) (now (s .entry)) (now (cells .entry)) n (now (mem .exit)) p p × Front (now (mem .entry)) (now (mem .exit)) ⌝ }
+    requires { ⌜ ((n ≤ 64) × (all .i < 8589934592) × (all .d < 4294967296) × (length (now s) ≤ 65535) × (all .p ≤ length (now s)))
+        × ((j : ℕ) → j < all .d → (getD (now plan) (all .i + j) 0 < 1025) × Takes (now mem) (byteAt (now s) (all .p)) (getD (now plan) (all .i + j) 0))
+        × Knows (now t) (now s) (now cells) n (now mem) (all .p) (all .p) ⌝ }
+    ensures { λ _.
+        ⌜ Knows (now (t .entry)) (now (s .entry)) (now (cells .entry)) n (now (mem .exit)) (all .p) (all .p) × Front (now (mem .entry)) (now (mem .exit)) ⌝ }
 {
-    let b = match_eval::byte_at(s, p);
-    let takes = match_plan::at(plan, b, match_plan::TAKES);
-    let idle = match_plan::at(plan, b, match_plan::IDLE);
-    let mut k = word(mem, COUNT);
-    while 0 < k {
-        k -= 1;
-        if !listed(idle, k) {
-            if listed(takes, k) {
-                run_byte(t, s, cells, mem, n, k, p);
-            } else {
-                learn_key(t, s, cells, mem, n, k, p);
-            }
-        }
+    let d = all.d;
+    let mut j: usize = 0;
+    while j < d {
+        let k = word(plan, all.i + j);
+        run_byte(t, s, cells, mem, n, k, all.p);
+        j += 1;
     }
 }

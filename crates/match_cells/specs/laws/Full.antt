@@ -88,7 +88,8 @@ first-small : (number : Leaf → ℕ) (r x : ℕ) (m : ℕ → Bool) (e : Exp �
 unfolding firstCalls
 first-small number r x m (uses s) h = pow-below s r h
 first-small number r x m (ter l) h = pow-pos r
-first-small number r x m (seq a b) h = or-lt r (firstCalls m a) (cond (hasEmpty m a) (firstCalls m b) 0) (first-small number r x m a (h .0)) (cond-small r (hasEmpty m a) (firstCalls m b) (first-small number r x m b (h .1)))
+first-small number r x m (seq a b) h = or-lt r (firstCalls m a) (cond (hasEmpty m a) (firstCalls m b) 0) (first-small number r x m a (h .0)) (cond-small r (hasEmpty m a) (firstCalls m b)
+    (first-small number r x m b (h .1)))
 first-small number r x m (alt a b) h = or-lt r (firstCalls m a) (firstCalls m b) (first-small number r x m a (h .0)) (first-small number r x m b (h .1))
 first-small number r x m (opt a) h = first-small number r x m a h
 first-small number r x m (star a) h = first-small number r x m a h

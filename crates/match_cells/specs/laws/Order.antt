@@ -45,7 +45,8 @@ module _ (calls : List ℕ) (small : (r : ℕ) → getD calls r 0 < 2 ^ length c
       let p : 2 ^ x < 2 ^ length calls = pow-below x (length calls) l in
       ⊎-elim (λ h. omega (arith, ones-le (length calls) (bitOr (reach calls x) (2 ^ x)), h))
       (λ h. absurd (not-itself x l (subst (λ (w : ℕ). holds w x ≡ true)
-      (ones-strict (length calls) (reach calls x) (bitOr (reach calls x) (2 ^ x)) (reach-small calls small x) (or-lt (length calls) (reach calls x) (2 ^ x) (reach-small calls small x) p) (sub-or-l (reach calls x) (2 ^ x)) h)
+      (ones-strict (length calls) (reach calls x) (bitOr (reach calls x) (2 ^ x)) (reach-small calls small x) (or-lt (length calls) (reach calls x) (2 ^ x) (reach-small calls small x) p)
+      (sub-or-l (reach calls x) (2 ^ x)) h)
       (up-r (reach calls x) (2 ^ x) x (eq-eqb (bit (2 ^ x) x) 1 (bit-pow-same x))))))
       (lt-or-ge (rank x) (ones (length calls) (bitOr (reach calls x) (2 ^ x))))
 
@@ -71,7 +72,8 @@ module _ (calls : List ℕ) (small : (r : ℕ) → getD calls r 0 < 2 ^ length c
     before : (done : List ℕ) (k r : ℕ) → r < length calls → rank r ≡ k → Have done k r → (x : ℕ) → Calls m (bodyOf bodies r) x → x < length bodies → In x done
     before done k r l e h x c q =
         let xl : x < length calls = omega (arith, long, q) in
-        h x xl (inl (let f : rank x < rank r = falls calls small r x xl (subst (λ (w : ℕ). holds w x ≡ true) (flip (is r l)) (called m (bodyOf bodies r) x c)) (not-itself x xl) in omega (arith, f, e)))
+        h x xl (inl (let f : rank x < rank r = falls calls small r x xl (subst (λ (w : ℕ). holds w x ≡ true) (flip (is r l)) (called m (bodyOf bodies r) x c)) (not-itself x xl) in omega
+        (arith, f, e)))
 
     of-rank : (k r : ℕ) (xs done rest : List ℕ) → r + length xs ≡ length calls → ((i : ℕ) → i < length xs → getD xs i 0 ≡ rank (r + i)) → Have done k r
         → ((more : List ℕ) → Have more k (length calls) → Ordered m bodies more rest) → Ordered m bodies done (ofRank k r xs ++ rest)

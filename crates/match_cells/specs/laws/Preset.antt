@@ -3,34 +3,39 @@
 use Prim.Native.Nat.{ℕ, zero, suc, _+_, _-_, _*_, _^_, _≤_, _<_}
 use mathlib.Core.Path.{_≡_, refl, ap, _∙_, subst}
 use mathlib.Core.Path.{sym as flip}
-use mathlib.Core.Bool.{Bool, true, false, true≢false, _&&_}
-use mathlib.Core.List.{List, []}
+use mathlib.Core.Bool.{Bool, true, false, true≢false, cond, _&&_}
+use mathlib.Core.List.{List, [], _∷_}
 use mathlib.Core.Logic.{_⊎_, inl, inr}
 use native.Mathlib.Omega.{arith}
 use native.Mathlib.Numerals.{add-one}
 use native.Mathlib.Nat.{eq-or-lt-of-le, suc-mul, mul-le-mul-right}
 use lib.Bits.{bitOr}
-use lib.Dec.{eqb}
+use native.Mathlib.Decide.{ℕ-discrete}
+use lib.Dec.{eqb, ltb}
+use borrow.Author.Tests.{eq-eqb, ne-eqb, lt-ltb, le-ltb}
 use lib.ListN.{getD, length, set, length-set}
 use lib.Seq.{getD-set-same, getD-set-other, ext-getD, set-getD}
 use Rattle.base_facts.specs.laws.Bools.{and-parts}
 use Rattle.base_facts.specs.laws.Numbers.{lt-or-ge}
 use Rattle.grammar.specs.Exp.{Exp, sym}
 use Rattle.match_meaning.specs.laws.One.{one}
-use Rattle.grammar_table.specs.Table.{symbolCount, symbolWord}
-use Rattle.grammar_table.specs.Trees.{bodiesOf}
+use Rattle.grammar_table.specs.Table.{symbolCount, symbolWord, wordsFrom}
+use Rattle.grammar_table.specs.Trees.{treeOf, bodiesOf}
+use Rattle.match_eval.specs.Eval.{ev}
 use Rattle.match_cells.specs.Cells.{bodyTakes, rowOf, fillOf, cells}
 use Rattle.match_cells.specs.laws.First.{Markings, Ordered}
 use Rattle.match_cells.specs.laws.Sound.{plainly, Means}
 use Rattle.match_cells.specs.laws.Agrees.{Known, After, Right}
 use Rattle.match_cells.specs.laws.Filled.{Room, row-length, row-right, row-frame, filled-right, filled-behind, filled-length}
-use Rattle.match_eval.specs.laws.Memory.{knows-cells, knows-ready}
+use Rattle.match_eval.specs.laws.Memory.{knows-cells, knows-ready, knows-stored, said-body}
 use Rattle.match_eval.specs.laws.Said.{said-same, said-end}
 use Rattle.match_cells.specs.laws.Rows.{stored}
 use Rattle.match_eval.specs.steps.Firsts.{byteAt, wordOf, Heard, Silent, putSaid, presetOf}
-use Rattle.match_eval.specs.steps.Memory.{Ready, Knows, Roomy, Front}
-use Rattle.match_cells.specs.steps.Runs.{Open, Fillable, fillBy, FilledBy}
-use Rattle.match_plan.specs.steps.Plan.{Planned}
+use Rattle.match_eval.specs.steps.Memory.{Ready, Knows, Front}
+use Rattle.match_cells.specs.steps.Runs.{Open, recordOf, copyOf, setBy, setOf, Settable, Fillable, fillBy, FilledBy}
+use Rattle.match_parts.specs.steps.Lists.{AllListed}
+use Rattle.match_parts.specs.laws.Lists.{listed-front}
+use Rattle.match_plan.specs.steps.Plan.{opensOf, Recorded, Planned}
 use Rattle.match_plan.specs.laws.Plan.{planned-front}
 use Rattle.lake_plain.specs.Calls.{holds}
 use Rattle.lake_plain.specs.laws.Exact.{up-l, up-r}
@@ -172,49 +177,173 @@ preset-same t mem new b i (suc r) cs f =
     preset-same t mem new b i r (putSaid (wordOf t new b r) (i + r) cs) f
     ∙ ap (λ (w : ℕ). presetOf t mem b i r (putSaid w (i + r) cs)) (said-same mem new (λ j l m. f j m) b (symbolWord t r 1))
 
--- ── what is known stays so, and the place's cells are heard ──
-module _ (t s cs mem : List ℕ) (n p b : ℕ) (e : b ≡ byteAt s p) (within : p ≤ length s) (roomy : Roomy mem s n (length cs)) where
-  abbrev new : List ℕ
-  new = presetOf t mem b (p * n) n cs
+-- ── the words of a record, copied ──
+module _ (plan : List ℕ) (o i : ℕ) where
+  pub copy-length : (n : ℕ) (cs : List ℕ) → length (copyOf plan o i n cs) ≡ length cs
+  unfolding copyOf
+  copy-length zero cs = refl
+  copy-length (suc r) cs = length-set (copyOf plan o i r cs) (i + r) (getD plan (o + r) 0) ∙ copy-length r cs
 
-  behind : (j : ℕ) → (p + 1) * n ≤ j → getD new j 0 ≡ getD cs j 0
-  behind j h =
-      let z : (p + 1) * n ≡ suc p * n = ap (λ (k : ℕ). k * n) (add-one p) in
-      preset-other t mem b (p * n) n cs j (λ r l a. omega (arith, z, suc-mul p n, h, a, l))
+  pub copy-other : (n : ℕ) (cs : List ℕ) (j : ℕ) → ((r : ℕ) → r < n → j ≡ i + r → ⊥) → getD (copyOf plan o i n cs) j 0 ≡ getD cs j 0
+  unfolding copyOf
+  copy-other zero cs j f = refl
+  copy-other (suc r) cs j f =
+      getD-set-other (copyOf plan o i r cs) (i + r) j (getD plan (o + r) 0) 0 (f r (omega arith)) ∙ copy-other r cs j (λ k l. f k (omega arith))
 
-  here : Roomy mem s n (length cs) → Heard t mem s new n p
-  here (inl room) r v l a =
-      preset-said t mem b (p * n) n cs r v l (omega (arith, suc-mul p n, mul-le-mul-right {m = suc p} {n = length s + 1} n (omega arith), room)) (ap (λ (d : ℕ). wordOf t mem d r) e ∙ a)
-  here (inr quiet) r v l a = absurd (omega (arith, quiet (byteAt s p) (symbolWord t r 1), a))
-
-  pub knows-preset : Knows t s cs n mem (p + 1) (p + 1) → Knows t s (presetOf t mem b (p * n) n cs) n mem (p + 1) p
-  knows-preset w = knows-cells t s cs mem n (p + 1) p (p + 1) new w behind (λ q h m. go q m (eq-or-lt-of-le h))
+  pub copy-here : (n : ℕ) (cs : List ℕ) (r : ℕ) → r < n → i + n ≤ length cs → getD (copyOf plan o i n cs) (i + r) 0 ≡ getD plan (o + r) 0
+  unfolding copyOf
+  copy-here zero cs r l room = absurd (omega arith)
+  copy-here (suc m) cs r l room =
+      let k : r ≤ m = omega arith in
+      go (eq-or-lt-of-le k) (λ h. copy-here m cs r h (omega arith))
     where
+      go : (r ≡ m) ⊎ (r < m) → (r < m → getD (copyOf plan o i m cs) (i + r) 0 ≡ getD plan (o + r) 0)
+          → getD (set (copyOf plan o i m cs) (i + m) (getD plan (o + m) 0)) (i + r) 0 ≡ getD plan (o + r) 0
+      go (inl z) k =
+          ap (λ (y : ℕ). getD (set (copyOf plan o i m cs) (i + m) (getD plan (o + m) 0)) (i + y) 0) z
+          ∙ getD-set-same (copyOf plan o i m cs) (i + m) (getD plan (o + m) 0) 0 (omega (arith, copy-length m cs)) ∙ ap (λ (y : ℕ). getD plan (o + y) 0) (flip z)
+      go (inr h) k = getD-set-other (copyOf plan o i m cs) (i + m) (i + r) (getD plan (o + m) 0) 0 (λ e. omega (arith, e, h)) ∙ k h
+
+  -- one symbol more, as code does it
+  pub copy-more : (r : ℕ) (cs ds new : List ℕ) → ds ≡ copyOf plan o i r cs → new ≡ set ds (i + r) (getD plan (o + r) 0) → new ≡ copyOf plan o i (r + 1) cs
+  unfolding copyOf
+  copy-more r cs ds new e f =
+      f ∙ ap (λ (l : List ℕ). set l (i + r) (getD plan (o + r) 0)) e ∙ ap (λ (k : ℕ). copyOf plan o i k cs) (flip (add-one r))
+
+  pub copy-start : (cs : List ℕ) → cs ≡ copyOf plan o i 0 cs
+  unfolding copyOf
+  copy-start cs = refl
+
+-- ── either of them ──
+module _ (t mem plan : List ℕ) (b i n : ℕ) (cs : List ℕ) where
+  set-length : length (setOf t mem plan b i n cs) ≡ length cs
+  unfolding setBy
+  set-length = go (recordOf plan b)
+    where
+      go : (o : ℕ) → length (setBy o t mem plan b i n cs) ≡ length cs
+      go zero = preset-length t mem b i n cs
+      go (suc o) = copy-length plan (suc o) i n cs
+
+  set-other : (j : ℕ) → ((r : ℕ) → r < n → j ≡ i + r → ⊥) → getD (setOf t mem plan b i n cs) j 0 ≡ getD cs j 0
+  unfolding setBy
+  set-other j f = go (recordOf plan b)
+    where
+      go : (o : ℕ) → getD (setBy o t mem plan b i n cs) j 0 ≡ getD cs j 0
+      go zero = preset-other t mem b i n cs j f
+      go (suc o) = copy-other plan (suc o) i n cs j f
+
+  set-silent : Silent mem → recordOf plan b ≡ 0 → setOf t mem plan b i n cs ≡ cs
+  unfolding setBy
+  set-silent f e = ap (λ (o : ℕ). setBy o t mem plan b i n cs) e ∙ preset-silent t mem b i n cs (λ r. f b (symbolWord t r 1))
+
+  -- as code does it
+  pub set-preset : (new : List ℕ) → Front mem new → recordOf plan b ≡ 0 → presetOf t new b i n cs ≡ setOf t mem plan b i n cs
+  unfolding setBy
+  set-preset new f e = preset-same t mem new b i n cs f ∙ ap (λ (o : ℕ). setBy o t mem plan b i n cs) (flip e)
+
+  pub set-copy : (o : ℕ) → o ≡ recordOf plan b → (o ≡ 0 → ⊥) → copyOf plan o i n cs ≡ setOf t mem plan b i n cs
+  unfolding setBy
+  set-copy o e f = go o f ∙ ap (λ (o : ℕ). setBy o t mem plan b i n cs) e
+    where
+      go : (o : ℕ) → (o ≡ 0 → ⊥) → copyOf plan o i n cs ≡ setBy o t mem plan b i n cs
+      go zero f = absurd (f refl)
+      go (suc o) f = refl
+
+-- a place's cells are among all
+pub room-at : (s cs : List ℕ) (n p : ℕ) → p ≤ length s → (length s + 1) * n ≤ length cs → p * n + n ≤ length cs
+room-at s cs n p within room = omega (arith, suc-mul p n, mul-le-mul-right {m = suc p} {n = length s + 1} n (omega arith), room)
+
+-- ── what is known stays so, and the place's cells are heard ──
+module _ (t s cs mem : List ℕ) (n p b : ℕ) (e : b ≡ byteAt s p) (within : p ≤ length s) where
+  -- cells of the place were set
+  knows-set : (new : List ℕ) → ((j : ℕ) → ((r : ℕ) → r < n → j ≡ p * n + r → ⊥) → getD new j 0 ≡ getD cs j 0) → Heard t mem s new n p
+      → Knows t s cs n mem (p + 1) (p + 1) → Knows t s new n mem (p + 1) p
+  knows-set new f here w = knows-cells t s cs mem n (p + 1) p (p + 1) new w behind (λ q h m. go q m (eq-or-lt-of-le h))
+    where
+      behind : (j : ℕ) → (p + 1) * n ≤ j → getD new j 0 ≡ getD cs j 0
+      behind j h =
+          let z : (p + 1) * n ≡ suc p * n = ap (λ (k : ℕ). k * n) (add-one p) in
+          f j (λ r l a. omega (arith, z, suc-mul p n, h, a, l))
+
       go : (q : ℕ) → q ≤ length s → (p ≡ q) ⊎ (p < q) → Heard t mem s new n q
-      go q m (inl a) = subst (λ (k : ℕ). Heard t mem s new n k) a (here roomy)
+      go q m (inl a) = subst (λ (k : ℕ). Heard t mem s new n k) a here
       go q m (inr a) = λ r v l d. behind (q * n + r) (omega (arith, mul-le-mul-right {m = p + 1} {n = q} n (omega arith))) ∙ w .heard q (omega arith) m r v l d
 
+  pub knows-preset : (plan : List ℕ) → Settable mem plan s n (length cs) → Knows t s cs n mem (p + 1) (p + 1)
+      → Knows t s (presetOf t mem b (p * n) n cs) n mem (p + 1) p
+  knows-preset plan settable = knows-set (presetOf t mem b (p * n) n cs) (preset-other t mem b (p * n) n cs) (here settable)
+    where
+      here : Settable mem plan s n (length cs) → Heard t mem s (presetOf t mem b (p * n) n cs) n p
+      here (inl room) r v l a = preset-said t mem b (p * n) n cs r v l (room-at s cs n p within room) (ap (λ (d : ℕ). wordOf t mem d r) e ∙ a)
+      here (inr (quiet, none)) r v l a = absurd (omega (arith, quiet (byteAt s p) (symbolWord t r 1), a))
+
+  pub knows-copy : (plan order : List ℕ) (o : ℕ) → (length s + 1) * n ≤ length cs → Recorded t mem order n plan b o → Knows t s cs n mem (p + 1) (p + 1)
+      → Knows t s (copyOf plan o (p * n) n cs) n mem (p + 1) p
+  knows-copy plan order o room w =
+      knows-set (copyOf plan o (p * n) n cs) (copy-other plan o (p * n) n cs)
+      (λ r v l a. copy-here plan o (p * n) n cs r l (room-at s cs n p within room) ∙ w .row r v l (ap (λ (d : ℕ). wordOf t mem d r) e ∙ a))
+
+-- ── only open symbols are evaluated: the others stand already as they are to be stored ──
+module _ (t s mem : List ℕ) (n p b : ℕ) (e : b ≡ byteAt s p) (q : n ≡ symbolCount t) (h : p ≤ length s) (order : List ℕ) where
+  pub row-opens : (k i : ℕ) (cs : List ℕ) → ((j : ℕ) → i ≤ j → j < i + k → getD order j 0 < n) → Knows t s cs n mem (p + 1) p
+      → rowOf (bodiesOf t) s p (opensOf t mem b (wordsFrom order i k)) cs ≡ rowOf (bodiesOf t) s p (wordsFrom order i k) cs
+  unfolding rowOf opensOf wordsFrom
+  row-opens zero i cs m w = refl
+  row-opens (suc k) i cs m w =
+      go (λ found. row-opens k (suc i) next (λ j l g. m j (omega arith) (omega arith)) found) (row-opens k (suc i) cs (λ j l g. m j (omega arith) (omega arith)) w)
+      (ℕ-discrete (wordOf t mem b r) 0)
+    where
+      r : ℕ
+      r = getD order i 0
+
+      small : r < n
+      small = m i (omega arith) (omega arith)
+
+      next : List ℕ
+      next = set cs (p * length (bodiesOf t) + r) (bodyTakes (bodiesOf t) s cs r p)
+
+      rest : List ℕ
+      rest = opensOf t mem b (wordsFrom order (suc i) k)
+
+      found : Knows t s next n mem (p + 1) p
+      found =
+          subst (λ (y : List ℕ). Knows t s y n mem (p + 1) p) (stored t s n q cs r p (symbolWord t r 1) (ev s cs n (treeOf t (symbolWord t r 1)) p) small refl refl)
+          (knows-stored t s cs mem n p r (ev s cs n (treeOf t (symbolWord t r 1)) p) small
+          (λ u k. said-body t s cs mem n (p + 1) p w r (ev s cs n (treeOf t (symbolWord t r 1)) p) u h refl k) w)
+
+      go : (Knows t s next n mem (p + 1) p → rowOf (bodiesOf t) s p rest next ≡ rowOf (bodiesOf t) s p (wordsFrom order (suc i) k) next)
+          → rowOf (bodiesOf t) s p rest cs ≡ rowOf (bodiesOf t) s p (wordsFrom order (suc i) k) cs → Dec (wordOf t mem b r ≡ 0)
+          → rowOf (bodiesOf t) s p (cond (eqb (wordOf t mem b r) 0) (r ∷ rest) rest) cs ≡ rowOf (bodiesOf t) s p (wordsFrom order (suc i) k) next
+      go more same (yes z) =
+          ap (λ (c : Bool). rowOf (bodiesOf t) s p (cond c (r ∷ rest) rest) cs) (eq-eqb (wordOf t mem b r) 0 z) ∙ more found
+      go more same (no f) =
+          ap (λ (c : Bool). rowOf (bodiesOf t) s p (cond c (r ∷ rest) rest) cs) (ne-eqb (wordOf t mem b r) 0 f) ∙ same
+          ∙ ap (rowOf (bodiesOf t) s p (wordsFrom order (suc i) k))
+          (said-stays t s cs mem n r p (p + 1) q small h (λ z. f (ap (λ (d : ℕ). wordOf t mem d r) e ∙ z)) w)
+
 -- before the last place is filled
-pub fillable-first : (t s cs order : List ℕ) (n : ℕ) {mem plan : List ℕ} → n ≡ symbolCount t → n ≤ 64 → ((j : ℕ) → j < n → getD order j 0 < n) → length s ≤ 65535
-    → Ready t n mem × Roomy mem s n (length cs) → Planned t mem n plan → Fillable t s cs mem order plan (symbolCount t) (length s + 1)
-fillable-first t s cs order n {mem} {plan} e l f h (w, r) o = subst (λ (m : ℕ). Fillable t s cs mem order plan m (length s + 1)) e (record {
+pub fillable-first : (t s cs order lists : List ℕ) (n : ℕ) {mem plan : List ℕ} → n ≡ symbolCount t → n ≤ 64 → ((j : ℕ) → j < n → getD order j 0 < n) → length s ≤ 65535
+    → Ready t n mem → Settable mem plan s n (length cs) → Planned t mem order n plan → ((b : ℕ) → (recordOf plan b ≡ 0 → ⊥) → AllListed t mem n lists)
+    → Fillable t s cs mem order plan lists (symbolCount t) (length s + 1)
+fillable-first t s cs order lists n {mem} {plan} e l f h w r o a = subst (λ (m : ℕ). Fillable t s cs mem order plan lists m (length s + 1)) e (record {
   few = l;
   symbols = f;
   short = h;
   within = omega arith;
   known = knows-ready t s cs mem n (length s + 1) (length s + 1) (omega arith) w;
-  roomy = r;
+  settable = r;
   planned = o;
+  listed = a;
 })
 
-roomy-front : (old new s : List ℕ) (n have got : ℕ) → Front old new → got ≡ have → Roomy old s n have → Roomy new s n got
-roomy-front old new s n have got f e (inl h) = inl (omega (arith, h, e))
-roomy-front old new s n have got f e (inr q) = inr (λ b x. said-same old new (λ j l m. f j m) b x ∙ q b x)
+settable-front : (old new plan s : List ℕ) (n have got : ℕ) → Front old new → got ≡ have → Settable old plan s n have → Settable new plan s n got
+settable-front old new plan s n have got f e (inl h) = inl (omega (arith, h, e))
+settable-front old new plan s n have got f e (inr (q, none)) = inr ((λ b x. said-same old new (λ j l m. f j m) b x ∙ q b x), none)
 
 -- before the place below i is
-pub fillable-next : (t s cs ds old new order plan : List ℕ) (n k i : ℕ) → 0 < i → i ≤ k → Front old new → length ds ≡ length cs → Knows t s ds n new i i
-    → Fillable t s cs old order plan n k → Fillable t s ds new order plan n (i - 1 + 1)
-fillable-next t s cs ds old new order plan n k i z l f e w h =
+pub fillable-next : (t s cs ds old new order plan lists : List ℕ) (n k i : ℕ) → 0 < i → i ≤ k → Front old new → length ds ≡ length cs → Knows t s ds n new i i
+    → Fillable t s cs old order plan lists n k → Fillable t s ds new order plan lists n (i - 1 + 1)
+fillable-next t s cs ds old new order plan lists n k i z l f e w h =
     let y : i ≡ i - 1 + 1 = omega arith in
     record {
       few = h .few;
@@ -222,40 +351,70 @@ fillable-next t s cs ds old new order plan n k i z l f e w h =
       short = h .short;
       within = omega (arith, h .within);
       known = subst (λ (j : ℕ). Knows t s ds n new j j) y w;
-      roomy = roomy-front old new s n (length cs) (length ds) f e (h .roomy);
-      planned = planned-front t old new f n plan (h .planned);
+      settable = settable-front old new plan s n (length cs) (length ds) f e (h .settable);
+      planned = planned-front t old new f order n plan (h .planned);
+      listed = λ b g. listed-front t old new n lists f (h .listed b g);
     }
 
--- ── place after place, as code does it ──
-pub by-more : (t mem : List ℕ) (bodies : List (Exp ℕ)) (s : List ℕ) (n : ℕ) (order cs new : List ℕ) (k : ℕ) → 0 < k
-    → new ≡ rowOf bodies s (k - 1) order (presetOf t mem (byteAt s (k - 1)) ((k - 1) * n) n cs) → fillBy t mem bodies s n (k - 1) order new ≡ fillBy t mem bodies s n k order cs
-unfolding fillBy
-by-more t mem bodies s n order cs new zero l q = absurd (omega arith)
-by-more t mem bodies s n order cs new (suc k) l q =
-    let z : suc k - 1 ≡ k = omega arith in
-    ap (λ (j : ℕ). fillBy t mem bodies s n j order new) z
-    ∙ ap (fillBy t mem bodies s n k order) (q ∙ ap (λ (j : ℕ). rowOf bodies s j order (presetOf t mem (byteAt s j) (j * n) n cs)) z)
+-- ── the record of a byte, as code looks it up ──
+module _ (plan : List ℕ) (b : ℕ) where
+  pub record-end : 256 ≤ b → 0 ≡ recordOf plan b
+  record-end h = flip (ap (λ (d : Bool). cond d (getD plan b 0) 0) (le-ltb b 256 h))
 
-pub by-end : (t mem : List ℕ) (bodies : List (Exp ℕ)) (s : List ℕ) (n : ℕ) (order cs : List ℕ) (k : ℕ) → k ≤ 0 → cs ≡ fillBy t mem bodies s n k order cs
+  pub record-byte : (w : ℕ) → b < 256 → w ≡ getD plan b 0 → w ≡ recordOf plan b
+  record-byte w h f = f ∙ flip (ap (λ (d : Bool). cond d (getD plan b 0) 0) (lt-ltb b 256 h))
+
+  -- where there is one, it is right
+  pub record-said : (t mem order : List ℕ) (n o : ℕ) → Planned t mem order n plan → (o ≡ 0 → ⊥) → o ≡ recordOf plan b → Recorded t mem order n plan b o
+  record-said t mem order n o w f e = elim (lt-or-ge b 256) [
+    | inl l ↦ (let g : o ≡ getD plan b 0 = e ∙ ap (λ (d : Bool). cond d (getD plan b 0) 0) (lt-ltb b 256 l) in
+        subst (Recorded t mem order n plan b) (flip g) (w .records b l (λ z. f (g ∙ z))))
+    | inr l ↦ absurd (f (e ∙ flip (record-end l)))
+  ]
+
+  -- a plan of nothing but 0 has none
+  pub record-none : ((j : ℕ) → getD plan j 0 ≡ 0) → recordOf plan b ≡ 0
+  record-none z = ap (λ (w : ℕ). cond (ltb b 256) w 0) (z b) ∙ same (ltb b 256)
+    where
+      same : (c : Bool) → _≡_ {A = ℕ} (cond c 0 0) 0
+      same true = refl
+      same false = refl
+
+-- where there is a record, there are cells for every place
+pub record-room : (mem plan s : List ℕ) (n have b : ℕ) → (recordOf plan b ≡ 0 → ⊥) → Settable mem plan s n have → (length s + 1) * n ≤ have
+record-room mem plan s n have b f (inl h) = h
+record-room mem plan s n have b f (inr (q, none)) = absurd (f (none b))
+
+-- ── place after place, as code does it ──
+pub by-more : (t mem plan : List ℕ) (bodies : List (Exp ℕ)) (s : List ℕ) (n : ℕ) (order cs new : List ℕ) (k : ℕ) → 0 < k
+    → new ≡ rowOf bodies s (k - 1) order (setOf t mem plan (byteAt s (k - 1)) ((k - 1) * n) n cs) → fillBy t mem plan bodies s n (k - 1) order new ≡ fillBy t mem plan bodies s n k order cs
 unfolding fillBy
-by-end t mem bodies s n order cs zero l = refl
-by-end t mem bodies s n order cs (suc k) l = absurd (omega arith)
+by-more t mem plan bodies s n order cs new zero l q = absurd (omega arith)
+by-more t mem plan bodies s n order cs new (suc k) l q =
+    let z : suc k - 1 ≡ k = omega arith in
+    ap (λ (j : ℕ). fillBy t mem plan bodies s n j order new) z
+    ∙ ap (fillBy t mem plan bodies s n k order) (q ∙ ap (λ (j : ℕ). rowOf bodies s j order (setOf t mem plan (byteAt s j) (j * n) n cs)) z)
+
+pub by-end : (t mem plan : List ℕ) (bodies : List (Exp ℕ)) (s : List ℕ) (n : ℕ) (order cs : List ℕ) (k : ℕ) → k ≤ 0 → cs ≡ fillBy t mem plan bodies s n k order cs
+unfolding fillBy
+by-end t mem plan bodies s n order cs zero l = refl
+by-end t mem plan bodies s n order cs (suc k) l = absurd (omega arith)
 
 -- ── the cells are right, whatever was set ──
-module _ (t mem : List ℕ) (bodies : List (Exp ℕ)) (s : List ℕ) where
+module _ (t mem plan : List ℕ) (bodies : List (Exp ℕ)) (s : List ℕ) where
   abbrev set-at : ℕ → List ℕ → List ℕ
-  set-at p cs = presetOf t mem (byteAt s p) (p * length bodies) (length bodies) cs
+  set-at p cs = setOf t mem plan (byteAt s p) (p * length bodies) (length bodies) cs
 
-  by-length : (order : List ℕ) (p : ℕ) (cs : List ℕ) → length (fillBy t mem bodies s (length bodies) p order cs) ≡ length cs
+  by-length : (order : List ℕ) (p : ℕ) (cs : List ℕ) → length (fillBy t mem plan bodies s (length bodies) p order cs) ≡ length cs
   unfolding fillBy
   by-length order zero cs = refl
   by-length order (suc p) cs =
       by-length order p (rowOf bodies s p order (set-at p cs)) ∙ row-length bodies s order (set-at p cs) p
-      ∙ preset-length t mem (byteAt s p) (p * length bodies) (length bodies) cs
+      ∙ set-length t mem plan (byteAt s p) (p * length bodies) (length bodies) cs
 
   module _ (m : ℕ → Bool) (marked : Markings m bodies) (order : List ℕ) (ordered : Ordered m bodies [] order) where
     by-right : (p : ℕ) (cs : List ℕ) → p ≤ length s + 1 → Room bodies s cs
-        → ((q x : ℕ) → p ≤ q → q ≤ length s → x < length bodies → Known bodies s cs q x) → Right bodies s (fillBy t mem bodies s (length bodies) p order cs)
+        → ((q x : ℕ) → p ≤ q → q ≤ length s → x < length bodies → Known bodies s cs q x) → Right bodies s (fillBy t mem plan bodies s (length bodies) p order cs)
     unfolding fillBy
     by-right zero cs h room a = λ q x i l. a q x (omega arith) i l
     by-right (suc p) cs h room a = by-right p (rowOf bodies s p order next) (omega arith) (rw (row-length bodies s order next p, long) room) (λ q x k i l. go q x i l (eq-or-lt-of-le k))
@@ -264,12 +423,12 @@ module _ (t mem : List ℕ) (bodies : List (Exp ℕ)) (s : List ℕ) where
         next = set-at p cs
 
         long : length next ≡ length cs
-        long = preset-length t mem (byteAt s p) (p * length bodies) (length bodies) cs
+        long = set-length t mem plan (byteAt s p) (p * length bodies) (length bodies) cs
 
         after : After bodies s next p
         after q x k i l =
             subst (λ (y : ℕ). Means bodies s (sym x) q y)
-            (flip (preset-other t mem (byteAt s p) (p * length bodies) (length bodies) cs (q * length bodies + x) (λ r g e. omega (arith, far (length bodies) p q r x k g, e))))
+            (flip (set-other t mem plan (byteAt s p) (p * length bodies) (length bodies) cs (q * length bodies + x) (λ r g e. omega (arith, far (length bodies) p q r x k g, e))))
             (a q x k i l)
 
         both : After bodies s (rowOf bodies s p order next) p × ((x : ℕ) → x < length bodies → Known bodies s (rowOf bodies s p order next) p x)
@@ -280,12 +439,12 @@ module _ (t mem : List ℕ) (bodies : List (Exp ℕ)) (s : List ℕ) where
         go q x i l (inr k) = both .0 q x k i l
 
     by-behind : (p : ℕ) (cs : List ℕ) (i : ℕ) → p ≤ length s + 1 → (length s + 1) * length bodies ≤ i
-        → getD (fillBy t mem bodies s (length bodies) p order cs) i 0 ≡ getD cs i 0
+        → getD (fillBy t mem plan bodies s (length bodies) p order cs) i 0 ≡ getD cs i 0
     unfolding fillBy
     by-behind zero cs i h l = refl
     by-behind (suc p) cs i h l =
         by-behind p (rowOf bodies s p order (set-at p cs)) i (omega arith) l ∙ row-frame bodies s m marked order [] p (set-at p cs) i (omega arith) l ordered
-        ∙ preset-other t mem (byteAt s p) (p * length bodies) (length bodies) cs i
+        ∙ set-other t mem plan (byteAt s p) (p * length bodies) (length bodies) cs i
         (λ r g e. omega (arith, far (length bodies) p (length s + 1) r 0 (omega arith) g, e))
 
 -- ── right cells are one ──
@@ -312,28 +471,28 @@ right-one bodies s cs ds a c l f = ext-getD 0 cs ds l (λ i h. go i (lt-or-ge i 
     go i (inr h) = f i h
 
 -- without words nothing is set
-by-silent : (t mem : List ℕ) (bodies : List (Exp ℕ)) (s order : List ℕ) → Silent mem → (p : ℕ) (cs : List ℕ)
-    → fillBy t mem bodies s (length bodies) p order cs ≡ fillOf bodies s p order cs
+by-silent : (t mem plan : List ℕ) (bodies : List (Exp ℕ)) (s order : List ℕ) → Silent mem → ((b : ℕ) → recordOf plan b ≡ 0) → (p : ℕ) (cs : List ℕ)
+    → fillBy t mem plan bodies s (length bodies) p order cs ≡ fillOf bodies s p order cs
 unfolding fillBy fillOf
-by-silent t mem bodies s order f zero cs = refl
-by-silent t mem bodies s order f (suc p) cs =
-    ap (λ (l : List ℕ). fillBy t mem bodies s (length bodies) p order (rowOf bodies s p order l)) (preset-silent t mem (byteAt s p) (p * length bodies) (length bodies) cs (λ r. f
-    (byteAt s p) (symbolWord t r 1)))
-    ∙ by-silent t mem bodies s order f p (rowOf bodies s p order cs)
+by-silent t mem plan bodies s order f none zero cs = refl
+by-silent t mem plan bodies s order f none (suc p) cs =
+    ap (λ (l : List ℕ). fillBy t mem plan bodies s (length bodies) p order (rowOf bodies s p order l))
+    (set-silent t mem plan (byteAt s p) (p * length bodies) (length bodies) cs f (none (byteAt s p)))
+    ∙ by-silent t mem plan bodies s order f none p (rowOf bodies s p order cs)
 
 pub filled-same : (t : List ℕ) (bodies : List (Exp ℕ)) (s : List ℕ) (m : ℕ → Bool) → Markings m bodies → (order old new : List ℕ) → Ordered m bodies [] order
     → FilledBy t bodies s (length bodies) order old new → new ≡ cells bodies order s old
 unfolding cells
-filled-same t bodies s m marked order old new o (mem, roomy, e) = e ∙ go roomy
+filled-same t bodies s m marked order old new o (mem, plan, settable, e) = e ∙ go settable
   where
     made : List ℕ
-    made = fillBy t mem bodies s (length bodies) (length s + 1) order old
+    made = fillBy t mem plan bodies s (length bodies) (length s + 1) order old
 
-    go : Roomy mem s (length bodies) (length old) → made ≡ cells bodies order s old
+    go : Settable mem plan s (length bodies) (length old) → made ≡ cells bodies order s old
     go (inl room) =
         right-one bodies s made (cells bodies order s old)
-        (by-right t mem bodies s m marked order o (length s + 1) old (omega arith) room (λ q x k i l. absurd (omega arith)))
+        (by-right t mem plan bodies s m marked order o (length s + 1) old (omega arith) room (λ q x k i l. absurd (omega arith)))
         (filled-right bodies s m marked order old o room)
-        (by-length t mem bodies s order (length s + 1) old ∙ flip (filled-length bodies s order old))
-        (λ i l. by-behind t mem bodies s m marked order o (length s + 1) old i (omega arith) l ∙ flip (filled-behind bodies s m marked order old o i l))
-    go (inr silent) = by-silent t mem bodies s order silent (length s + 1) old
+        (by-length t mem plan bodies s order (length s + 1) old ∙ flip (filled-length bodies s order old))
+        (λ i l. by-behind t mem plan bodies s m marked order o (length s + 1) old i (omega arith) l ∙ flip (filled-behind bodies s m marked order old o i l))
+    go (inr (silent, none)) = by-silent t mem plan bodies s order silent none (length s + 1) old

@@ -53,7 +53,8 @@ module _ (t : List ℕ) where
   pub fill-more : (s order cs new : List ℕ) (k : ℕ) → 0 < k → new ≡ rowOf (bodiesOf t) s (k - 1) order cs → fillOf (bodiesOf t) s (k - 1) order new ≡ fillOf (bodiesOf t) s k order cs
   unfolding fillOf
   fill-more s order cs new zero l q = absurd (omega arith)
-  fill-more s order cs new (suc k) l q = let z : suc k - 1 ≡ k = omega arith in ap (λ (j : ℕ). fillOf (bodiesOf t) s j order new) z ∙ ap (fillOf (bodiesOf t) s k order) (q ∙ ap (λ (j : ℕ). rowOf (bodiesOf t) s j order cs) z)
+  fill-more s order cs new (suc k) l q = let z : suc k - 1 ≡ k = omega arith in ap (λ (j : ℕ). fillOf (bodiesOf t) s j order new) z ∙ ap (fillOf (bodiesOf t) s k order) (q ∙ ap (λ (j : ℕ). rowOf
+      (bodiesOf t) s j order cs) z)
 
   pub fill-end : (s order cs : List ℕ) (k : ℕ) → k ≤ 0 → cs ≡ fillOf (bodiesOf t) s k order cs
   unfolding fillOf

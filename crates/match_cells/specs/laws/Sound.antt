@@ -13,7 +13,40 @@ use borrow.Author.Tests.{ltb-true, ltb-false, leb-false, eqb-true, lt-ltb, eq-eq
 use Rattle.base_facts.specs.laws.Bools.{and-parts}
 use Rattle.read_tokens.specs.Token.{Leaf, any, literal, class}
 use Rattle.grammar.specs.Exp.{Exp, sym, ter, seq, alt, opt, star, plus, ahead, never}
-use Rattle.match_meaning.specs.Meaning.{Meant, Node, nd, rule, Here, Marked, any-takes, any-fails, lit-takes, lit-fails, cls-takes, cls-fails, sym-takes, sym-fails, seq-fails, seq-fails-later, seq-takes, alt-first, alt-second, star-ends, star-idles, star-goes, plus-fails, plus-takes, opt-skips, opt-takes, ahead-fails, ahead-takes, never-takes, never-fails, by-rule, Derives}
+use Rattle.match_meaning.specs.Meaning.{
+  Meant,
+  Node,
+  nd,
+  rule,
+  Here,
+  Marked,
+  any-takes,
+  any-fails,
+  lit-takes,
+  lit-fails,
+  cls-takes,
+  cls-fails,
+  sym-takes,
+  sym-fails,
+  seq-fails,
+  seq-fails-later,
+  seq-takes,
+  alt-first,
+  alt-second,
+  star-ends,
+  star-idles,
+  star-goes,
+  plus-fails,
+  plus-takes,
+  opt-skips,
+  opt-takes,
+  ahead-fails,
+  ahead-takes,
+  never-takes,
+  never-fails,
+  by-rule,
+  Derives,
+}
 use Rattle.match_meaning.specs.laws.Shape.{within}
 use Rattle.match_eval.specs.Eval.{nowhere, bodyOf, stands, leafAt, cellAt, joinOf, seqOf, altOf, stepOf, rep, plusOf, optOf, aheadOf, neverOf}
 
@@ -80,7 +113,8 @@ module _ (bodies : List (Exp ℕ)) (s : List ℕ) where
   alt-sound a b p zero k t e d = (e d .0, alt-second (t d .1) (e d .1))
   alt-sound a b p (suc m) k t e d = (t d .0, alt-first (t d .1))
 
-  step-sound : (a : Exp ℕ) (p x : ℕ) (k : ℕ → ℕ) → Means bodies s a p x → ((m : ℕ) → x ≡ suc (suc m) → Means bodies s (star a) (p + suc m) (suc (k (suc m)))) → Means bodies s (star a) p (suc (stepOf x k))
+  step-sound : (a : Exp ℕ) (p x : ℕ) (k : ℕ → ℕ) → Means bodies s a p x → ((m : ℕ) → x ≡ suc (suc m) → Means bodies s (star a) (p + suc m) (suc (k (suc m)))) → Means bodies s (star a) p (suc
+      (stepOf x k))
   unfolding stepOf
   step-sound a p zero k t e d = ([], star-ends (t d .1))
   step-sound a p (suc zero) k t e d = ([], star-idles (t d .1))

@@ -4,20 +4,22 @@ use mathlib.Core.Path.{_≡_, refl, sym, ap, _∙_, subst}
 use mathlib.Core.List.{List}
 use mathlib.Core.Logic.{_⊎_, inl, inr}
 use native.Mathlib.Omega.{arith}
+use native.Mathlib.Numerals.{add-one}
 use native.Mathlib.Nat.{suc-mul, mul-le-mul-right}
 use native.Mathlib.Decide.{ℕ-discrete}
 use Rattle.base_facts.specs.laws.Numbers.{lt-or-ge}
 use lib.ListN.{getD, length, set, length-set, replicate, List·getD-eq-default}
 use lib.Seq.{getD-set-same, getD-set-other, set-out}
 use Rattle.grammar.specs.Exp.{Exp}
-use Rattle.match_eval.specs.Eval.{ev, rep}
+use Rattle.match_eval.specs.Eval.{ev, rep, plusOf}
 use Rattle.match_eval.specs.laws.Within.{ev-within, rep-within}
-use Rattle.grammar_table.specs.Table.{symbolWord}
-use Rattle.grammar_table.specs.Trees.{treeOf}
+use Rattle.grammar_table.specs.Table.{opOf, leftOf, nodeBy, symbolWord}
+use Rattle.grammar_table.specs.Trees.{treeOf, below}
 use Rattle.match_eval.specs.steps.Firsts.{byteAt, saidAt, saidOf, wordOf, Heard, Sure}
 use Rattle.match_eval.specs.steps.Memory.{countAt, keysAt, seenAt, entriesAt, roundsOf, Key, Alike, Words, Ready, Told, Knows}
-use Rattle.match_eval.specs.laws.EvalSteps.{rep-more}
-use Rattle.match_eval.specs.laws.Said.{said-same, said-blank}
+use Rattle.match_eval.specs.laws.Evaluated.{node-ev}
+use Rattle.match_eval.specs.laws.EvalSteps.{plus-takes, rep-ends, rep-more}
+use Rattle.match_eval.specs.laws.Said.{said-small, said-same, said-blank}
 use Rattle.match_eval.specs.laws.Frame.{rounds-same, rep-enough}
 
 -- ── what is said ──
@@ -134,6 +136,40 @@ rounds-next t s cs n x p a h e l =
     rep-enough (length s) (λ (i : ℕ). ev s cs n (treeOf t x) i) (λ i g. ev-within s cs n (treeOf t x) i g) (length s) (length s - 1) (p + (a - 1))
     (omega arith) (omega arith) (omega arith) in
     ap (λ (y : ℕ). (a - 1) + y) f ∙ rep-more (λ (i : ℕ). ev s cs n (treeOf t x) i) (length s) p a (omega arith) e l
+
+-- rounds at a place where the byte b decides the first: w is what is said of it
+module _ (t s cs mem : List ℕ) (n p : ℕ) (knows : Knows t s cs n mem 0 p)
+    (inside : p ≤ length s) (x b w : ℕ) (here : b ≡ byteAt s p) (said : w ≡ saidOf mem b x) where
+  -- it fails or takes nothing
+  pub said-ends : (w ≡ 0 → ⊥) → w < 3 → 0 ≡ roundsOf t s cs n x p
+  said-ends z l = rep-ends (λ (i : ℕ). ev s cs n (treeOf t x) i) (length s) p (w - 1) (said-right t s cs mem n 0 p knows x b w inside here said z) (omega arith)
+
+  -- it takes the byte
+  pub said-one : 3 ≤ w → 2 ≡ ev s cs n (treeOf t x) p
+  said-one l = omega (arith, l, said, said-small mem b x, said-right t s cs mem n 0 p knows x b w inside here said (omega (arith, l)))
+
+  pub said-room : 3 ≤ w → p + 1 ≤ length s
+  said-room l = omega (arith, said-one l, ev-within s cs n (treeOf t x) p inside)
+
+  -- so that the others follow it
+  pub said-next : (c : ℕ) → 3 ≤ w → c ≡ roundsOf t s cs n x (p + 1) → c + 1 ≡ roundsOf t s cs n x p
+  said-next c l e = omega (arith, e, rounds-next t s cs n x p 2 inside (said-one l) (omega arith))
+
+  -- and `+` over it, part z, takes what all of them take
+  pub said-plus : (z l c : ℕ) → (z ≡ 0 → ⊥) → 6 ≡ opOf t (z - 1) → l ≡ leftOf t (z - 1) → x ≡ below l (z - 1) → 3 ≤ w → c ≡ roundsOf t s cs n x p
+      → c + 1 ≡ ev s cs n (treeOf t z) p
+  unfolding ev nodeBy
+  said-plus z l c f o h e m r =
+      let g : c + 1 ≡ 2 + roundsOf t s cs n x (p + 1) = omega (arith, r, said-next (roundsOf t s cs n x (p + 1)) m refl) in
+      g ∙ plus-takes (ev s cs n (treeOf t x) p) (λ i. roundsOf t s cs n x (p + i)) 2 (roundsOf t s cs n x (p + 1)) (said-one m) (omega arith) refl
+      ∙ ap (λ (y : ℕ). plusOf (ev s cs n (treeOf t y) p) (λ i. roundsOf t s cs n y (p + i))) e ∙ node-ev s cs t n z p 6 l f o h
+
+-- what `*` takes, by the rounds of its part
+pub star-rounds : (t s cs : List ℕ) (n p z x l c : ℕ) → (z ≡ 0 → ⊥) → 5 ≡ opOf t (z - 1) → l ≡ leftOf t (z - 1) → x ≡ below l (z - 1)
+    → c ≡ roundsOf t s cs n x p → c + 1 ≡ ev s cs n (treeOf t z) p
+unfolding ev nodeBy
+star-rounds t s cs n p z x l c f o h e r =
+    add-one c ∙ ap suc (r ∙ ap (λ (y : ℕ). roundsOf t s cs n y p) e) ∙ node-ev s cs t n z p 5 l f o h
 
 -- ── nothing but 0 ──
 pub zeros : (n j : ℕ) → _≡_ {A = ℕ} (getD (replicate {A = ℕ} n 0) j 0) 0

@@ -1,213 +1,155 @@
--- The words of a byte say what the memory says, made and read. Assumes nothing.
-use Prim.Native.Nat.{ℕ, zero, suc, _+_, _-_, _*_, _/_, _%_, _^_, _≤_, _<_, max}
+-- A plan is right where it is empty, is checked part by part, and stays right while what stands before the entries does. Assumes nothing.
+use Prim.Native.Nat.{ℕ, zero, suc, _+_, _≤_, _<_}
 use mathlib.Core.Path.{_≡_, refl, sym, ap, ap₂, _∙_, subst}
-use mathlib.Core.Bool.{Bool, true, true≢false, cond}
-use mathlib.Core.List.{List}
+use mathlib.Core.Bool.{Bool, true, false, cond}
+use mathlib.Core.List.{List, [], _∷_, _++_}
 use mathlib.Core.Logic.{_⊎_, inl, inr}
 use native.Mathlib.Omega.{arith}
 use native.Mathlib.Numerals.{add-one}
-use native.Mathlib.Nat.{max-zero, pow-suc, pow-le-pow-right}
-use native.Mathlib.Decide.{ℕ-discrete}
-use lib.Bits.{bitOr}
-use lib.Dec.{eqb, ltb}
-use borrow.Author.Tests.{lt-ltb, le-ltb}
-use lib.ListN.{getD, length, set, List·getD-eq-default}
-use lib.Seq.{getD-set-same, getD-set-other, set-out}
-use Rattle.base_facts.specs.laws.Numbers.{lt-or-ge}
-use Rattle.base_words.specs.laws.Members.{bit-or, bit-pow-other}
-use Rattle.base_words.specs.laws.Order.{bit-none}
-use Rattle.grammar_table.specs.Table.{symbolWord}
-use Rattle.lake_plain.specs.Calls.{holds}
+use lib.Dec.{eqb}
+use borrow.Author.Tests.{eq-eqb, ne-eqb}
+use lib.ListN.{getD, length, List·getD-eq-default}
+use Rattle.base_facts.specs.laws.Numbers.{lt-or-ge, same?}
+use Rattle.grammar_table.specs.Table.{symbolWord, wordsFrom}
 use Rattle.grammar_table.specs.Trees.{treeOf}
 use Rattle.match_eval.specs.Eval.{ev}
 use Rattle.match_eval.specs.steps.Firsts.{byteAt, saidOf, wordOf}
-use Rattle.match_eval.specs.steps.Memory.{keysAt, partsAt, Key, Knows, Front}
+use Rattle.match_eval.specs.steps.Memory.{countAt, keysAt, partsAt, Key, Knows, Front}
 use Rattle.match_eval.specs.laws.Memory.{said-right}
-use Rattle.match_eval.specs.laws.Said.{said-small, said-inside, said-same}
-use Rattle.match_plan.specs.steps.Plan.{rowNumber, inFirst, Row, Takes, AllTake, Planned}
+use Rattle.match_eval.specs.laws.Said.{said-inside, said-same}
+use Rattle.match_plan.specs.steps.Plan.{opensOf, Takes, openCount, taskCount, takerCount, takerAt, Recorded, Planned}
+use Rattle.match_plan.specs.steps.Checked.{Cell, Opens, Task, Taker}
 
--- ── the digits ──
+pub planned-none : (t mem order : List ℕ) (n : ℕ) (plan : List ℕ) → ((j : ℕ) → getD plan j 0 ≡ 0) → Planned t mem order n plan
+planned-none t mem order n plan z = record { records = λ b l f. absurd (f (z b)) }
+
+-- ── as it is checked ──
+-- what holds of all numbers below k and of k
+pub one-more : (A : ℕ → Type 0) (k : ℕ) → ((j : ℕ) → j < k → A j) → A k → (j : ℕ) → j < k + 1 → A j
+one-more A k f a j l = elim (same? j k) [
+  | inl e ↦ subst A (sym e) a
+  | inr g ↦ f j (omega (arith, l, g))
+]
+
+-- one word more
+words-last : (a : List ℕ) (i k : ℕ) → wordsFrom a i (suc k) ≡ wordsFrom a i k ++ (getD a (i + k) 0 ∷ [])
+unfolding wordsFrom
+words-last a i zero = let e : i ≡ i + 0 = omega arith in ap (λ (j : ℕ). getD a j 0 ∷ []) e
+words-last a i (suc k) =
+    let e : suc i + k ≡ i + suc k = omega arith in
+    ap (λ (l : List ℕ). getD a i 0 ∷ l) (words-last a (suc i) k ∙ ap (λ (j : ℕ). wordsFrom a (suc i) k ++ (getD a j 0 ∷ [])) e)
+
+words-end : (a : List ℕ) (i k : ℕ) → wordsFrom a i (k + 1) ≡ wordsFrom a i k ++ (getD a (i + k) 0 ∷ [])
+words-end a i k = ap (wordsFrom a i) (add-one k) ∙ words-last a i k
+
 module _ (t mem : List ℕ) (b : ℕ) where
-  module _ (a : ℕ) where
-    pub row-start : 0 ≡ rowNumber t mem b a (a - a)
-    unfolding rowNumber
-    row-start = let z : 0 ≡ a - a = omega arith in ap (rowNumber t mem b a) z
+  pub cell-none : (plan : List ℕ) (o r x w : ℕ) → x ≡ symbolWord t r 1 → w ≡ saidOf mem b x → w ≡ 0 → Cell t mem b plan o r
+  cell-none plan o r x w e f z v g =
+      let h : w ≡ suc v = f ∙ ap (saidOf mem b) e ∙ g in
+      absurd (omega (arith, z, h))
 
-    -- one more, as code adds it
-    pub row-more : (r v x w : ℕ) → a ≤ r → v ≡ rowNumber t mem b a (r - a) → x ≡ symbolWord t r 1 → w ≡ saidOf mem b x
-        → 4 * v + w ≡ rowNumber t mem b a (r + 1 - a)
-    unfolding rowNumber
-    row-more r v x w l e f g =
-        let z : suc (r - a) ≡ r + 1 - a = omega (arith, l) in
-        let y : r ≡ a + (r - a) = omega (arith, l) in
-        ap₂ (λ (y z : ℕ). 4 * y + z) e (g ∙ ap (saidOf mem b) f ∙ ap (wordOf t mem b) y) ∙ ap (rowNumber t mem b a) z
+  pub cell-some : (plan : List ℕ) (o r x w u : ℕ) → x ≡ symbolWord t r 1 → w ≡ saidOf mem b x → u ≡ getD plan (o + r) 0 → u + 1 ≡ w → Cell t mem b plan o r
+  cell-some plan o r x w u e f h z v g =
+      let k : w ≡ suc v = f ∙ ap (saidOf mem b) e ∙ g in
+      omega (arith, z, k, h)
 
-    -- one less, as code takes it off
-    pub row-less : (r v : ℕ) → a < r → v ≡ rowNumber t mem b a (r - a) → (v % 4 ≡ wordOf t mem b (r - 1)) × (v / 4 ≡ rowNumber t mem b a (r - 1 - a))
-    unfolding rowNumber
-    row-less r v l e =
-        let k : ℕ = r - 1 - a in
-        let z : r - a ≡ suc k = omega (arith, l) in
-        let y : a + k ≡ r - 1 = omega (arith, l) in
-        let s : wordOf t mem b (a + k) ≤ 3 = said-small mem b (symbolWord t (a + k) 1) in
-        let f : v ≡ 4 * rowNumber t mem b a k + wordOf t mem b (a + k) = e ∙ ap (rowNumber t mem b a) z in
-        let q : v % 4 ≡ wordOf t mem b (a + k) = omega (arith, f, s) in
-        let d : v / 4 ≡ rowNumber t mem b a k = omega (arith, f, s) in
-        (q ∙ ap (wordOf t mem b) y, d)
+  -- a symbol more: it is open or not
+  open-more : (l : List ℕ) (r : ℕ) → wordOf t mem b r ≡ 0 → opensOf t mem b (l ++ (r ∷ [])) ≡ opensOf t mem b l ++ (r ∷ [])
+  unfolding opensOf
+  open-more [] r e = ap (λ (c : Bool). cond c (r ∷ []) []) (eq-eqb (wordOf t mem b r) 0 e)
+  open-more (x ∷ l) r e = ap (λ (k : List ℕ). cond (eqb (wordOf t mem b x) 0) (x ∷ k) k) (open-more l r e) ∙ out (eqb (wordOf t mem b x) 0)
+    where
+      out : (c : Bool) → cond c (x ∷ (opensOf t mem b l ++ (r ∷ []))) (opensOf t mem b l ++ (r ∷ [])) ≡ cond c (x ∷ opensOf t mem b l) (opensOf t mem b l) ++ (r ∷ [])
+      out true = refl
+      out false = refl
 
-    row-small : (r : ℕ) → rowNumber t mem b a r < 4 ^ r
-    unfolding rowNumber
-    row-small zero = omega arith
-    row-small (suc r) = omega (arith, row-small r, said-small mem b (symbolWord t (a + r) 1), pow-suc 4 r)
+  shut-more : (l : List ℕ) (r : ℕ) → (wordOf t mem b r ≡ 0 → ⊥) → opensOf t mem b (l ++ (r ∷ [])) ≡ opensOf t mem b l
+  unfolding opensOf
+  shut-more [] r f = ap (λ (c : Bool). cond c (r ∷ []) []) (ne-eqb (wordOf t mem b r) 0 f)
+  shut-more (x ∷ l) r f = ap (λ (k : List ℕ). cond (eqb (wordOf t mem b x) 0) (x ∷ k) k) (shut-more l r f)
 
-    -- so many symbols have room
-    pub row-fits : (r : ℕ) → r ≤ 31 → rowNumber t mem b a r < 4611686018427387904
-    row-fits r l =
-        let h : 4 ^ r ≤ 4 ^ 31 = pow-le-pow-right (omega arith) l in
-        let e : 4 ^ 31 ≡ 4611686018427387904 = refl in
-        omega (arith, row-small r, h, e)
+  module _ (order : List ℕ) (n : ℕ) (plan : List ℕ) (i : ℕ) where
+    pub opens-none : Opens t mem order n b plan i 0 0
+    unfolding wordsFrom opensOf
+    opens-none = record { listed = refl; small = λ k l. absurd (omega (arith, l)) }
 
--- as code counts the first ones
-pub first-all : (n : ℕ) → n ≤ 31 → n ≡ inFirst n
-unfolding inFirst
-first-all n l = sym (ap (λ (c : Bool). cond c 31 n) (le-ltb 31 n l))
+    -- as code reads the next symbol
+    module _ (j k r x w : ℕ) (e : r ≡ getD order j 0) (f : x ≡ symbolWord t r 1) (g : w ≡ saidOf mem b x) where
+      next : wordsFrom order 0 (j + 1) ≡ wordsFrom order 0 j ++ (r ∷ [])
+      next =
+          let z : 0 + j ≡ j = omega arith in
+          words-end order 0 j ∙ ap (λ (y : ℕ). wordsFrom order 0 j ++ (y ∷ [])) (ap (λ (y : ℕ). getD order y 0) z ∙ sym e)
 
-pub first-some : (n : ℕ) → 31 < n → 31 ≡ inFirst n
-unfolding inFirst
-first-some n l = sym (ap (λ (c : Bool). cond c 31 n) (lt-ltb 31 n l))
+      heard : w ≡ wordOf t mem b r
+      heard = g ∙ ap (saidOf mem b) f
 
--- ── the bits ──
-pub with-more : (mem : List ℕ) (b k w : ℕ) → Takes mem b k → AllTake mem b w → AllTake mem b (bitOr w (2 ^ k))
-with-more mem b k w a o j l h = go (ℕ-discrete k j)
-  where
-    go : Dec (k ≡ j) → Takes mem b j
-    go (yes e) = subst (Takes mem b) e a
-    go (no f) = o j l (ap (λ (y : ℕ). eqb y 1) (sym (bit-or w (2 ^ k) j ∙ ap (max _) (bit-pow-other k j f) ∙ max-zero _)) ∙ h)
+      pub opens-shut : (w ≡ 0 → ⊥) → Opens t mem order n b plan i j k → Opens t mem order n b plan i (j + 1) k
+      opens-shut z o = record {
+        listed = o .listed ∙ sym (ap (opensOf t mem b) next ∙ shut-more (wordsFrom order 0 j) r (λ y. z (heard ∙ y)));
+        small = o .small;
+      }
+
+      pub opens-open : (v : ℕ) → w ≡ 0 → v ≡ getD plan (i + k) 0 → v ≡ r → r < n → Opens t mem order n b plan i j k → Opens t mem order n b plan i (j + 1) (k + 1)
+      opens-open v z d h l o = record {
+        listed =
+            words-end plan i k
+            ∙ ap₂ (λ (y : List ℕ) (u : ℕ). y ++ (u ∷ [])) (o .listed) (sym d ∙ h)
+            ∙ sym (ap (opensOf t mem b) next ∙ open-more (wordsFrom order 0 j) r (sym heard ∙ z));
+        small = one-more (λ (y : ℕ). getD plan (i + y) 0 < n) k (o .small) (omega (arith, d, h, l));
+      }
 
 -- as code finds it
 pub takes-just : (mem : List ℕ) (b k y w j : ℕ) → y ≡ getD mem (partsAt + k) 0 → w ≡ saidOf mem b y → w ≡ 3 → (0 < j → Key mem y j) → j ≡ k + 1 → Takes mem b k
 takes-just mem b k y w j e f g h i =
     subst (λ (x : ℕ). Key mem x (k + 1) × (saidOf mem b x ≡ 3)) e (subst (Key mem y) i (h (omega (arith, i))), sym f ∙ g)
 
-pub none-take : (mem : List ℕ) (b : ℕ) → AllTake mem b 0
-none-take mem b k l h = absurd (true≢false (sym h ∙ ap (λ (y : ℕ). eqb y 1) (bit-none k)))
-
--- ── the words ──
--- a word is stored, or there is no room for it
-set-cases : (l : List ℕ) (j v i : ℕ) → ((i ≡ j) × (getD (set l j v) i 0 ≡ v)) ⊎ (getD (set l j v) i 0 ≡ getD l i 0)
-set-cases l j v i = go (ℕ-discrete i j) (lt-or-ge j (length l))
-  where
-    go : Dec (i ≡ j) → (j < length l) ⊎ (length l ≤ j) → ((i ≡ j) × (getD (set l j v) i 0 ≡ v)) ⊎ (getD (set l j v) i 0 ≡ getD l i 0)
-    go (yes e) (inl h) = inl (e, ap (λ (k : ℕ). getD (set l j v) k 0) e ∙ getD-set-same l j v 0 h)
-    go (yes e) (inr h) = inr (ap (λ (k : List ℕ). getD k i 0) (set-out l j v h))
-    go (no f) h = inr (getD-set-other l j i v 0 f)
-
-module _ (t mem : List ℕ) (n : ℕ) where
-  pub planned-none : (plan : List ℕ) → ((j : ℕ) → getD plan j 0 ≡ 0) → Planned t mem n plan
-  planned-none plan z = record {
-    rows = λ b. inl (z (4 * b));
-    later = λ b. inl (z (4 * b + 1));
-    takes = λ b. subst (AllTake mem b) (sym (z (4 * b + 2))) (none-take mem b);
+-- the record as code reads it: m open symbols, c tasks, k keys that take the byte
+module _ (t mem order : List ℕ) (n : ℕ) (plan : List ℕ) (b o m c k : ℕ) where
+  pub recorded : o + n ≤ 5120 → ((r : ℕ) → r < n → Cell t mem b plan o r) → m ≡ openCount plan n o → c ≡ taskCount plan n o → m ≤ c
+      → Opens t mem order n b plan (o + n + 2) n m → ((j : ℕ) → j < c → m ≤ j → Task mem (getD plan (o + n + 2 + j) 0)) → k ≡ getD plan (o + n + 2 + c) 0
+      → ((j : ℕ) → j < k → Taker mem b (getD plan (o + n + 2 + c + 1 + j) 0)) → Recorded t mem order n plan b o
+  recorded f row em ec l opens keys ek takers = record {
+    fits = f;
+    row = λ r v h. row r h v;
+    opens = subst (λ (z : ℕ). wordsFrom plan (o + n + 2) z ≡ opensOf t mem b (wordsFrom order 0 n)) em (opens .listed);
+    below = λ j h. opens .small j (omega (arith, h, em));
+    first = omega (arith, em, ec, l);
+    keys = λ j h i. keys j (omega (arith, i, ec)) (omega (arith, h, em));
+    takes = λ j h. subst (λ (z : ℕ). Taker mem b (getD plan (o + n + 2 + z + 1 + j) 0)) ec (takers j (omega (arith, h, count)));
   }
-
-  module _ (plan : List ℕ) (b u x v w : ℕ) where
-    abbrev one : List ℕ
-    one = set plan (4 * b + 0) u
-
-    abbrev two : List ℕ
-    two = set one (4 * b + 1) x
-
-    abbrev three : List ℕ
-    three = set two (4 * b + 2) v
-
-    -- what holds of word i of each byte, the new one of b among them
-    kept : (A : ℕ → ℕ → Type 0) (l : List ℕ) (i y : ℕ) → A b y → ((d : ℕ) → A d (getD l (4 * d + i) 0)) → (d : ℕ) → A d (getD (set l (4 * b + i) y) (4 * d + i) 0)
-    kept A l i y r o d = elim (set-cases l (4 * b + i) y (4 * d + i)) [
-      | inl e ↦ (let f : b ≡ d = omega (arith, e .0) in subst (A d) (sym (e .1)) (subst (λ (k : ℕ). A k y) f r))
-      | inr e ↦ subst (A d) (sym e) (o d)
-    ]
-
-    -- another word of a byte
-    aside : (A : ℕ → ℕ → Type 0) (l : List ℕ) (i j y : ℕ) → i < 4 → j < 4 → (i ≡ j → ⊥) → ((d : ℕ) → A d (getD l (4 * d + i) 0))
-        → (d : ℕ) → A d (getD (set l (4 * b + j) y) (4 * d + i) 0)
-    aside A l i j y m h f o d = subst (A d) (sym (getD-set-other l (4 * b + j) (4 * d + i) y 0 (λ e. f (omega (arith, m, h, e))))) (o d)
-
-    abbrev Low : ℕ → ℕ → Type 0
-    Low d y = Row t mem 0 (inFirst n) d y
-
-    abbrev High : ℕ → ℕ → Type 0
-    High d y = Row t mem (inFirst n) n d y
-
-    zero-more : (d : ℕ) → 4 * d + 0 ≡ 4 * d
-    zero-more d = omega arith
-
-    low-four : Low b u → Planned t mem n plan → (d : ℕ) → Low d (getD (set three (4 * b + 3) w) (4 * d + 0) 0)
-    low-four r o =
-        aside Low three 0 3 w (omega arith) (omega arith) (λ e. omega (arith, e))
-        (aside Low two 0 2 v (omega arith) (omega arith) (λ e. omega (arith, e))
-        (aside Low one 0 1 x (omega arith) (omega arith) (λ e. omega (arith, e))
-        (kept Low plan 0 u r (λ d. subst (λ (j : ℕ). Low d (getD plan j 0)) (sym (zero-more d)) (o .rows d)))))
-
-    pub planned-byte : Row t mem 0 (inFirst n) b u → Row t mem (inFirst n) n b x → AllTake mem b v → Planned t mem n plan
-        → Planned t mem n (set (set (set (set plan (4 * b + 0) u) (4 * b + 1) x) (4 * b + 2) v) (4 * b + 3) w)
-    planned-byte r q a o = record {
-      rows = λ d. subst (λ (j : ℕ). Low d (getD (set three (4 * b + 3) w) j 0)) (zero-more d) (low-four r o d);
-      later =
-          aside High three 1 3 w (omega arith) (omega arith) (λ e. omega (arith, e))
-          (aside High two 1 2 v (omega arith) (omega arith) (λ e. omega (arith, e))
-          (kept High one 1 x q (aside High plan 1 0 u (omega arith) (omega arith) (λ e. omega (arith, e)) (o .later))));
-      takes =
-          aside (AllTake mem) three 2 3 w (omega arith) (omega arith) (λ e. omega (arith, e))
-          (kept (AllTake mem) two 2 v a
-          (aside (AllTake mem) one 2 1 x (omega arith) (omega arith) (λ e. omega (arith, e))
-          (aside (AllTake mem) plan 2 0 u (omega arith) (omega arith) (λ e. omega (arith, e)) (o .takes))));
-    }
+    where
+      count : k ≡ takerCount plan n o
+      count = ek ∙ ap (λ (z : ℕ). getD plan (o + n + 2 + z) 0) ec
 
 -- ── only what stands before the entries counts ──
 module _ (t old new : List ℕ) (f : Front old new) where
   same-said : (b x : ℕ) → saidOf new b x ≡ saidOf old b x
   same-said = said-same old new (λ j l m. f j m)
 
-  digits-same : (b a r : ℕ) → rowNumber t new b a r ≡ rowNumber t old b a r
-  unfolding rowNumber
-  digits-same b a zero = refl
-  digits-same b a (suc r) = ap₂ (λ (y z : ℕ). 4 * y + z) (digits-same b a r) (same-said b (symbolWord t (a + r) 1))
+  opens-same : (b : ℕ) (l : List ℕ) → opensOf t new b l ≡ opensOf t old b l
+  unfolding opensOf
+  opens-same b [] = refl
+  opens-same b (r ∷ l) = ap₂ (λ (w : ℕ) (k : List ℕ). cond (eqb w 0) (r ∷ k) k) (same-said b (symbolWord t r 1)) (opens-same b l)
 
-  row-same : (lo hi b w : ℕ) → Row t old lo hi b w → Row t new lo hi b w
-  row-same lo hi b w (inl e) = inl e
-  row-same lo hi b w (inr e) = inr (e ∙ ap (λ (z : ℕ). z + 1) (sym (digits-same b lo (hi - lo))))
-
-  take-same : (b k : ℕ) → k < 64 → Takes old b k → Takes new b k
+  pub take-same : (b k : ℕ) → k < 1025 → Takes old b k → Takes new b k
   take-same b k l ((i, z, e), s) =
       subst (λ (x : ℕ). Key new x (k + 1) × (saidOf new b x ≡ 3)) (sym (f (partsAt + k) (omega arith)))
       ((i, z, f (keysAt + getD old (partsAt + k) 0) (omega arith) ∙ e), same-said b (getD old (partsAt + k) 0) ∙ s)
 
-  pub planned-front : (n : ℕ) (plan : List ℕ) → Planned t old n plan → Planned t new n plan
-  planned-front n plan o = record {
-    rows = λ b. row-same 0 (inFirst n) b (getD plan (4 * b) 0) (o .rows b);
-    later = λ b. row-same (inFirst n) n b (getD plan (4 * b + 1) 0) (o .later b);
-    takes = λ b k l h. take-same b k l (o .takes b k l h);
-  }
+  module _ (order : List ℕ) (n : ℕ) (plan : List ℕ) where
+    record-front : (b o : ℕ) → Recorded t old order n plan b o → Recorded t new order n plan b o
+    record-front b o r = record {
+      fits = r .fits;
+      row = λ j v l e. r .row j v l (sym (same-said b (symbolWord t j 1)) ∙ e);
+      opens = r .opens ∙ sym (opens-same b (wordsFrom order 0 n));
+      below = r .below;
+      first = r .first;
+      keys = λ j l h. (r .keys j l h .0, omega (arith, r .keys j l h .1, f countAt (omega arith)));
+      takes = λ j l. (r .takes j l .0, take-same b (takerAt plan n o j) (r .takes j l .0) (r .takes j l .1));
+    }
 
--- ── as it is read ──
-row-read : (t mem : List ℕ) (lo hi b w : ℕ) → Row t mem lo hi b w → (w ≡ 0 → ⊥) → w - 1 ≡ rowNumber t mem b lo (hi - lo)
-row-read t mem lo hi b w (inl e) f = absurd (f e)
-row-read t mem lo hi b w (inr e) f = omega (arith, e)
-
-module _ (t mem plan : List ℕ) (n b w m : ℕ) (o : Planned t mem n plan) (is : m ≡ inFirst n) (some : w ≡ 0 → ⊥) where
-  pub planned-row : w ≡ getD plan (4 * b + 0) 0 → w - 1 ≡ rowNumber t mem b 0 (m - 0)
-  planned-row e =
-      let z : 4 * b + 0 ≡ 4 * b = omega arith in
-      let g : getD plan (4 * b) 0 ≡ w = sym (e ∙ ap (λ (j : ℕ). getD plan j 0) z) in
-      row-read t mem 0 m b w (subst (λ (k : ℕ). Row t mem 0 k b w) (sym is) (subst (Row t mem 0 (inFirst n) b) g (o .rows b))) some
-
-  pub planned-later : w ≡ getD plan (4 * b + 1) 0 → w - 1 ≡ rowNumber t mem b m (n - m)
-  planned-later e = row-read t mem m n b w (subst (λ (k : ℕ). Row t mem k n b w) (sym is) (subst (Row t mem (inFirst n) n b) (sym e) (o .later b))) some
-
-pub planned-takes : (t old new plan s : List ℕ) (n p b k w : ℕ) → Planned t old n plan → Front old new → b ≡ byteAt s p → w ≡ getD plan (4 * b + 2) 0 → k < 64
-    → holds w k ≡ true → Takes new (byteAt s p) k
-planned-takes t old new plan s n p b k w o f e g l h =
-    subst (λ (d : ℕ). Takes new d k) e (planned-front t old new f n plan o .takes b k l (ap (λ (z : ℕ). holds z k) (sym g) ∙ h))
+    pub planned-front : Planned t old order n plan → Planned t new order n plan
+    planned-front o = record { records = λ b l h. record-front b (getD plan b 0) (o .records b l h) }
 
 -- such a part takes the byte at a place
 pub takes-one : (t s cs mem : List ℕ) (n p k : ℕ) → Knows t s cs n mem p p → p ≤ length s → Takes mem (byteAt s p) k

@@ -14,7 +14,7 @@ use Rattle.match_cells.proofs.filling.preset.Reads as reads
 use Rattle.match_cells.proofs.filling.preset.Lts as lts
 use Rattle.base_words.proofs.put.Reads as put-reads
 use Rattle.grammar_table.proofs.records.body.Reads as body-reads
-use Rattle.match_plan.proofs.with.Reads as with-reads
+use Rattle.match_cells.proofs.filling.with.Reads as with-reads
 use Rattle.match_eval.proofs.memory.said.Reads as said-reads
 
 abbrev Inv-loop : tie.InvT-loop

@@ -1,0 +1,2 @@
+-- Contracts in the shape of the code.
+pub mod Lists
