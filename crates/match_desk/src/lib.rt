@@ -1,5 +1,6 @@
-// What the list keeps in words of its own: which expressions hold a symbol, the symbol's use that was entered on each level, and each expression's parent.
-// Parents serve in place of a stack of tasks, since in a table of a grammar no expression is a part twice. Expressions are 1 + their number; 0 is none.
+// What the list keeps in words of its own: which expressions hold a symbol, the symbol's use that was entered on each level, what bytes decide of rounds (the
+// lanes, which others lay), and each expression's parent. Parents serve in place of a stack of tasks, since in a table of a grammar no expression is a part
+// twice. Expressions are 1 + their number; 0 is none.
 ghost use Prim.Native.Nat.{_+_, _-_, _≤_, _<_};
 ghost use mathlib.Core.Path.{_≡_};
 ghost use lib.ListN.{set};
@@ -9,12 +10,16 @@ ghost use Rattle.match_desk.specs.steps.Parts.{Made};
 use base_words::put;
 use base_words::word;
 
-// Marks, one for each expression, stand first. Then the returns, one for each level, and the parents.
+// Marks, one for each expression, stand first. Then the returns, one for each level; the lanes, 4 of 256 words, and each expression's lane; and the parents.
 pub const RETURNS_AT: usize = 1025;
 
-pub const PARENTS_AT: usize = 1282;
+pub const LANES_AT: usize = 1282;
 
-pub const WORDS: usize = 2307;
+pub const LANE_OF_AT: usize = 2306;
+
+pub const PARENTS_AT: usize = 3331;
+
+pub const WORDS: usize = 4356;
 
 // The mark of an expression that holds a symbol outside guards. 0: it lists no node.
 const HOLDS: usize = 1;

@@ -335,6 +335,11 @@ pub fn piece(
         let y = grammar_table::part(l, e);
         let v = memory::said(mem, y, b);
         if v == 3 {
+            let d = byte_at(s, p + 1);
+            let u = memory::said(mem, y, d);
+            if u == 1 {
+                return 2;
+            }
             return many_at(t, s, cells, mem, n, y, p) + 1;
         }
     }

@@ -1,2 +1,3 @@
 -- Laws of the definitions beside this file.
 pub mod Lone
+pub mod Lanes

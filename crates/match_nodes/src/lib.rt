@@ -12,6 +12,7 @@ ghost use Rattle.match_list.specs.Nodes.{listOf, listingOf, wordsOf, roomOf};
 ghost use Rattle.match_desk.specs.steps.Desk.{Desk};
 ghost use Rattle.match_walks.specs.steps.Tasks.{enter as entering, after, listed, AllAble};
 ghost use Rattle.match_walks.specs.steps.Waits.{going, waiting, tasksOf, climb};
+ghost use Rattle.match_lone.specs.steps.Lanes.{Laid, Behind};
 ghost use Rattle.match_nodes.specs.steps.Passes.{out, note as noted, run, decode};
 ghost use Rattle.match_nodes.specs.steps.Turns.{Ready, said, Left, State, Turned};
 ghost use Rattle.match_nodes.specs.steps.Lanes.{Laned, Strides};
@@ -41,10 +42,11 @@ const NO_ROOM: usize = 9223372036854775808;
 // No expression: where the start symbol is used.
 const NOWHERE: usize = 2047;
 
-// What a pass keeps: how many symbols, how many nodes there is room for, and whether it writes.
+// What a pass keeps: how many symbols, how many nodes there is room for, how many words of the desk's lanes are laid, and whether it writes.
 struct Setting {
     n: usize,
     room: usize,
+    lanes: usize,
     write: usize,
 }
 
@@ -106,7 +108,8 @@ fn enter(
         (out (now (nodes .exit)) (r .at))
         (entering (e .symbol) (e .level)
         ∷ (going (now (t .entry)) (now (desk .entry)) (e .level) (e .x) ++ waiting (now (t .entry)) (now (desk .entry)) (e .level)))
-        (e .place) 0 (now (desk .exit)) (r .mode) (r .level) (r .x) (r .place) ⌝ }
+        (e .place) 0 (now (desk .exit)) (r .mode) (r .level) (r .x) (r .place)
+        × Behind (now (desk .entry)) (now (desk .exit)) ⌝ }
 {
     let r = e.symbol;
     let d = e.level;
@@ -172,7 +175,8 @@ fn by_byte(
 ) -> Reached
     requires { ⌜ Ready (now t) (now s) (now cells) (tour .setting .n) × Desk (now t) (now desk) (expressionCount (now t))
         × (tour .stand .at < 4611686018427387904) × (tour .stand .level ≤ 256) × (tour .stand .x ≤ expressionCount (now t))
-        × (tour .stand .place ≤ length (now s)) × Knows (now t) (now s) (now cells) (tour .setting .n) (now mem) 0 0 ⌝ }
+        × (tour .stand .place ≤ length (now s)) × Knows (now t) (now s) (now cells) (tour .setting .n) (now mem) 0 0
+        × Laid (now t) (now mem) (now desk) (tour .setting .lanes) ⌝ }
     ensures { λ r.
         ⌜ Laned (now (t .entry)) (now (s .entry)) (now (cells .entry)) (tour .setting .n) (tour .setting .room) (tour .setting .write)
         (out (now (nodes .entry)) (tour .stand .at)) (out (now (nodes .exit)) (r .at)) (tour .stand .x) (tour .stand .level) (tour .stand .place) (r .place) ⌝ }
@@ -181,7 +185,7 @@ fn by_byte(
     let st = tour.stand;
     let p = st.place;
     let b = match_eval::byte_at(s, p);
-    let r = match_lone::lone(t, mem, desk, st.x, b);
+    let r = match_lone::lane_of(t, mem, desk, g.lanes, st.x, b);
     if r == match_lone::UNKNOWN {
         return Reached {
             place: p,
@@ -213,7 +217,8 @@ fn stride(
 ) -> Reached
     requires { ⌜ Ready (now t) (now s) (now cells) (tour .setting .n) × Desk (now t) (now desk) (expressionCount (now t))
         × (tour .stand .at < 4611686018427387904) × (tour .stand .level ≤ 256) × (tour .stand .x ≤ expressionCount (now t))
-        × (tour .stand .place ≤ length (now s)) × Knows (now t) (now s) (now cells) (tour .setting .n) (now mem) 0 0 ⌝ }
+        × (tour .stand .place ≤ length (now s)) × Knows (now t) (now s) (now cells) (tour .setting .n) (now mem) 0 0
+        × Laid (now t) (now mem) (now desk) (tour .setting .lanes) ⌝ }
     ensures { λ r.
         ⌜ Laned (now (t .entry)) (now (s .entry)) (now (cells .entry)) (tour .setting .n) (tour .setting .room) (tour .setting .write)
         (out (now (nodes .entry)) (tour .stand .at)) (out (now (nodes .exit)) (r .at)) (tour .stand .x) (tour .stand .level) (tour .stand .place) (r .place) ⌝ }
@@ -259,7 +264,8 @@ fn lane(
 ) -> Reached
     requires { ⌜ Ready (now t) (now s) (now cells) (tour .setting .n) × Desk (now t) (now desk) (expressionCount (now t))
         × (tour .stand .at < 4611686018427387904) × (tour .stand .level ≤ 256) × (tour .stand .x < 4294967296)
-        × (tour .stand .place ≤ length (now s)) × Knows (now t) (now s) (now cells) (tour .setting .n) (now mem) 0 0 ⌝ }
+        × (tour .stand .place ≤ length (now s)) × Knows (now t) (now s) (now cells) (tour .setting .n) (now mem) 0 0
+        × Laid (now t) (now mem) (now desk) (tour .setting .lanes) ⌝ }
     ensures { λ r.
         ⌜ Strides (now (t .entry)) (now (s .entry)) (now (cells .entry)) (tour .setting .n) (tour .setting .room) (tour .setting .write) (now (desk .entry))
         (out (now (nodes .entry)) (tour .stand .at)) (out (now (nodes .exit)) (r .at)) (tour .stand .x) (tour .stand .level) (tour .stand .place) (r .place) ⌝ }
@@ -286,12 +292,13 @@ fn turn(
 ) -> Stand
     requires { ⌜ Ready (now t) (now s) (now cells) (tour .setting .n) × (tour .stand .at < 4611686018427387904) × (0 < tour .stand .mode)
         × State (now t) (now s) (now cells) (tour .setting .n) (now desk) (tour .stand .mode) (tour .stand .level) (tour .stand .x) (tour .stand .place)
-        × Knows (now t) (now s) (now cells) (tour .setting .n) (now mem) 0 0 ⌝ }
+        × Knows (now t) (now s) (now cells) (tour .setting .n) (now mem) 0 0 × Laid (now t) (now mem) (now desk) (tour .setting .lanes) ⌝ }
     ensures { λ r.
         ⌜ Turned (now (t .entry)) (now (s .entry)) (now (cells .entry)) (tour .setting .n) (tour .setting .room) (tour .setting .write)
         (out (now (nodes .entry)) (tour .stand .at)) (out (now (nodes .exit)) (r .at))
         (tasksOf (now (t .entry)) (now (desk .entry)) (tour .stand .mode) (tour .stand .level) (tour .stand .x)) (tour .stand .place)
-        (climb (tour .stand .mode) (tour .stand .level) (tour .stand .x)) (now (desk .exit)) (r .mode) (r .level) (r .x) (r .place) ⌝ }
+        (climb (tour .stand .mode) (tour .stand .level) (tour .stand .x)) (now (desk .exit)) (r .mode) (r .level) (r .x) (r .place)
+        × Behind (now (desk .entry)) (now (desk .exit)) ⌝ }
 {
     let g = tour.setting;
     let st = tour.stand;
@@ -361,12 +368,12 @@ fn go_on(
 ) -> usize
     requires { ⌜ Ready (now t) (now s) (now cells) (tour .setting .n) × (tour .stand .at < 4611686018427387904)
         × State (now t) (now s) (now cells) (tour .setting .n) (now desk) (tour .stand .mode) (tour .stand .level) (tour .stand .x) (tour .stand .place)
-        × Knows (now t) (now s) (now cells) (tour .setting .n) (now mem) 0 0 ⌝ }
+        × Knows (now t) (now s) (now cells) (tour .setting .n) (now mem) 0 0 × Laid (now t) (now mem) (now desk) (tour .setting .lanes) ⌝ }
     ensures { λ v. ⌜ (out (now (nodes .exit)) v
         ≡ run (tour .setting .room) (tour .setting .write) (out (now (nodes .entry)) (tour .stand .at))
         (listed (now (t .entry)) (now (s .entry)) (now (cells .entry)) (tour .setting .n)
         (tasksOf (now (t .entry)) (now (desk .entry)) (tour .stand .mode) (tour .stand .level) (tour .stand .x)) (tour .stand .place)))
-        × Desk (now (t .entry)) (now (desk .exit)) (expressionCount (now (t .entry))) ⌝ }
+        × Desk (now (t .entry)) (now (desk .exit)) (expressionCount (now (t .entry))) × Behind (now (desk .entry)) (now (desk .exit)) ⌝ }
 {
     let g = tour.setting;
     let first = tour.stand;
@@ -411,10 +418,10 @@ fn pass(
     desk: &mut [u32],
 ) -> usize
     requires { ⌜ Ready (now t) (now s) (now cells) (g .n) × Desk (now t) (now desk) (expressionCount (now t))
-        × Knows (now t) (now s) (now cells) (g .n) (now mem) 0 0 ⌝ }
+        × Knows (now t) (now s) (now cells) (g .n) (now mem) 0 0 × Laid (now t) (now mem) (now desk) (g .lanes) ⌝ }
     ensures { λ v. ⌜ (out (now (nodes .exit)) v
         ≡ run (g .room) (g .write) (out (now (nodes .entry)) 0) (listOf (bodiesOf (now (t .entry))) (now (s .entry)) (now (cells .entry))))
-        × Desk (now (t .entry)) (now (desk .exit)) (expressionCount (now (t .entry))) ⌝ }
+        × Desk (now (t .entry)) (now (desk .exit)) (expressionCount (now (t .entry))) × Behind (now (desk .entry)) (now (desk .exit)) ⌝ }
 {
     let c = match_eval::cell_at(s, cells, g.n, 0, 0);
     if c == 0 {
@@ -468,9 +475,11 @@ pub fn list(t: &Table, s: &[u8], cells: &[u32], mem: &Memory, n: usize, nodes: &
     let room = nodes.len() / match_list::NODE_WORDS;
     let mut desk: [u32; match_desk::WORDS] = [0; match_desk::WORDS];
     match_desk::learn_all(t, &mut desk);
+    let lanes = match_lone::lay_all(t, mem, &mut desk);
     let look_only = Setting {
         n: n,
         room: room,
+        lanes: lanes,
         write: 0,
     };
     let v = pass(t, s, cells, mem, nodes, look_only, &mut desk);
@@ -480,6 +489,7 @@ pub fn list(t: &Table, s: &[u8], cells: &[u32], mem: &Memory, n: usize, nodes: &
     let writing = Setting {
         n: n,
         room: room,
+        lanes: lanes,
         write: 1,
     };
     let i = pass(t, s, cells, mem, nodes, writing, &mut desk);

@@ -165,7 +165,7 @@ fn learn_byte(t: &Table, s: &[u8], cells: &[u32], mem: &mut Memory, n: usize, y:
     let k = key(mem, y);
     if k != 0 {
         if !go_on(mem, k, p) {
-            let c = match_eval::many(t, s, cells, mem, n, y, p + 1);
+            let c = match_eval::many_at(t, s, cells, mem, n, y, p + 1);
             note(mem, RUNS + k, k, p, c + 1);
         }
     }

@@ -9,7 +9,7 @@ ghost use Rattle.grammar_table.specs.Table.{expressionCount};
 ghost use Rattle.grammar_table.specs.Trees.{treeOf};
 ghost use Rattle.match_eval.specs.steps.Firsts.{byteAt, saidOf};
 ghost use Rattle.match_eval.specs.steps.Memory.{Knows};
-ghost use Rattle.match_desk.specs.steps.Desk.{Desk, Silent};
+ghost use Rattle.match_desk.specs.steps.Desk.{Desk, Silent, kindOf};
 ghost use Rattle.match_walks.specs.steps.Tasks.{takes};
 ghost use Rattle.match_walks.specs.steps.Picks.{Picked, Chosen};
 ghost use Rattle.match_walks.specs.steps.Walks.{Walkable, Walked, Risen};
@@ -50,7 +50,7 @@ fn whole(t: &Table, s: &[u8], cells: &[u32], mem: &Memory, n: usize, x: usize, p
     requires { ⌜ ((n ≤ 64) × (x < 2048) × (length (now s) ≤ 65535) × (p ≤ length (now s))) × Knows (now t) (now s) (now cells) n (now mem) 0 0 ⌝ }
     ensures { λ r. ⌜ Picked (now (t .entry)) (now (s .entry)) (now (cells .entry)) n x p r ⌝ }
 {
-    let v = match_eval::round(t, s, cells, mem, n, x, p);
+    let v = match_eval::part_at(t, s, cells, mem, n, x, p);
     if v == 0 {
         return FAILS;
     }
@@ -92,19 +92,50 @@ fn pick(t: &Table, s: &[u8], cells: &[u32], mem: &Memory, n: usize, x: usize, p:
     pick(t, s, cells, mem, n, z, p)
 }
 
-// Of a choice, one of whose parts matches.
+// Of a choice, one of whose parts matches, that part, or an alternative of it: where the byte at p rules out one part, nothing is evaluated.
+fn half(t: &Table, s: &[u8], cells: &[u32], mem: &Memory, n: usize, g: Seen, p: usize) -> usize
+    requires { ⌜ ((n ≤ 64) × (g .y < 2048) × (g .z < 2048) × (length (now s) ≤ 65535) × (p ≤ length (now s)))
+        × Knows (now t) (now s) (now cells) n (now mem) 0 0 ⌝ }
+    ensures { λ r. ⌜ Chosen (now (t .entry)) (now (s .entry)) (now (cells .entry)) n (g .y) (g .z) p r × ((r ≤ g .y) ⊎ (r ≤ g .z)) ⌝ }
+{
+    let y = g.y;
+    let z = g.z;
+    if barred(s, mem, z, p) {
+        return y;
+    }
+    let a = pick(t, s, cells, mem, n, y, p);
+    if a != FAILS {
+        return a;
+    }
+    z
+}
+
+// Whether x is a choice.
+fn is_choice(t: &Table, x: usize) -> bool
+    requires { ⌜ x < 2048 ⌝ }
+    ensures { λ r. ⌜ (r ≡ true → (0 < x) × (kindOf (now (t .entry)) x ≡ 3)) ⌝ }
+{
+    if x == 0 {
+        return false;
+    }
+    let op = grammar_table::records::op(t, x - 1);
+    op == grammar_table::CHOICE
+}
+
+// Of a choice, one of whose parts matches, the alternative that does.
 fn choose(t: &Table, s: &[u8], cells: &[u32], mem: &Memory, n: usize, g: Seen, p: usize) -> usize
     requires { ⌜ ((n ≤ 64) × (g .y < 2048) × (g .z < 2048) × (length (now s) ≤ 65535) × (p ≤ length (now s)))
         × Knows (now t) (now s) (now cells) n (now mem) 0 0 ⌝ }
     ensures { λ r. ⌜ Chosen (now (t .entry)) (now (s .entry)) (now (cells .entry)) n (g .y) (g .z) p r ⌝ }
 {
     let y = g.y;
-    let a = pick(t, s, cells, mem, n, y, p);
-    if a != FAILS {
-        return a;
-    }
     let z = g.z;
-    pick(t, s, cells, mem, n, z, p)
+    let mut x = half(t, s, cells, mem, n, g, p);
+    while is_choice(t, x) {
+        let h = look(t, x);
+        x = half(t, s, cells, mem, n, h, p);
+    }
+    x
 }
 
 // What lists no node is passed over by what it takes.

@@ -37,20 +37,30 @@ module _ (t k : List ℕ) (m : ℕ) (desk : Desk t k m) (few : m ≤ 1024) where
   pub no-parent : (x : ℕ) → 1025 ≤ x → parentOf k x ≡ 0
   no-parent x l = by-past x (desk .range x) l
 
+  -- ── a word is stored that is neither a mark nor a parent ──
+  module _ (j x : ℕ) (behind : returnsAt ≤ j) (before : j < parentsAt) where
+    abbrev desk′ : List ℕ
+    desk′ = set k j x
+
+    parents-same : (i : ℕ) → parentOf desk′ i ≡ parentOf k i
+    parents-same i = getD-set-other k j (parentsAt + i) x 0 (λ e. omega (arith, e, before))
+
+    pub desk-same : Desk t (set k j x) m
+    desk-same =
+        record {
+          size = length-set k j x ∙ desk .size;
+          parts = λ e l h.
+              keep (kindOf t e) e (leftPart t e) (rightPart t e) (λ i. parentOf k i) (λ i. parentOf k i) (λ i. parentOf desk′ i) (desk .parts e l h) (desk .parts e l h)
+              (λ i q. parents-same i);
+          roots = λ r l. parents-same _ ∙ desk .roots r l;
+          range = λ i. subst (λ (a : ℕ). (a ≡ 0) ⊎ ((i < a) × (a ≤ m))) (flip (parents-same i)) (desk .range i);
+          silent = λ e l h. desk .silent e l (flip (getD-set-other k j e x 0 (λ q. omega (arith, q, l, few, behind))) ∙ h);
+        }
+
   -- ── a level is entered ──
   module _ (d x : ℕ) (level : d ≤ 256) where
-    abbrev desk′ : List ℕ
-    desk′ = set k (returnsAt + d) x
-
-    pub parents-stay : (i : ℕ) → parentOf desk′ i ≡ parentOf k i
-    parents-stay i = getD-set-other k (returnsAt + d) (parentsAt + i) x 0 (λ e. omega (arith, e, level))
+    pub parents-stay : (i : ℕ) → parentOf (set k (returnsAt + d) x) i ≡ parentOf k i
+    parents-stay i = parents-same (returnsAt + d) x (omega arith) (omega (arith, level)) i
 
     pub desk-stays : Desk t (set k (returnsAt + d) x) m
-    desk-stays =
-        record {
-          size = length-set k (returnsAt + d) x ∙ desk .size;
-          parts = λ e l h. keep (kindOf t e) e (leftPart t e) (rightPart t e) (λ i. parentOf k i) (λ i. parentOf k i) (λ i. parentOf desk′ i) (desk .parts e l h) (desk .parts e l h) (λ i q. parents-stay i);
-          roots = λ r l. parents-stay _ ∙ desk .roots r l;
-          range = λ i. subst (λ (a : ℕ). (a ≡ 0) ⊎ ((i < a) × (a ≤ m))) (flip (parents-stay i)) (desk .range i);
-          silent = λ e l h. desk .silent e l (flip (getD-set-other k (returnsAt + d) e x 0 (λ q. omega (arith, q, l, few))) ∙ h);
-        }
+    desk-stays = desk-same (returnsAt + d) x (omega arith) (omega (arith, level))

@@ -1,5 +1,6 @@
--- What the list keeps in words of its own, 9 KiB in place of a stack of tasks: whether an expression holds a symbol, for each level the symbol's use that
--- was entered there, and the parent of each expression. Expressions are 1 + their number; 0 is none. Assumes nothing: these are definitions.
+-- What the list keeps in words of its own, 17 KiB in place of a stack of tasks: whether an expression holds a symbol, for each level the symbol's use that
+-- was entered there, what bytes decide of rounds, and the parent of each expression. Expressions are 1 + their number; 0 is none. Assumes nothing: these are
+-- definitions.
 use Prim.Native.Nat.{ℕ, zero, suc, _+_, _-_, _≤_, _<_}
 use mathlib.Core.Path.{_≡_}
 use mathlib.Core.Logic.{_⊎_}
@@ -11,15 +12,18 @@ use Rattle.grammar_table.specs.Trees.{treeOf, below}
 use Rattle.match_meaning.specs.Meaning.{Node}
 use Rattle.match_list.specs.Nodes.{walkOf}
 
--- marks stand first, then returns; parents stand last, so that what is no expression has none
+-- marks stand first, then returns, then lanes; parents stand last, so that what is no expression has none
 abbrev pub returnsAt : ℕ
 returnsAt = 1025
 
+abbrev pub lanesAt : ℕ
+lanesAt = 1282
+
 abbrev pub parentsAt : ℕ
-parentsAt = 1282
+parentsAt = 3331
 
 abbrev pub deskWords : ℕ
-deskWords = 2307
+deskWords = 4356
 
 abbrev pub markOf : List ℕ → ℕ → ℕ
 markOf k x = getD k x 0

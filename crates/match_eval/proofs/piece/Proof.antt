@@ -1,12 +1,13 @@
 -- `match_eval::piece` meets its contract. Assumes nothing.
 use mathlib.Core.Path.{sym, _∙_}
 use native.Mathlib.Omega.{arith}
-use Prim.Native.Nat.{_-_}
+use Prim.Native.Nat.{_+_, _-_, _≤_}
+use lib.ListN.{length}
 use Rattle.grammar_table.specs.Table.{nodeBy}
 use Rattle.grammar_table.specs.laws.Trees.{below-le}
 use Rattle.match_eval.specs.Eval.{ev}
 use Rattle.match_eval.specs.laws.Evaluated.{zero-tree, node-ev}
-use Rattle.match_eval.specs.laws.Memory.{said-right, said-plus, star-rounds, rounds-within}
+use Rattle.match_eval.specs.laws.Memory.{knows-from, said-right, said-ends, said-room, said-next, said-plus, star-rounds, rounds-within}
 use borrow.Author.Needs.{needs}
 use Rattle.match_eval.proofs.piece.Statement.{statement}
 use Rattle.match_eval.proofs.piece.Tie as tie
@@ -109,51 +110,123 @@ part-requires-2 c κs = search needs
 said-requires-2 : tie.Need-said-requires-2
 said-requires-2 c κs = search needs
 
+add-byte-at : tie.Need-add-byte-at
+add-byte-at c = search needs
+
+byte-at-requires-2 : tie.Need-byte-at-requires-2
+byte-at-requires-2 c κs = search needs
+
+said-requires-3 : tie.Need-said-requires-3
+said-requires-3 c κs = search needs
+
+-- a byte behind it that is no round
+returns-5 : tie.Need-returns-5
+returns-5 c =
+    let g = c .before .before .before .before .before .before .before .before .before .before .before .before .before .before .before .before .before .before .before .before .before .before .args in
+    let m : 3 ≤ c .before .before .before .before .before .said2 .result = omega (arith, c .before .before .before .before .if6 .taken) in
+    let room : g .p + 1 ≤ length (g .s .now) =
+    said-room (g .t .now) (g .s .now) (g .cells .now) (g .mem .now) (g .n) (g .p)
+    (c .before .before .before .before .before .before .before .before .before .before .before .before .before .before .before .before .before .before .before .before .before .before .pre .1)
+    (omega (
+      arith,
+      c .before .before .before .before .before .before .before .before .before .before .before .before .before .before .before .before .before .before .before .before .before .before
+          .pre .0,
+    )) (c .before .before .before .before .before .before .before .part2 .result)
+    (c .before .before .before .before .before .before .before .before .before .before .before .before .before .before .before .before .before .before .before .byte-at .result)
+    (c .before .before .before .before .before .said2 .result)
+    (c .before .before .before .before .before .before .before .before .before .before .before .before .before .before .before .before .before .before .before .byte-at .ensures .0)
+    (c .before .before .before .before .before .said2 .ensures) m in
+    said-plus (g .t .now) (g .s .now) (g .cells .now) (g .mem .now) (g .n) (g .p)
+    (c .before .before .before .before .before .before .before .before .before .before .before .before .before .before .before .before .before .before .before .before .before .before .pre .1)
+    (omega (
+      arith,
+      c .before .before .before .before .before .before .before .before .before .before .before .before .before .before .before .before .before .before .before .before .before .before
+          .pre .0,
+    )) (c .before .before .before .before .before .before .before .part2 .result)
+    (c .before .before .before .before .before .before .before .before .before .before .before .before .before .before .before .before .before .before .before .byte-at .result)
+    (c .before .before .before .before .before .said2 .result)
+    (c .before .before .before .before .before .before .before .before .before .before .before .before .before .before .before .before .before .before .before .byte-at .ensures .0)
+    (c .before .before .before .before .before .said2 .ensures) (g .x) (c .before .before .before .before .before .before .before .before .before .before .before .left .result) 1
+    (c .before .before .before .before .before .before .before .before .before .before .before .before .before .before .before .if2 .left) (sym
+    (c .before .before .before .before .before .before .before .before .if5 .taken) ∙ c .before .before .before .before .before .before .before .before .before .before .before .before .before
+    .op .ensures .0) (c .before .before .before .before .before .before .before .before .before .before .before .left .ensures .0)
+    (c .before .before .before .before .before .before .before .part2 .ensures) m
+    (said-next (g .t .now) (g .s .now) (g .cells .now) (g .mem .now) (g .n) (g .p)
+    (c .before .before .before .before .before .before .before .before .before .before .before .before .before .before .before .before .before .before .before .before .before .before .pre .1)
+    (omega (
+      arith,
+      c .before .before .before .before .before .before .before .before .before .before .before .before .before .before .before .before .before .before .before .before .before .before
+          .pre .0,
+    )) (c .before .before .before .before .before .before .before .part2 .result)
+    (c .before .before .before .before .before .before .before .before .before .before .before .before .before .before .before .before .before .before .before .byte-at .result)
+    (c .before .before .before .before .before .said2 .result)
+    (c .before .before .before .before .before .before .before .before .before .before .before .before .before .before .before .before .before .before .before .byte-at .ensures .0)
+    (c .before .before .before .before .before .said2 .ensures) 0 m
+    (said-ends (g .t .now) (g .s .now) (g .cells .now) (g .mem .now) (g .n) (g .p + 1)
+    (knows-from (g .t .now) (g .s .now) (g .cells .now) (g .mem .now) (g .n) 0 0 (g .p) (g .p + 1) (omega arith) (omega arith)
+    (c .before .before .before .before .before .before .before .before .before .before .before .before .before .before .before .before .before .before .before .before .before .before .pre
+    .1)) room (c .before .before .before .before .before .before .before .part2 .result)
+    (c .before .before .before .byte-at2 .result) (c .before .said3 .result) (c .before .before .before .byte-at2 .ensures .0) (c .before .said3 .ensures) (λ z. omega (arith, z, c .if7 .taken))
+    (omega (arith, c .if7 .taken))))
+
 many-at-requires-2 : tie.Need-many-at-requires-2
 many-at-requires-2 c κs = (
   omega (
     arith,
-    below-le (c .before .before .before .before .before .before .before .left .result)
-        (c .before .before .before .before .before .before .before .before .before .before .before .before .before .before .before .before .before .before .args .x - 1),
-    c .before .before .before .part2 .ensures,
-    c .before .before .before .before .before .before .before .before .before .before .before .if2 .left,
-    c .before .before .before .before .before .before .before .before .before .before .before .before .before .before .before .before .before .before .pre .0,
+    below-le (c .before .before .before .before .before .before .before .before .before .before .before .left .result)
+        (c .before .before .before .before .before .before .before .before .before .before .before .before .before .before .before .before .before .before .before .before .before .before .args .x
+        - 1),
+    c .before .before .before .before .before .before .before .part2 .ensures,
+    c .before .before .before .before .before .before .before .before .before .before .before .before .before .before .before .if2 .left,
+    c .before .before .before .before .before .before .before .before .before .before .before .before .before .before .before .before .before .before .before .before .before .before .pre .0,
   ),
-  c .before .before .before .before .before .before .before .before .before .before .before .before .before .before .before .before .before .before .pre .1,
+  c .before .before .before .before .before .before .before .before .before .before .before .before .before .before .before .before .before .before .before .before .before .before .pre .1,
 )
 
 add-result-2 : tie.Need-add-result-2
 add-result-2 c =
-    let g = c .before .before .before .before .before .before .before .before .before .before .before .before .before .before .before .before .before .before .before .args in
+    let g = c .before .before .before .before .before .before .before .before .before .before .before .before .before .before .before .before .before .before .before .before .before .before
+    .before .args in
     omega (
       arith,
-      rounds-within (g .t .now) (g .s .now) (g .cells .now) (g .n) (c .before .before .before .before .part2 .result) (g .p)
-          (omega (arith, c .before .before .before .before .before .before .before .before .before .before .before .before .before .before .before .before .before .before .before .pre .0)),
+      rounds-within (g .t .now) (g .s .now) (g .cells .now) (g .n) (c .before .before .before .before .before .before .before .before .part2 .result) (g .p)
+          (omega (
+            arith,
+            c .before .before .before .before .before .before .before .before .before .before .before .before .before .before .before .before .before .before .before .before .before
+                .before .before .pre .0,
+          )),
       c .many-at2 .ensures,
-      c .before .before .before .before .before .before .before .before .before .before .before .before .before .before .before .before .before .before .before .pre .0,
+      c .before .before .before .before .before .before .before .before .before .before .before .before .before .before .before .before .before .before .before .before .before .before .before .pre .0,
     )
 
-returns-5 : tie.Need-returns-5
-returns-5 c =
-    let g = c .before .before .before .before .before .before .before .before .before .before .before .before .before .before .before .before .before .before .before .args in
+returns-6 : tie.Need-returns-6
+returns-6 c =
+    let g = c .before .before .before .before .before .before .before .before .before .before .before .before .before .before .before .before .before .before .before .before .before .before
+    .before .args in
     said-plus (g .t .now) (g .s .now) (g .cells .now) (g .mem .now) (g .n) (g .p)
-    (c .before .before .before .before .before .before .before .before .before .before .before .before .before .before .before .before .before .before .before .pre .1)
-    (omega (arith, c .before .before .before .before .before .before .before .before .before .before .before .before .before .before .before .before .before .before .before .pre .0))
-    (c .before .before .before .before .part2 .result)
-    (c .before .before .before .before .before .before .before .before .before .before .before .before .before .before .before .before .byte-at .result) (c .before .before .said2 .result)
-    (c .before .before .before .before .before .before .before .before .before .before .before .before .before .before .before .before .byte-at .ensures .0)
-    (c .before .before .said2 .ensures) (g .x)
-    (c .before .before .before .before .before .before .before .before .left .result) (c .many-at2 .result)
-    (c .before .before .before .before .before .before .before .before .before .before .before .before .if2 .left)
-    (sym (c .before .before .before .before .before .if5 .taken) ∙ c .before .before .before .before .before .before .before .before .before .before .op .ensures .0)
-    (c .before .before .before .before .before .before .before .before .left .ensures .0)
-    (c .before .before .before .before .part2 .ensures) (omega (arith, c .before .if6 .taken)) (c .many-at2 .ensures)
+    (c .before .before .before .before .before .before .before .before .before .before .before .before .before .before .before .before .before .before .before .before .before .before .before .pre .1)
+    (omega (
+      arith,
+      c .before .before .before .before .before .before .before .before .before .before .before .before .before .before .before .before .before .before .before .before .before
+          .before .before .pre .0,
+    ))
+    (c .before .before .before .before .before .before .before .before .part2 .result)
+    (c .before .before .before .before .before .before .before .before .before .before .before .before .before .before .before .before .before .before .before .before .byte-at .result)
+    (c .before .before .before .before .before .before .said2 .result)
+    (c .before .before .before .before .before .before .before .before .before .before .before .before .before .before .before .before .before .before .before .before .byte-at .ensures .0)
+    (c .before .before .before .before .before .before .said2 .ensures) (g .x)
+    (c .before .before .before .before .before .before .before .before .before .before .before .before .left .result) (c .many-at2 .result)
+    (c .before .before .before .before .before .before .before .before .before .before .before .before .before .before .before .before .if2 .left)
+    (sym (c .before .before .before .before .before .before .before .before .before .if5 .taken) ∙ c .before .before .before .before .before .before .before .before .before .before .before
+    .before .before .before .op .ensures .0)
+    (c .before .before .before .before .before .before .before .before .before .before .before .before .left .ensures .0)
+    (c .before .before .before .before .before .before .before .before .part2 .ensures) (omega (arith, c .before .before .before .before .before .if6 .taken)) (c .many-at2 .ensures)
 
 eval-with-requires : tie.Need-eval-with-requires
 eval-with-requires c κs = search needs
 
-returns-6 : tie.Need-returns-6
-returns-6 c = search needs
+returns-7 : tie.Need-returns-7
+returns-7 c = search needs
 
 pub piece-spec : {M : Type 1} → statement M
 piece-spec =
@@ -176,8 +249,12 @@ piece-spec =
     returns-4
     part-requires-2
     said-requires-2
+    add-byte-at
+    byte-at-requires-2
+    said-requires-3
+    returns-5
     many-at-requires-2
     add-result-2
-    returns-5
+    returns-6
     eval-with-requires
-    returns-6)
+    returns-7)

@@ -1,5 +1,7 @@
 use native.Mathlib.Omega.{arith}
-use mathlib.Core.Path.{sym, _∙_}
+use Prim.Native.Nat.{_+_}
+use mathlib.Core.Path.{refl, sym, _∙_}
+use lib.Seq.{getD-set-other}
 use Rattle.match_eval.specs.laws.Within.{cell-within}
 use Rattle.match_nodes.specs.laws.Turns.{symbol-in, passed, entered}
 use borrow.Author.Needs.{needs}
@@ -88,46 +90,49 @@ same-length-2 : tie.Need-same-length-2
 same-length-2 c = search needs
 
 returns : tie.Need-returns
-returns c = passed (c .before .before .before .before .before .before .before .before .before .before .before .before .before .before .args .t .now)
-    (c .before .before .before .before .before .before .before .before .before .before .before .before .before .before .args .s .now)
-    (c .before .before .before .before .before .before .before .before .before .before .before .before .before .before .args .cells .now)
-    (c .before .before .before .before .before .before .before .before .before .before .before .before .before .before .args .g .n)
-    (c .before .before .before .before .before .before .before .before .before .before .before .before .before .before .pre .0)
-    (c .before .before .before .before .before .before .before .before .before .before .before .before .before .before .args .g .room)
-    (c .before .before .before .before .before .before .before .before .before .before .before .before .before .before .args .g .write)
-    (c .before .before .before .before .before .before .before .before .before .before .before .before .before .before .args .e .level)
-    (c .before .before .before .before .before .before .before .before .before .before .before .before .before .before .args .e .symbol)
-    (c .before .before .before .before .before .before .before .before .before .before .before .before .before .before .args .e .place)
-    (c .before .before .before .before .before .before .before .before .before .before .before .before .before .before .args .e .at)
-    (c .before .before .before .before .before .before .before .before .cell-at .result) (c .before .before .before .before .before .before .before .body .result) _
-    (c .before .before .before .before .before .before .before .before .before .before .before .before .before .before .args .nodes .now)
-    (c .before .before .before .before .before .before .before .before .before .before .before .before .before .before .pre .5)
-    (c .before .before .before .before .before .before .before .before .before .before .before .before .before .before .pre .6)
-    (c .before .before .before .before .before .before .before .before .before .before .before .before .before .before .pre .3)
-    (c .before .before .before .before .before .before .before .before .before .before .before .before .before .before .pre .2)
-    (c .before .before .before .before .before .before .before .before .cell-at .ensures) (c .before .before .before .before .before .before .before .body .ensures .0)
-    (c .before .before .before .before .before .note .ensures)
-    (c .before .before .before .before .before .before .before .before .before .before .before .before .before .before .args .desk .now)
-    (c .before .before .before .before .before .before .before .before .before .before .before .before .before .before .args .e .x)
-    (c .before .before .before .before .before .before .before .before .before .before .before .before .before .before .pre .1)
-    (c .before .before .before .before .before .before .before .before .before .before .before .before .before .before .pre .4)
-    (c .before .before .before .before .before .before .before .before .before .before .before .before .before .before .pre .7)
-    (c .before .before .before .before .before .before .before .before .before .before .before .before .before .before .pre .1 .silent
-    (c .before .before .before .before .before .before .before .body .result)
-    (omega (
-      arith,
-      c .before .before .before .before .before .before .before .body .ensures .0,
-      c .before .before .before .before .before .before .before .before .before .before .before .before .before .before .pre .0 .small
-          (c .before .before .before .before .before .before .before .before .before .before .before .before .before .before .args .e .symbol)
-          (symbol-in (c .before .before .before .before .before .before .before .before .before .before .before .before .before .before .args .t .now)
-          (c .before .before .before .before .before .before .before .before .before .before .before .before .before .before .args .s .now)
-          (c .before .before .before .before .before .before .before .before .before .before .before .before .before .before .args .cells .now)
-          (c .before .before .before .before .before .before .before .before .before .before .before .before .before .before .args .g .n)
-          (c .before .before .before .before .before .before .before .before .before .before .before .before .before .before .pre .0)
-          (c .before .before .before .before .before .before .before .before .before .before .before .before .before .before .args .e .symbol)
-          (c .before .before .before .before .before .before .before .before .before .before .before .before .before .before .args .e .place)
-          (c .before .before .before .before .before .before .before .before .before .before .before .before .before .before .pre .6)),
-    )) (sym (c .before .word .ensures .0) ∙ c .if1 .taken))
+returns c = (
+  passed (c .before .before .before .before .before .before .before .before .before .before .before .before .before .before .args .t .now)
+      (c .before .before .before .before .before .before .before .before .before .before .before .before .before .before .args .s .now)
+      (c .before .before .before .before .before .before .before .before .before .before .before .before .before .before .args .cells .now)
+      (c .before .before .before .before .before .before .before .before .before .before .before .before .before .before .args .g .n)
+      (c .before .before .before .before .before .before .before .before .before .before .before .before .before .before .pre .0)
+      (c .before .before .before .before .before .before .before .before .before .before .before .before .before .before .args .g .room)
+      (c .before .before .before .before .before .before .before .before .before .before .before .before .before .before .args .g .write)
+      (c .before .before .before .before .before .before .before .before .before .before .before .before .before .before .args .e .level)
+      (c .before .before .before .before .before .before .before .before .before .before .before .before .before .before .args .e .symbol)
+      (c .before .before .before .before .before .before .before .before .before .before .before .before .before .before .args .e .place)
+      (c .before .before .before .before .before .before .before .before .before .before .before .before .before .before .args .e .at)
+      (c .before .before .before .before .before .before .before .before .cell-at .result) (c .before .before .before .before .before .before .before .body .result) _
+      (c .before .before .before .before .before .before .before .before .before .before .before .before .before .before .args .nodes .now)
+      (c .before .before .before .before .before .before .before .before .before .before .before .before .before .before .pre .5)
+      (c .before .before .before .before .before .before .before .before .before .before .before .before .before .before .pre .6)
+      (c .before .before .before .before .before .before .before .before .before .before .before .before .before .before .pre .3)
+      (c .before .before .before .before .before .before .before .before .before .before .before .before .before .before .pre .2)
+      (c .before .before .before .before .before .before .before .before .cell-at .ensures) (c .before .before .before .before .before .before .before .body .ensures .0)
+      (c .before .before .before .before .before .note .ensures)
+      (c .before .before .before .before .before .before .before .before .before .before .before .before .before .before .args .desk .now)
+      (c .before .before .before .before .before .before .before .before .before .before .before .before .before .before .args .e .x)
+      (c .before .before .before .before .before .before .before .before .before .before .before .before .before .before .pre .1)
+      (c .before .before .before .before .before .before .before .before .before .before .before .before .before .before .pre .4)
+      (c .before .before .before .before .before .before .before .before .before .before .before .before .before .before .pre .7)
+      (c .before .before .before .before .before .before .before .before .before .before .before .before .before .before .pre .1 .silent
+      (c .before .before .before .before .before .before .before .body .result)
+      (omega (
+        arith,
+        c .before .before .before .before .before .before .before .body .ensures .0,
+        c .before .before .before .before .before .before .before .before .before .before .before .before .before .before .pre .0 .small
+            (c .before .before .before .before .before .before .before .before .before .before .before .before .before .before .args .e .symbol)
+            (symbol-in (c .before .before .before .before .before .before .before .before .before .before .before .before .before .before .args .t .now)
+            (c .before .before .before .before .before .before .before .before .before .before .before .before .before .before .args .s .now)
+            (c .before .before .before .before .before .before .before .before .before .before .before .before .before .before .args .cells .now)
+            (c .before .before .before .before .before .before .before .before .before .before .before .before .before .before .args .g .n)
+            (c .before .before .before .before .before .before .before .before .before .before .before .before .before .before .pre .0)
+            (c .before .before .before .before .before .before .before .before .before .before .before .before .before .before .args .e .symbol)
+            (c .before .before .before .before .before .before .before .before .before .before .before .before .before .before .args .e .place)
+            (c .before .before .before .before .before .before .before .before .before .before .before .before .before .before .pre .6)),
+      )) (sym (c .before .word .ensures .0) ∙ c .if1 .taken)),
+  λ j l. refl,
+)
 
 add-put : tie.Need-add-put
 add-put c = search needs
@@ -145,36 +150,45 @@ same-length-4 : tie.Need-same-length-4
 same-length-4 c = search needs
 
 returns-2 : tie.Need-returns-2
-returns-2 c = rw (c .before .before .put .ensures) (entered
-    (c .before .before .before .before .before .before .before .before .before .before .before .before .before .before .before .before .before .before .args .t
-    .now) (c .before .before .before .before .before .before .before .before .before .before .before .before .before .before .before .before .before .before
-    .args .s .now) (c .before .before .before .before .before .before .before .before .before .before .before .before .before .before .before .before .before
-    .before .args .cells .now) (c .before .before .before .before .before .before .before .before .before .before .before .before .before .before .before
-    .before .before .before .args .g .n)
-    (c .before .before .before .before .before .before .before .before .before .before .before .before .before .before .before .before .before .before .pre .0)
-    (c .before .before .before .before .before .before .before .before .before .before .before .before .before .before .before .before .before .before .args .g
-    .room) (c .before .before .before .before .before .before .before .before .before .before .before .before .before .before .before .before .before .before
-    .args .g .write) (c .before .before .before .before .before .before .before .before .before .before .before .before .before .before .before .before .before
-    .before .args .e .level) (c .before .before .before .before .before .before .before .before .before .before .before .before .before .before .before .before
-    .before .before .args .e .symbol)
-    (c .before .before .before .before .before .before .before .before .before .before .before .before .before .before .before .before .before .before .args .e
-    .place) (c .before .before .before .before .before .before .before .before .before .before .before .before .before .before .before .before .before .before
-    .args .e .at) (c .before .before .before .before .before .before .before .before .before .before .before .before .cell-at .result)
-    (c .before .before .before .before .before .before .before .before .before .before .before .body .result) _
-    (c .before .before .before .before .before .before .before .before .before .before .before .before .before .before .before .before .before .before .args
-    .nodes .now) (c .before .before .before .before .before .before .before .before .before .before .before .before .before .before .before .before .before
-    .before .pre .5) (c .before .before .before .before .before .before .before .before .before .before .before .before .before .before .before .before .before
-    .before .pre .6) (c .before .before .before .before .before .before .before .before .before .before .before .before .before .before .before .before .before
-    .before .pre .3) (c .before .before .before .before .before .before .before .before .before .before .before .before .before .before .before .before .before
-    .before .pre .2) (c .before .before .before .before .before .before .before .before .before .before .before .before .cell-at .ensures)
-    (c .before .before .before .before .before .before .before .before .before .before .before .body .ensures .0)
-    (c .before .before .before .before .before .before .before .before .before .note .ensures)
-    (c .before .before .before .before .before .before .before .before .before .before .before .before .before .before .before .before .before .before .args
-    .desk .now) (c .before .before .before .before .before .before .before .before .before .before .before .before .before .before .before .before .before
-    .before .args .e .x) (c .before .before .before .before .before .before .before .before .before .before .before .before .before .before .before .before
-    .before .before .pre .1) (c .before .before .before .before .before .before .before .before .before .before .before .before .before .before .before .before
-    .before .before .pre .4) (c .before .before .before .before .before .before .before .before .before .before .before .before .before .before .before .before
-    .before .before .pre .7))
+returns-2 c = rw (c .before .before .put .ensures) (
+  entered
+      (c .before .before .before .before .before .before .before .before .before .before .before .before .before .before .before .before .before .before .args .t .now)
+      (c .before .before .before .before .before .before .before .before .before .before .before .before .before .before .before .before .before .before .args .s .now)
+      (c .before .before .before .before .before .before .before .before .before .before .before .before .before .before .before .before .before .before .args .cells .now)
+      (c .before .before .before .before .before .before .before .before .before .before .before .before .before .before .before .before .before .before .args .g .n)
+      (c .before .before .before .before .before .before .before .before .before .before .before .before .before .before .before .before .before .before .pre .0)
+      (c .before .before .before .before .before .before .before .before .before .before .before .before .before .before .before .before .before .before .args .g .room)
+      (c .before .before .before .before .before .before .before .before .before .before .before .before .before .before .before .before .before .before .args .g .write)
+      (c .before .before .before .before .before .before .before .before .before .before .before .before .before .before .before .before .before .before .args .e .level)
+      (c .before .before .before .before .before .before .before .before .before .before .before .before .before .before .before .before .before .before .args .e .symbol)
+      (c .before .before .before .before .before .before .before .before .before .before .before .before .before .before .before .before .before .before .args .e .place)
+      (c .before .before .before .before .before .before .before .before .before .before .before .before .before .before .before .before .before .before .args .e .at)
+      (c .before .before .before .before .before .before .before .before .before .before .before .before .cell-at .result)
+      (c .before .before .before .before .before .before .before .before .before .before .before .body .result) _
+      (c .before .before .before .before .before .before .before .before .before .before .before .before .before .before .before .before .before .before .args .nodes .now)
+      (c .before .before .before .before .before .before .before .before .before .before .before .before .before .before .before .before .before .before .pre .5)
+      (c .before .before .before .before .before .before .before .before .before .before .before .before .before .before .before .before .before .before .pre .6)
+      (c .before .before .before .before .before .before .before .before .before .before .before .before .before .before .before .before .before .before .pre .3)
+      (c .before .before .before .before .before .before .before .before .before .before .before .before .before .before .before .before .before .before .pre .2)
+      (c .before .before .before .before .before .before .before .before .before .before .before .before .cell-at .ensures)
+      (c .before .before .before .before .before .before .before .before .before .before .before .body .ensures .0)
+      (c .before .before .before .before .before .before .before .before .before .note .ensures)
+      (c .before .before .before .before .before .before .before .before .before .before .before .before .before .before .before .before .before .before .args .desk .now)
+      (c .before .before .before .before .before .before .before .before .before .before .before .before .before .before .before .before .before .before .args .e .x)
+      (c .before .before .before .before .before .before .before .before .before .before .before .before .before .before .before .before .before .before .pre .1)
+      (c .before .before .before .before .before .before .before .before .before .before .before .before .before .before .before .before .before .before .pre .4)
+      (c .before .before .before .before .before .before .before .before .before .before .before .before .before .before .before .before .before .before .pre .7),
+  λ j l. getD-set-other (c .before .before .before .before .before .before .before .before .before .before .before .before .before .before .before .before .before .before
+      .args .desk .now) (1025 + c .before .before .before .before .before .before .before .before .before .before .before .before .before .before .before .before .before
+      .before .args .e .level) j (c .before .before .before .before .before .before .before .before .before .before .before .before .before .before .before .before .before
+      .before .args .e .x) 0 (λ q. omega (
+        arith,
+        q,
+        l,
+        c .before .before .before .before .before .before .before .before .before .before .before .before .before .before
+            .before .before .before .before .pre .3,
+      )),
+)
 
 pub enter-spec : {M : Type 1} → statement M
 enter-spec =

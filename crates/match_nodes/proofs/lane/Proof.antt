@@ -15,14 +15,12 @@ stride-requires : tie.Need-stride-requires
 stride-requires c κs = (
   c .before .before .before .before .before .before .before .before .pre .0,
   c .before .before .before .before .before .before .before .before .pre .1,
-  c
-      .before .before .before .before .before .before .before .before .pre .2,
+  c .before .before .before .before .before .before .before .before .pre .2,
   c .before .before .before .before .before .before .before .before .pre .3,
-  c .before .before .repeats
-      .ensures (c .before .if1 .taken) .0,
+  c .before .before .repeats .ensures (c .before .if1 .taken) .0,
   c .before .before .before .before .before .before .before .before .pre .5,
-  c .before .before .before .before .before .before .before
-      .before .pre .6,
+  c .before .before .before .before .before .before .before .before .pre .6,
+  c .before .before .before .before .before .before .before .before .pre .7,
 )
 
 same-length : tie.Need-same-length

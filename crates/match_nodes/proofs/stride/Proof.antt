@@ -37,14 +37,13 @@ loop-holds c = (
 by-byte-requires : tie.Need-by-byte-requires Inv-loop μ-loop
 by-byte-requires c κs = (
   c .before .before .before .before .before .before .before .before .before .pre .0,
-  c .before .before .before .before .before .before .before .before
-      .before .pre .1,
+  c .before .before .before .before .before .before .before .before .before .pre .1,
   c .before .before .loop .inv .0,
   c .before .before .before .before .before .before .before .before .before .pre .3,
-  c .before .before .before .before .before
-      .before .before .before .before .pre .4,
+  c .before .before .before .before .before .before .before .before .before .pre .4,
   c .before .before .loop .inv .2 .place,
   c .before .before .before .before .before .before .before .before .before .pre .6,
+  c .before .before .before .before .before .before .before .before .before .pre .7,
 )
 
 same-length : tie.Need-same-length Inv-loop μ-loop
@@ -85,8 +84,7 @@ loop-less c = omega (arith, c .before .before .before .before .before .by-byte .
 loop-again : tie.Need-loop-again Inv-loop μ-loop
 loop-again c = (
   omega (arith, c .if2 .left),
-  c .before .before .before .before .before .by-byte .kept .1 .1 .1 .1 .0 ∙ c .before .before .before .before .before .before .before
-      .before .loop .inv .1,
+  c .before .before .before .before .before .by-byte .kept .1 .1 .1 .1 .0 ∙ c .before .before .before .before .before .before .before .before .loop .inv .1,
   lane-on (c .before .before .before .before .before .before .before .before .before .before .before .before .before .before .before .args .t .now)
       (c .before .before .before .before .before .before .before .before .before .before .before .before .before .before .before .args .s .now)
       (c .before .before .before .before .before .before .before .before .before .before .before .before .before .before .before .args .cells .now)

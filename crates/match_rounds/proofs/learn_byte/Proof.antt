@@ -13,7 +13,7 @@ use Rattle.match_rounds.proofs.learn_byte.Statement.{statement}
 use Rattle.match_rounds.proofs.learn_byte.Tie as tie
 use Rattle.match_rounds.proofs.learn_byte.Reads as reads
 use Rattle.match_rounds.proofs.learn_byte.Lts as lts
-use Rattle.match_eval.proofs.many.Reads as many-reads
+use Rattle.match_eval.proofs.many_at.Reads as many-at-reads
 use Rattle.match_eval.proofs.memory.key.Reads as key-reads
 use Rattle.match_rounds.proofs.go_on.Reads as go-on-reads
 use Rattle.match_rounds.proofs.note.Reads as note-reads
@@ -24,11 +24,11 @@ key-requires c κs = search needs
 go-on-requires : tie.Need-go-on-requires
 go-on-requires c κs = search needs
 
-add-many : tie.Need-add-many
-add-many c = search needs
+add-many-at : tie.Need-add-many-at
+add-many-at c = search needs
 
-many-requires : tie.Need-many-requires
-many-requires c κs = (
+many-at-requires : tie.Need-many-at-requires
+many-at-requires c κs = (
   omega (arith, c .before .before .before .before .before .before .before .before .before .before .pre .0),
   subst (λ (v : List ℕ). Knows (c .before .before .before .before .before .before .before .before .before .before .args .t .now)
       (c .before .before .before .before .before .before .before .before .before .before .args .s .now)
@@ -61,7 +61,7 @@ add-note-2 c = let within = rounds-within (c .before .before .before .before .be
     omega (
       arith,
       c .before .before .before .before .before .before .before .key .ensures .1,
-      c .before .many .ensures,
+      c .before .many-at .ensures,
       within,
       c .before .before .before .before .before .before .before .before .before .before .before .before .pre .0,
     )
@@ -77,7 +77,7 @@ note-requires c κs = let within = rounds-within (c .before .before .before .bef
     omega (
       arith,
       c .before .before .before .before .before .before .before .key .ensures .1,
-      c .before .many .ensures,
+      c .before .many-at .ensures,
       within,
       c .before .before .before .before .before .before .before .before .before .before .before .before .pre .0,
     )
@@ -90,16 +90,16 @@ returns c = learnt (c .before .before .before .before .before .before .before .b
     (c .before .before .before .before .before .before .before .before .before .before .before .before .before .args .n)
     (c .before .before .before .before .before .before .before .before .before .before .before .before .before .args .y)
     (c .before .before .before .before .before .before .before .before .key .result)
-    (c .before .before .before .before .before .before .before .before .before .before .before .before .before .args .p) (c .before .before .many .result + 1) (omega
+    (c .before .before .before .before .before .before .before .before .before .before .before .before .before .args .p) (c .before .before .many-at .result + 1) (omega
     (arith, c .before .before .before .before .before .before .before .before .before .before .before .before .before .pre .0))
     (c .before .before .before .before .before .before .before .before .key .ensures .0 (omega (arith, c .before .before .before .before .before .before .before .if1 .taken)))
     (c .before .before .before .before .before .before .before .before .before .before .before .before .before .pre .1)
     (subst (λ (v : List ℕ). Noted (c .before .before .before .before .before .before .before .before .key .result)
-    (c .before .before .before .before .before .before .before .before .before .before .before .before .before .args .p) (c .before .before .many .result + 1) v
+    (c .before .before .before .before .before .before .before .before .before .before .before .before .before .args .p) (c .before .before .many-at .result + 1) v
     (c .note .last .0)) (c .before .before .before .before .before .go-on .ensures .same (not-true _ (c .before .before .before .before .if2 .taken))) (c .note .ensures))
     (omega (
       arith,
-      c .before .before .many .ensures,
+      c .before .before .many-at .ensures,
       rounds-next (c .before .before .before .before .before .before .before .before .before .before .before .before .before .args .t .now)
           (c .before .before .before .before .before .before .before .before .before .before .before .before .before .args .s .now)
           (c .before .before .before .before .before .before .before .before .before .before .before .before .before .args .cells .now)
@@ -132,8 +132,8 @@ learn-byte-spec =
     (tie.spec
     key-requires
     go-on-requires
-    add-many
-    many-requires
+    add-many-at
+    many-at-requires
     add-note
     add-note-2
     note-requires

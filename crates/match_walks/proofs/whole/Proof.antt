@@ -7,10 +7,10 @@ use Rattle.match_walks.proofs.whole.Statement.{statement}
 use Rattle.match_walks.proofs.whole.Tie as tie
 use Rattle.match_walks.proofs.whole.Reads as reads
 use Rattle.match_walks.proofs.whole.Lts as lts
-use Rattle.match_eval.proofs.round.Reads as round-reads
+use Rattle.match_eval.proofs.part_at.Reads as part-at-reads
 
-round-requires : tie.Need-round-requires
-round-requires c κs = (
+part-at-requires : tie.Need-part-at-requires
+part-at-requires c κs = (
   omega (arith, c .before .before .pre .0),
   knows-from (c .before .before .args .t .now)
       (c .before .before .args .s .now) (c .before .before .args .cells .now) (c .before .before .args .mem .now)
@@ -20,13 +20,13 @@ round-requires c κs = (
 returns : tie.Need-returns
 returns c = pick-fails (c .before .before .before .before .args .t .now) (c .before .before .before .before .args .s .now)
     (c .before .before .before .before .args .cells .now) (c .before .before .before .before .args .n)
-    (c .before .before .before .before .args .x) (c .before .before .before .before .args .p) (c .before .round .result) (c .before .round .ensures) (c .if1 .taken)
+    (c .before .before .before .before .args .x) (c .before .before .before .before .args .p) (c .before .part-at .result) (c .before .part-at .ensures) (c .if1 .taken)
 
 returns-2 : tie.Need-returns-2
 returns-2 c = pick-whole (c .before .before .before .before .args .t .now) (c .before .before .before .before .args .s .now)
     (c .before .before .before .before .args .cells .now) (c .before .before .before .before .args .n)
-    (c .before .before .before .before .args .x) (c .before .before .before .before .args .p) (c .before .round .result) (c .before .round .ensures)
+    (c .before .before .before .before .args .x) (c .before .before .before .before .args .p) (c .before .part-at .result) (c .before .part-at .ensures)
     (c .if1 .left) (omega (arith, c .before .before .before .before .pre .0))
 
 pub whole-spec : {M : Type 1} → statement M
-whole-spec = tie.close (tie.spec round-requires returns returns-2)
+whole-spec = tie.close (tie.spec part-at-requires returns returns-2)

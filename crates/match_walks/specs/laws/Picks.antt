@@ -1,8 +1,8 @@
 -- The alternative of a choice that is taken. Assumes nothing.
-use Prim.Native.Nat.{ℕ, _<_}
+use Prim.Native.Nat.{ℕ, _≤_, _<_}
 use mathlib.Core.Path.{_≡_, refl, ap, _∙_}
 use mathlib.Core.Path.{sym as flip}
-use mathlib.Core.Logic.{inl, inr}
+use mathlib.Core.Logic.{_⊎_, inl, inr}
 use mathlib.Core.List.{List}
 use native.Mathlib.Omega.{arith}
 use Rattle.grammar.specs.Exp.{Exp, alt}
@@ -22,7 +22,15 @@ module _ (t s cs : List ℕ) (n x p : ℕ) where
   -- x itself
   pub pick-fails : (v : ℕ) → v ≡ ev s cs n (treeOf t x) p → v ≡ 0 → Picked t s cs n x p 4096
   pick-fails v e h =
-      record { fails = λ i. flip e ∙ h; small = λ f. absurd (f refl); works = λ f. absurd (f refl); takes = λ f. absurd (f refl); lists = λ f w. absurd (f refl); up = λ f k m d a b c. absurd (f refl) }
+      record {
+        fails = λ i. flip e ∙ h;
+        small = λ f. absurd (f refl);
+        works = λ f. absurd (f refl);
+        takes = λ f. absurd (f refl);
+        lists = λ f w. absurd (f refl);
+        up = λ f k m d a b c. absurd
+            (f refl);
+      }
 
   pub pick-whole : (v : ℕ) → v ≡ ev s cs n (treeOf t x) p → (v ≡ 0 → ⊥) → x < 2048 → Picked t s cs n x p x
   pick-whole v e h l =
@@ -50,7 +58,8 @@ module _ (t s cs : List ℕ) (n x p : ℕ) where
           works = λ i. h .works f;
           takes = λ i. h .takes f ∙ alt-left (ev s cs n (treeOf t y) p) (λ m. ev s cs n (treeOf t z) p) (ev s cs n (treeOf t y) p) refl g ∙ takes-is;
           lists = λ i w.
-              h .lists f w ∙ list-left (ev s cs n (treeOf t y) p) (walkOf s (λ e i. ev s cs n e i) w (treeOf t y) p) (walkOf s (λ e i. ev s cs n e i) w (treeOf t z) p) (ev s cs n (treeOf t y) p) refl g
+              h .lists f w ∙ list-left (ev s cs n (treeOf t y) p) (walkOf s (λ e i. ev s cs n e i) w (treeOf t y) p) (walkOf s (λ e i. ev s cs n e i) w (treeOf t z) p) (ev s cs n
+              (treeOf t y) p) refl g
               ∙ lists-is w;
           up = λ i b m d desk few known. h .up f b m d desk few (omega (arith, known, made .left)) ∙ choice-left t b m desk few x k l y z d made known is;
         }
@@ -67,7 +76,8 @@ module _ (t s cs : List ℕ) (n x p : ℕ) where
           works = λ f. h .works f;
           takes = λ f. h .takes f ∙ u;
           lists = λ f w.
-              h .lists f w ∙ list-right (ev s cs n (treeOf t y) p) (walkOf s (λ e i. ev s cs n e i) w (treeOf t y) p) (walkOf s (λ e i. ev s cs n e i) w (treeOf t z) p) (ev s cs n (treeOf t y) p) refl g
+              h .lists f w ∙ list-right (ev s cs n (treeOf t y) p) (walkOf s (λ e i. ev s cs n e i) w (treeOf t y) p) (walkOf s (λ e i. ev s cs n e i) w (treeOf t z) p) (ev s cs n
+              (treeOf t y) p) refl g
               ∙ lists-is w;
           up = λ f c m d desk few known. h .up f c m d desk few (omega (arith, known, made .right)) ∙ choice-right t c m desk few x k l y z d made known is;
         }
@@ -97,6 +107,51 @@ module _ (t s cs : List ℕ) (n y z p : ℕ) where
         small = λ f. inr (h .small (k f));
         takes = λ f. h .takes (k f) ∙ u;
         lists = λ f w.
-            h .lists (k f) w ∙ list-right (ev s cs n (treeOf t y) p) (walkOf s (λ e i. ev s cs n e i) w (treeOf t y) p) (walkOf s (λ e i. ev s cs n e i) w (treeOf t z) p) (ev s cs n (treeOf t y) p) refl g;
+            h .lists (k f) w ∙ list-right (ev s cs n (treeOf t y) p) (walkOf s (λ e i. ev s cs n e i) w (treeOf t y) p) (walkOf s (λ e i. ev s cs n e i) w (treeOf t z) p) (ev s cs n
+            (treeOf t y) p) refl g;
         up = λ f i m d l desk few c e u v. h .up (k f) i m d desk few e ∙ v;
+      }
+
+  -- the second part fails, so that the first matches where one does
+  pub choose-left : ev s cs n (treeOf t z) p ≡ 0 → Chosen t s cs n y z p y
+  unfolding ev walkOf
+  choose-left e = record {
+    small = λ f. inl (omega arith);
+    takes = λ f. alt-left (ev s cs n (treeOf t y) p) (λ m. ev s cs n (treeOf t z) p) (ev s cs n (treeOf t y) p) refl (some f);
+    lists = λ f w.
+        list-left (ev s cs n (treeOf t y) p) (walkOf s (λ e i. ev s cs n e i) w (treeOf t y) p) (walkOf s (λ e i. ev s cs n e i) w (treeOf t z) p) (ev s cs n (treeOf t y) p) refl (some f);
+    up = λ f k m d l desk few c e u v. u;
+  }
+    where
+      some : (ev s cs n (alt (treeOf t y) (treeOf t z)) p ≡ 0 → ⊥) → ev s cs n (treeOf t y) p ≡ 0 → ⊥
+      some f g = f (flip (alt-right (ev s cs n (treeOf t y) p) (λ m. ev s cs n (treeOf t z) p) (ev s cs n (treeOf t y) p) (ev s cs n (treeOf t z) p) refl g refl) ∙ e)
+
+  -- the first part fails
+  pub choose-right : ev s cs n (treeOf t y) p ≡ 0 → Chosen t s cs n y z p z
+  unfolding ev walkOf
+  choose-right g = record {
+    small = λ f. inr (omega arith);
+    takes = λ f. alt-right (ev s cs n (treeOf t y) p) (λ m. ev s cs n (treeOf t z) p) (ev s cs n (treeOf t y) p) (ev s cs n (treeOf t z) p) refl g refl;
+    lists = λ f w.
+        list-right (ev s cs n (treeOf t y) p) (walkOf s (λ e i. ev s cs n e i) w (treeOf t y) p) (walkOf s (λ e i. ev s cs n e i) w (treeOf t z) p) (ev s cs n (treeOf t y) p) refl g;
+    up = λ f k m d l desk few c e u v. v;
+  }
+
+  -- what stands for it is a choice itself, and something stands for that
+  pub choose-on : (x k l a b r : ℕ) → Chosen t s cs n y z p x → Made t x k l a b → k ≡ 3 → Chosen t s cs n a b p r → (r ≤ a) ⊎ (r ≤ b) → Chosen t s cs n y z p r
+  unfolding shape
+  choose-on x k l a b r i made is j less =
+      let c : alt (treeOf t a) (treeOf t b) ≡ treeOf t x = shaped t x k l a b 3 made is in
+      let q : ev s cs n (alt (treeOf t a) (treeOf t b)) p ≡ ev s cs n (treeOf t x) p = ap (λ (e : Exp ℕ). ev s cs n e p) c in
+      let some : (ev s cs n (alt (treeOf t y) (treeOf t z)) p ≡ 0 → ⊥) → ev s cs n (alt (treeOf t a) (treeOf t b)) p ≡ 0 → ⊥ = λ f g. f (flip (i .takes f) ∙ flip q ∙ g) in
+      let below : r < x = elim less [ inl h ↦ omega (arith, h, made .left) | inr h ↦ omega (arith, h, made .right) ] in
+      record {
+        small = λ f. elim (i .small f) [ inl h ↦ inl (omega (arith, h, below)) | inr h ↦ inr (omega (arith, h, below)) ];
+        takes = λ f. j .takes (some f) ∙ q ∙ i .takes f;
+        lists = λ f w. j .lists (some f) w ∙ ap (λ (e : Exp ℕ). walkOf s (λ e i. ev s cs n e i) w e p) c ∙ i .lists f w;
+        up = λ f d m e g desk few u v o h.
+            let known : x ≤ m = elim (i .small f) [ inl h ↦ omega (arith, h, u) | inr h ↦ omega (arith, h, v) ] in
+            j .up (some f) d m e g desk few (omega (arith, made .left, known)) (omega (arith, made .right, known))
+            (choice-left t d m desk few x k l a b e made known is ∙ i .up f d m e g desk few u v o h)
+            (choice-right t d m desk few x k l a b e made known is ∙ i .up f d m e g desk few u v o h);
       }
