@@ -7,7 +7,8 @@ use lib.ListN.{getD}
 use Rattle.grammar_table.specs.Table.{symbolWord}
 use Rattle.match_parts.specs.steps.Lists.{Listed}
 use borrow.Author.Tests.{not-false}
-use Rattle.match_parts.specs.laws.Lists.{listed-at, all-more}
+use Rattle.base_facts.specs.laws.Numbers.{all-below}
+use Rattle.match_parts.specs.laws.Lists.{listed-at}
 use borrow.Author.Needs.{needs}
 use Rattle.match_parts.proofs.bodies_checked.Statement.{statement}
 use Rattle.match_parts.proofs.bodies_checked.Tie as tie
@@ -47,7 +48,7 @@ loop-less c = search needs
 loop-again : tie.Need-loop-again Inv-loop μ-loop
 loop-again c = let a = c .before .before .before .before .before .before .before .before .args in let h = c .before .before .before .before .before .before .loop in (
   omega (arith, c .before .before .before .before .before .loop-test .taken),
-  all-more (λ (m : ℕ). Listed (a .t .now) (a .lists .now) (getD (a .lists .now) m 0) (symbolWord (a .t .now) m 1)) (h .r) (h .inv .1)
+  all-below (λ (m : ℕ). Listed (a .t .now) (a .lists .now) (getD (a .lists .now) m 0) (symbolWord (a .t .now) m 1)) (h .r) (h .inv .1)
       (listed-at (a .t .now) (a .lists .now) (c .before .before .word .result) (getD (a .lists .now) (h .r) 0) (c .before .before .before .before .body .result)
       (symbolWord (a .t .now) (h .r) 1) (c .before .is-of .ensures (not-false (c .before .is-of .result) (c .if1 .left)))
       (c .before .before .word .ensures .0) (c .before .before .before .before .body .ensures .0)),

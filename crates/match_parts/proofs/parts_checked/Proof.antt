@@ -7,7 +7,8 @@ use lib.ListN.{getD}
 use Rattle.match_eval.specs.steps.Memory.{partsAt}
 use Rattle.match_parts.specs.steps.Lists.{Listed}
 use borrow.Author.Tests.{not-false}
-use Rattle.match_parts.specs.laws.Lists.{listed-at, all-more}
+use Rattle.base_facts.specs.laws.Numbers.{all-below}
+use Rattle.match_parts.specs.laws.Lists.{listed-at}
 use borrow.Author.Needs.{needs}
 use Rattle.match_parts.proofs.parts_checked.Statement.{statement}
 use Rattle.match_parts.proofs.parts_checked.Tie as tie
@@ -58,7 +59,7 @@ loop-less c = search needs
 loop-again : tie.Need-loop-again Inv-loop μ-loop
 loop-again c = let a = c .before .before .before .before .before .before .before .before .before .before .before .args in let h = c .before .before .before .before .before .before .loop in (
   omega (arith, c .before .before .before .before .before .loop-test .taken),
-  all-more (λ (m : ℕ). Listed (a .t .now) (a .lists .now) (getD (a .lists .now) (64 + m) 0) (getD (a .mem .now) (partsAt + m) 0)) (h .k)
+  all-below (λ (m : ℕ). Listed (a .t .now) (a .lists .now) (getD (a .lists .now) (64 + m) 0) (getD (a .mem .now) (partsAt + m) 0)) (h .k)
       (h .inv .1) (listed-at (a .t .now) (a .lists .now) (c .before .before .word3 .result) (getD (a .lists .now) (64 + h .k) 0) (c .before .before .before .before .word2 .result)
       (getD (a .mem .now) (partsAt + h .k) 0) (c .before .is-of .ensures (not-false (c .before .is-of .result) (c .if2 .left)))
       (c .before .before .word3 .ensures .0) (c .before .before .before .before .word2 .ensures .0)),

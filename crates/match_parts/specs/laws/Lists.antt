@@ -3,8 +3,6 @@ use Prim.Native.Nat.{ℕ, zero, suc, _+_, _-_, _*_, _≤_, _<_}
 use mathlib.Core.Path.{_≡_, refl, sym, ap, _∙_, subst}
 use mathlib.Core.Bool.{Bool, true, false}
 use mathlib.Core.List.{List}
-use mathlib.Core.Logic.{⊎-elim}
-use native.Mathlib.Nat.{eq-or-lt-of-le}
 use native.Mathlib.Omega.{arith}
 use native.Mathlib.Numerals.{add-one}
 use lib.Dec.{eqb}
@@ -187,9 +185,6 @@ above-all t lists i x j y w k o e f g h s cs n p =
 -- ── lists are checked one after the other ──
 pub listed-at : (t lists : List ℕ) (i j x y : ℕ) → Listed t lists i x → i ≡ j → x ≡ y → Listed t lists j y
 listed-at t lists i j x y o e f = subst (Listed t lists j) f (subst (λ (k : ℕ). Listed t lists k x) e o)
-
-pub all-more : (P : ℕ → Type 0) (r : ℕ) → ((m : ℕ) → m < r → P m) → P r → (m : ℕ) → m < r + 1 → P m
-all-more P r o q m l = ⊎-elim (λ (e : m ≡ r). subst P (sym e) q) (o m) (eq-or-lt-of-le (omega (arith, l)))
 
 -- ── only what stands before the entries of the memory counts ──
 pub listed-front : (t old new : List ℕ) (n : ℕ) (lists : List ℕ) → Front old new → AllListed t old n lists → AllListed t new n lists

@@ -4,7 +4,7 @@ use mathlib.Core.Path.{sym}
 use mathlib.Core.Bool.{true≢false}
 use Prim.Native.Nat.{ℕ, _-_, _<_}
 use borrow.Author.Tests.{not-false}
-use Rattle.match_plan.specs.laws.Plan.{one-more}
+use Rattle.base_facts.specs.laws.Numbers.{all-below}
 use Rattle.match_plan.specs.steps.Checked.{Right}
 use borrow.Author.Needs.{needs}
 use Rattle.match_plan.proofs.checked.Statement.{statement}
@@ -37,7 +37,7 @@ loop-less c = search needs
 loop-again : tie.Need-loop-again Inv-loop μ-loop
 loop-again c =
     let a = c .before .before .before .before .before .before .before .args in
-    one-more (Right (a .t .now) (a .mem .now) (a .order .now) (a .n) (a .plan .now)) (c .before .before .before .loop .b) (c .before .before .before .loop .inv)
+    all-below (Right (a .t .now) (a .mem .now) (a .order .now) (a .n) (a .plan .now)) (c .before .before .before .loop .b) (c .before .before .before .loop .inv)
     (c .before .byte-right .ensures (not-false _ (c .if1 .left)))
 
 returns-2 : tie.Need-returns-2 Inv-loop μ-loop

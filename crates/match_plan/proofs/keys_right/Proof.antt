@@ -4,7 +4,7 @@ use mathlib.Core.Path.{sym}
 use mathlib.Core.Bool.{true≢false}
 use Prim.Native.Nat.{ℕ, _+_, _-_, _≤_, _<_}
 use lib.ListN.{getD}
-use Rattle.match_plan.specs.laws.Plan.{one-more}
+use Rattle.base_facts.specs.laws.Numbers.{all-below}
 use Rattle.match_plan.specs.steps.Checked.{Task}
 use borrow.Author.Needs.{needs}
 use Rattle.match_plan.proofs.keys_right.Statement.{statement}
@@ -51,7 +51,7 @@ loop-again c =
     let a = c .before .before .before .before .before .before .before .before .args in
     let l = c .before .before .before .before .before in (
       omega (arith, l .loop .inv .0),
-      one-more (λ (q : ℕ). (a .lo) ≤ q → Task (a .mem .now) (getD (a .plan .now) ((a .i) + q) 0)) (l .loop .j) (l .loop .inv .1)
+      all-below (λ (q : ℕ). (a .lo) ≤ q → Task (a .mem .now) (getD (a .plan .now) ((a .i) + q) 0)) (l .loop .j) (l .loop .inv .1)
           (λ _. (
             omega (arith, c .before .if1 .left, c .before .before .word2 .ensures .0),
             omega

@@ -5,7 +5,7 @@ use mathlib.Core.Bool.{true≢false}
 use Prim.Native.Nat.{ℕ, _+_, _-_, _<_}
 use lib.ListN.{getD}
 use borrow.Author.Tests.{not-false}
-use Rattle.match_plan.specs.laws.Plan.{one-more}
+use Rattle.base_facts.specs.laws.Numbers.{all-below}
 use Rattle.match_plan.specs.steps.Checked.{Taker}
 use borrow.Author.Needs.{needs}
 use Rattle.match_plan.proofs.takers_right.Statement.{statement}
@@ -45,7 +45,7 @@ loop-less c = search needs
 loop-again : tie.Need-loop-again Inv-loop μ-loop
 loop-again c =
     let a = c .before .before .before .before .before .before .before .args in
-    one-more (λ (q : ℕ). Taker (a .mem .now) (a .b) (getD (a .plan .now) ((a .i) + q) 0)) (c .before .before .before .before .before .loop .j) (c .before .before .before .before .before .loop .inv)
+    all-below (λ (q : ℕ). Taker (a .mem .now) (a .b) (getD (a .plan .now) ((a .i) + q) 0)) (c .before .before .before .before .before .loop .j) (c .before .before .before .before .before .loop .inv)
     (subst (Taker (a .mem .now) (a .b)) (c .before .before .word .ensures .0) (c .before .takes-byte .ensures (not-false _ (c .if1 .left))))
 
 returns-2 : tie.Need-returns-2 Inv-loop μ-loop

@@ -9,7 +9,7 @@ use native.Mathlib.Numerals.{add-one}
 use lib.Dec.{eqb}
 use borrow.Author.Tests.{eq-eqb, ne-eqb}
 use lib.ListN.{getD, length, List·getD-eq-default}
-use Rattle.base_facts.specs.laws.Numbers.{lt-or-ge, same?}
+use Rattle.base_facts.specs.laws.Numbers.{lt-or-ge, all-below}
 use Rattle.grammar_table.specs.Table.{symbolWord, wordsFrom}
 use Rattle.grammar_table.specs.Trees.{treeOf}
 use Rattle.match_eval.specs.Eval.{ev}
@@ -24,13 +24,6 @@ pub planned-none : (t mem order : List ℕ) (n : ℕ) (plan : List ℕ) → ((j 
 planned-none t mem order n plan z = record { records = λ b l f. absurd (f (z b)) }
 
 -- ── as it is checked ──
--- what holds of all numbers below k and of k
-pub one-more : (A : ℕ → Type 0) (k : ℕ) → ((j : ℕ) → j < k → A j) → A k → (j : ℕ) → j < k + 1 → A j
-one-more A k f a j l = elim (same? j k) [
-  | inl e ↦ subst A (sym e) a
-  | inr g ↦ f j (omega (arith, l, g))
-]
-
 -- one word more
 words-last : (a : List ℕ) (i k : ℕ) → wordsFrom a i (suc k) ≡ wordsFrom a i k ++ (getD a (i + k) 0 ∷ [])
 unfolding wordsFrom
@@ -95,7 +88,7 @@ module _ (t mem : List ℕ) (b : ℕ) where
             words-end plan i k
             ∙ ap₂ (λ (y : List ℕ) (u : ℕ). y ++ (u ∷ [])) (o .listed) (sym d ∙ h)
             ∙ sym (ap (opensOf t mem b) next ∙ open-more (wordsFrom order 0 j) r (sym heard ∙ z));
-        small = one-more (λ (y : ℕ). getD plan (i + y) 0 < n) k (o .small) (omega (arith, d, h, l));
+        small = all-below (λ (y : ℕ). getD plan (i + y) 0 < n) k (o .small) (omega (arith, d, h, l));
       }
 
 -- as code finds it
