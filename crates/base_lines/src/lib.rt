@@ -1,9 +1,11 @@
 // The line and the column of a position (02, par. 2): both from 1, and a line feed ends the line that it stands on.
+#![tactic(auto)]
+
 ghost use Rattle.std.specs.Prelude.{◌<◌, min, ◌≡◌};
 ghost use Rattle.base_lines.specs.Lines.{place_at};
 ghost use Rattle.base_lines.specs.steps.Behind.{behind};
 
-#[derive(Drop)]
+#[derive(Clone, Copy)]
 pub struct Place {
     pub line: usize,
     pub column: usize,

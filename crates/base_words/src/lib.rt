@@ -1,3 +1,5 @@
+#![tactic(auto)]
+
 ghost use Rattle.std.specs.Prelude.{◌≡◌, ◌<◌, get_or, set};
 ghost use Rattle.base_words.specs.Set.{union_of, member_of, with_of, empty as none};
 ghost use Rattle.base_words.specs.steps.Decides.{Decides};

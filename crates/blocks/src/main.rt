@@ -1,5 +1,7 @@
 // Matches standard input by the lake grammar in the file `grammar.peg` and prints the tree of the match as JSON (02, par. 1), and nothing else; or, as
 // `spans` does: none; refused NUMBER PLACE; unreadable if the file cannot be opened. All that it prints comes from the public calls.
+#![tactic(auto)]
+
 ghost use Rattle.std.specs.Prelude.{◌≤◌, ◌≡◌, length};
 
 use gurkenmond::{Mode, Outcome, Verdict};

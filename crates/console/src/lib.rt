@@ -1,4 +1,6 @@
 // What the programs over the public calls have in common: the grammar's file and the line of a refusal (01, Cases).
+#![tactic(auto)]
+
 ghost use Rattle.std.specs.Prelude.{◌≡◌, length};
 
 // The file `grammar.peg` of the folder that the program runs in, opened for reading; below 0 where it cannot be.

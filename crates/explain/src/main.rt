@@ -1,6 +1,8 @@
 // Says where the lake grammar in the file `grammar.peg` is refused, and why, to one who reads lines and columns:
 //   LINE:COLUMN: SENTENCE, then the line of the text, then a mark under the place; accepted; unreadable if the file cannot be opened.
 // That it is refused, and where, comes from the public calls `read` and `line_and_column`; the words come from the tokens around the place.
+#![tactic(auto)]
+
 use explain_shown::say;
 use gurkenmond::{Mode, Spot, Verdict};
 

@@ -1,4 +1,6 @@
 // Why a token that begins as a literal or a class is none (01, Notation). Read again from the left, since a bad token says no more than its first byte.
+#![tactic(auto)]
+
 ghost use Rattle.std.specs.Prelude.{◌≤◌, ◌<◌, length};
 
 use explain_shown::whole;
@@ -20,7 +22,7 @@ pub const REVERSED: u8 = 3;
 pub const BYTELESS: u8 = 4;
 
 // Why, and the escape or the range.
-#[derive(Drop)]
+#[derive(Clone, Copy)]
 pub struct Fault {
     pub why: u8,
     pub from: usize,
@@ -76,7 +78,7 @@ pub fn of_literal(text: &[u8], at: usize) -> Fault {
 }
 
 // What a class lists at a place: how many bytes of the text that takes; 0, and the fault.
-#[derive(Drop)]
+#[derive(Clone, Copy)]
 struct Item {
     width: usize,
     fault: Fault,

@@ -1,4 +1,6 @@
 // Parts of the text as they are shown: a token within a sentence, and a line with a mark under a place.
+#![tactic(auto)]
+
 ghost use Rattle.std.specs.Prelude.{◌+◌, ◌≤◌, ◌<◌, length};
 
 // A longer line is shown from so many bytes before the place to as many behind it.

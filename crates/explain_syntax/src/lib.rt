@@ -1,4 +1,6 @@
 // What stopped the reading at a token, and what was wanted there (01, refusal 2).
+#![tactic(auto)]
+
 use explain_faults::Fault;
 use explain_shown::say;
 use explain_walks::Before;

@@ -1,4 +1,6 @@
 // Walks over the tokens of a lake grammar. Each goes on only where a token ends behind its begin, which is all that is needed for it to end.
+#![tactic(auto)]
+
 ghost use Rattle.std.specs.Prelude.{◌+◌, ◌≤◌, ◌<◌};
 
 use read_tokens::{Mode, Token};
@@ -20,7 +22,7 @@ pub const PRIMARY: u8 = 3;
 pub const MORE: u8 = 4;
 
 // What could stand behind some tokens, how many parentheses are open there, and the last of them: its kind and where it begins.
-#[derive(Drop)]
+#[derive(Clone, Copy)]
 pub struct Before {
     pub wanted: u8,
     pub depth: usize,
@@ -166,7 +168,7 @@ fn is_sought(text: &[u8], t: Token, lakes: bool) -> bool {
 }
 
 // A token's begin; or how many more would have been needed.
-#[derive(Drop)]
+#[derive(Clone, Copy)]
 struct Sought {
     found: bool,
     start: usize,

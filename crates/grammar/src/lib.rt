@@ -1,1 +1,2 @@
 // What a grammar is (01, Notation): see specs/.
+#![tactic(auto)]

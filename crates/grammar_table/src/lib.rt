@@ -1,5 +1,7 @@
 // Records of words, one behind the other in a run of words that is lent: the number of the first that equals a given one, which is added
 // where there is none. So symbols and terminals get their numbers (01, Notation: "by first use", "by first appearance").
+#![tactic(auto)]
+
 ghost use Rattle.std.specs.Prelude.{◌+◌, ◌*◌, ◌<◌, ◌≤◌, ◌-◌, ◌≡◌, set, length, replicate};
 ghost use Rattle.std.proofs.lemmas.List.Edits.{sets};
 ghost use Rattle.grammar.specs.Same.{same_bytes};

@@ -2,6 +2,8 @@
 // nothing: no sets, no lakes, `Not`, 0 bytes. A match has 01's own form: a count beside an enum of matched, none, refused.
 // What each case says in document 01's numbers is in specs/Answers.antt, what each call answers in specs/Calls.antt.
 // A caller names this crate alone: every type that the calls take or give is handed on here.
+#![tactic(auto)]
+
 ghost use Rattle.std.specs.Prelude.{◌≡◌};
 ghost use Rattle.gurkenmond.specs.Calls.{SaysRead, no_sets, SaysSets, SaysLakes, match_of, SaysMatch, lake_of, SaysWay, write_own_of, write_plain_of};
 ghost use Rattle.gurkenmond.specs.Calls.{symbol_name_of, SaysText, write_json_of, read_json_of, SaysParsed, summarise_of, SaysSummed, spot_of, SaysSpot};
@@ -22,7 +24,7 @@ use tree_summary::Plan;
 pub use tree_summary::{Summary, Summed};
 pub use write_put::Written;
 
-#[derive(Drop)]
+#[derive(Clone, Copy)]
 pub struct SetsOf {
     pub sets: Sets,
     pub rounds: usize,
@@ -30,14 +32,14 @@ pub struct SetsOf {
 }
 
 // Bit = symbol number.
-#[derive(Drop)]
+#[derive(Clone, Copy)]
 pub struct Lakes {
     pub word: u64,
     pub verdict: Verdict,
 }
 
 // Line and column, both from 1.
-#[derive(Drop)]
+#[derive(Clone, Copy)]
 pub struct Spot {
     pub line: usize,
     pub column: usize,

@@ -1,3 +1,5 @@
+#![tactic(auto)]
+
 ghost use Rattle.std.specs.Prelude.{◌≡◌, Bool, true, false, List, [], ◌∷◌, ℕ, ◌+◌, ◌-◌, ◌*◌, ◌^◌, ◌<◌, ◌≤◌, length, get_or, set, take, cond, ◌||◌};
 ghost use Rattle.lake_analysis.specs.steps.Lent.{Begins, Parted, Fronted, SetsOf, lake_in, hit_in, blocked_in, skip_in, skips_in, CannotSkip};
 
@@ -33,7 +35,7 @@ pub fn analyse(
 }
 
 // How many symbols and expressions there are.
-#[derive(Drop)]
+#[derive(Clone, Copy)]
 struct Sizes {
     symbols: usize,
     expressions: usize,

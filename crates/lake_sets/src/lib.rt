@@ -1,3 +1,5 @@
+#![tactic(auto)]
+
 ghost use Rattle.std.specs.Prelude.{◌≡◌, Bool, true, false, cond, List, [], ◌∷◌, ℕ, ◌+◌, ◌-◌, ◌*◌, ◌^◌, ◌<◌, ◌≤◌, length, get_or, set, replicate, take};
 ghost use Rattle.base_words.specs.Set.{empty, union_of};
 ghost use Rattle.grammar_table.specs.Table.{part_by, part_in, up_to, symbol_word};
@@ -14,7 +16,7 @@ ghost use Rattle.base_rounds.specs.laws.Flow.{Inside};
 use grammar_table::records;
 
 // The three sets of an expression, which travel together with its ε mark (01, Lakes made plain).
-#[derive(Drop)]
+#[derive(Clone, Copy)]
 pub struct Sets {
     pub begin: [u64; 2],
     pub succeed: [u64; 2],
@@ -23,7 +25,7 @@ pub struct Sets {
 }
 
 // An expression's record in a table: its kind and two words.
-#[derive(Drop)]
+#[derive(Clone, Copy)]
 pub struct Record {
     pub op: usize,
     pub left: usize,

@@ -1,3 +1,5 @@
+#![tactic(auto)]
+
 ghost use Rattle.std.specs.Prelude.{◌≡◌, Bool, true, false, List, [], ◌∷◌, ℕ, ◌+◌, ◌-◌, ◌*◌, ◌^◌, ◌<◌, ◌≤◌, length, get_or, set, eqb};
 ghost use Rattle.lake_step_one.specs.steps.Runs.{Near, CopiedOne, CopiedRun, CopiedBody, BodyTo, EndWord};
 ghost use Rattle.lake_step_one.specs.steps.Runs.{moved as moved_to};
@@ -73,7 +75,7 @@ pub fn cap(m: usize) -> usize
 }
 
 // Where a body's expressions stand in a table: from the first to behind the last; `end` is 0 where there is no body.
-#[derive(Drop)]
+#[derive(Clone, Copy)]
 pub struct Extent {
     pub from: usize,
     pub end: usize,
@@ -127,7 +129,7 @@ fn body(t: &[u32], mid: &mut [u32], lake: bool, own: Extent, water: Extent, m: u
 }
 
 // How far step 1 has come in both tables.
-#[derive(Drop)]
+#[derive(Clone, Copy)]
 pub struct Reached {
     pub from: usize,
     pub count: usize,

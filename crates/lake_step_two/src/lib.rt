@@ -1,3 +1,5 @@
+#![tactic(auto)]
+
 ghost use Rattle.std.specs.Prelude.{◌≡◌, Bool, true, false, List, [], ◌∷◌, ℕ, ◌+◌, ◌-◌, ◌*◌, ◌^◌, ◌<◌, ◌≤◌, length, get_or, set};
 ghost use Rattle.lake_step_one.specs.steps.Made.{lake_at};
 ghost use Rattle.lake_step_two.specs.steps.Skips.{Added, AddedSymbol, AddedTerminal, AddedSymbols, AddedTerminals, ChoiceTo, SkipTo, PlainTo};
@@ -112,7 +114,7 @@ fn skip(t: &[u32], out: &mut [u32], s: [u64; 2], r: usize, x: usize, m: usize) -
 }
 
 // How many symbols and terminals there are to choose from.
-#[derive(Drop)]
+#[derive(Clone, Copy)]
 struct Sizes {
     symbols: usize,
     terminals: usize,

@@ -1,6 +1,8 @@
 // The public calls for C and other languages: numbers and slices only, all memory lent, nothing kept. Each leaves its numbers in `out`, which
 // library_numbers/specs/Words.antt defines from the answer of the public call, and returns the first of them: 0, a refusal's number, or 100 for no match.
 // `mode` is 0 for lake, every other byte is plain. `include/gurkenmond.h` declares them for C; `tests/library.py` compares the two.
+#![tactic(auto)]
+
 ghost use Rattle.std.specs.Prelude.{◌≡◌};
 ghost use Rattle.match_list.specs.Nodes.{sound_at};
 ghost use Rattle.prepare.specs.Reads.{read_of};

@@ -1,4 +1,6 @@
 // The answers of the public calls as numbers (specs/Words.antt).
+#![tactic(auto)]
+
 ghost use Rattle.std.specs.Prelude.{◌≡◌};
 ghost use Rattle.gurkenmond.specs.Answers.{verdict_says, outcome_says, way_says};
 ghost use Rattle.library_numbers.specs.Words.{mode_of, bit_of, four_words, read_numbers, sets_numbers, lakes_numbers, match_numbers, one_by, spot_by, span_words};

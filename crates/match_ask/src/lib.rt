@@ -1,4 +1,6 @@
 // The lake question on the tables of a grammar: refusals 9, 10 and 14, the cells, then how the lake matches (01, "Other calls").
+#![tactic(auto)]
+
 ghost use Rattle.std.specs.Prelude.{◌≡◌, ◌≤◌};
 ghost use Rattle.prepare.specs.Prepare.{prepared};
 ghost use Rattle.match_ask.specs.steps.Asks.{not_asked, way_of, no_lake, LakeIn, Stood, Looked, lent, asked_of};
@@ -9,7 +11,7 @@ use prepare::Verdict;
 use read_tokens::Mode;
 
 // How a lake matches at a position.
-#[derive(Drop)]
+#[derive(Clone, Copy)]
 pub enum Way {
     Not,
     ByRule,
@@ -17,7 +19,7 @@ pub enum Way {
     BySkip,
 }
 
-#[derive(Drop)]
+#[derive(Clone, Copy)]
 pub struct LakeWay {
     pub way: Way,
     pub verdict: Verdict,
@@ -45,7 +47,7 @@ fn way_of(k: usize) -> Way
 }
 
 // What is asked of a grammar's symbol beside the tables: whether it is a lake, then its ALT; or the grammar's refusal.
-#[derive(Drop)]
+#[derive(Clone, Copy)]
 pub struct LakeAlt {
     pub symbol: usize,
     pub there: bool,

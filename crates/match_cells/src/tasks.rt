@@ -32,7 +32,7 @@ fn copy_row(cells: &mut [u32], plan: &Plan, o: usize, n: usize, i: usize)
 
 // The tasks of a place p, over n symbols: from i on m open symbols, whose cells are stored, then keys, whose rounds are remembered; k in all. And 1 + the
 // symbol that the first key tells, 0 for none.
-#[derive(Drop)]
+#[derive(Clone, Copy)]
 struct Job {
     n: usize,
     i: usize,
@@ -100,7 +100,7 @@ fn tasks(
 }
 
 // A place p, over n symbols, where the byte with the record at o stands.
-#[derive(Drop)]
+#[derive(Clone, Copy)]
 pub struct Place {
     pub n: usize,
     pub o: usize,

@@ -1,6 +1,8 @@
 // What the list keeps in words of its own: which expressions hold a symbol, the symbol's use that was entered on each level, what bytes decide of rounds (the
 // lanes, which others lay), and each expression's parent. Parents serve in place of a stack of tasks, since in a table of a grammar no expression is a part
 // twice. Expressions are 1 + their number; 0 is none.
+#![tactic(auto)]
+
 ghost use Rattle.std.specs.Prelude.{◌+◌, ◌-◌, ◌≤◌, ◌<◌, ◌≡◌, set};
 ghost use Rattle.grammar_table.specs.Table.{expression_count};
 ghost use Rattle.match_desk.specs.steps.Desk.{Forest, Desk, mark_of, parents_at};
@@ -23,7 +25,7 @@ pub const WORDS: usize = 4356;
 const HOLDS: usize = 1;
 
 // An expression's kind, its left word and its parts.
-#[derive(Drop)]
+#[derive(Clone, Copy)]
 pub struct Seen {
     pub op: usize,
     pub left: usize,

@@ -1,4 +1,6 @@
 // Evaluation of a table's expressions over work cells (01, Meaning of a match).
+#![tactic(auto)]
+
 ghost use Rattle.std.specs.Prelude.{◌≡◌, ◌<◌, ◌≤◌, length};
 ghost use Rattle.read_tokens.specs.Token.{any, literal, class};
 ghost use Rattle.grammar_table.specs.Table.{words_from, marks_from, leaf_in};

@@ -1,6 +1,8 @@
 // What a byte decides alone (01, Meaning of a match): an expression fails where it stands, takes nothing, or takes just this byte. What is decided is said in
 // the memory and not evaluated there: most symbols fail at most bytes, and most rounds are one byte. What is not decided is evaluated, so that to decide less
 // would do too.
+#![tactic(auto)]
+
 ghost use Rattle.std.specs.Prelude.{ℕ, ◌+◌, ◌*◌, ◌<◌, ◌≤◌, ◌≡◌, true, get_or, length};
 ghost use Rattle.grammar.specs.Exp.{sym};
 ghost use Rattle.grammar_table.specs.Table.{leaf_in};

@@ -1,5 +1,7 @@
 // Keys for repeated parts, the same for parts with the same tree, so that they share what is remembered (01, Meaning of a match). What the words of the
 // memory are: match_eval.
+#![tactic(auto)]
+
 ghost use Rattle.std.specs.Prelude.{◌<◌, ◌≤◌, ◌≡◌, true};
 ghost use Rattle.grammar_table.specs.Trees.{tree_of};
 ghost use Rattle.match_eval.specs.steps.Memory.{Found, Fresh};

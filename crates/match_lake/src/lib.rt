@@ -1,4 +1,6 @@
 // The lake question on filled cells (01, Meaning of a match).
+#![tactic(auto)]
+
 ghost use Rattle.std.specs.Prelude.{ℕ, ◌+◌, ◌≤◌, ◌<◌, ◌≡◌, Bool, true, false, List, length, drop};
 ghost use Rattle.grammar.specs.Same.{same_symbol, index_of};
 ghost use Rattle.grammar.specs.Numbers.{is_lake};

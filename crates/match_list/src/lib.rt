@@ -1,5 +1,7 @@
 // The node in lent words: where each of its words stands, one function that writes it and one that reads a word of it (01, Meaning of a match).
 // Lent words that are read may hold anything.
+#![tactic(auto)]
+
 ghost use Rattle.std.specs.Prelude.{ℕ, ◌-◌, ◌≤◌, ◌<◌, ◌≡◌, length, take, drop};
 ghost use Rattle.read_tokens.specs.Bounds.{node_words};
 ghost use Rattle.match_meaning.specs.Meaning.{nd};
@@ -38,7 +40,7 @@ pub fn node_word(nodes: &[u32], k: usize, j: usize) -> usize
 }
 
 // From start to end.
-#[derive(Drop)]
+#[derive(Clone, Copy)]
 struct Range {
     start: usize,
     end: usize,

@@ -1,5 +1,7 @@
 // Rounds that the byte at their place decides: they take just this byte, and list one node or none (01, Meaning of a match). Such rounds are most of what a
 // lake passes over, and the list needs no walk for them.
+#![tactic(auto)]
+
 ghost use Rattle.std.specs.Prelude.{◌+◌, ◌*◌, ◌≤◌, ◌<◌, ◌≡◌, true};
 ghost use Rattle.grammar_table.specs.Table.{expression_count};
 ghost use Rattle.match_desk.specs.steps.Desk.{Desk};

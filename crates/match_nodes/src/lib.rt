@@ -1,6 +1,8 @@
 // The node list of a match (01, Meaning of a match): a walk over the cells, down the expressions and up their parents. A walk notes nodes in words of its
 // own, the trail, and is gone to its end before a lent word is written, so that a refusal leaves them all as they were. What the trail does not hold is walked
 // again.
+#![tactic(auto)]
+
 ghost use Rattle.std.specs.Prelude.{ℕ, ◌+◌, ◌*◌, ◌/◌, ◌≤◌, ◌<◌, ◌≡◌, true, false, [], ◌∷◌, ◌++◌, length};
 ghost use Rattle.grammar_table.specs.Table.{expression_count};
 ghost use Rattle.grammar_table.specs.Trees.{bodies_of};
@@ -26,7 +28,7 @@ use trail::{Chunk, Trail};
 mod trail;
 
 // All: how many nodes. Deep, Full: the number of the first node that is too deep, that has no room.
-#[derive(Drop)]
+#[derive(Clone, Copy)]
 pub enum Listed {
     All(usize),
     Deep(usize),
@@ -43,7 +45,7 @@ const NO_ROOM: usize = 9223372036854775808;
 const NOWHERE: usize = 2047;
 
 // What a pass keeps: how many symbols, how many nodes there is room for, how many words of the desk's lanes are laid, and the count of nodes at which it stops.
-#[derive(Drop)]
+#[derive(Clone, Copy)]
 struct Setting {
     n: usize,
     room: usize,
@@ -52,14 +54,14 @@ struct Setting {
 }
 
 // A pass under way.
-#[derive(Drop)]
+#[derive(Clone, Copy)]
 struct Tour {
     setting: Setting,
     stand: Stand,
 }
 
 // A symbol that is to be entered: from which expression, on which level; in the text, in the list.
-#[derive(Drop)]
+#[derive(Clone, Copy)]
 struct Entry {
     symbol: usize,
     level: usize,
@@ -69,7 +71,7 @@ struct Entry {
 }
 
 // How far rounds go that need no walk: in the text, in the list.
-#[derive(Drop)]
+#[derive(Clone, Copy)]
 struct Reached {
     place: usize,
     at: usize,
@@ -532,7 +534,7 @@ fn write_long(
 }
 
 // What a pass ends with, and whether its trail has all nodes.
-#[derive(Drop)]
+#[derive(Clone, Copy)]
 struct Passed {
     v: usize,
     whole: bool,

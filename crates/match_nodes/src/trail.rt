@@ -136,7 +136,7 @@ pub fn clear(trail: &mut [u8])
 }
 
 // The first two bytes of a node.
-#[derive(Drop)]
+#[derive(Clone, Copy)]
 struct Pair {
     b: usize,
     w: usize,
@@ -194,7 +194,7 @@ pub fn keep(trail: &mut [u8], r: usize, p: usize, d: usize)
 }
 
 // So many nodes of a trail: the first of them is node `from` of the list.
-#[derive(Drop)]
+#[derive(Clone, Copy)]
 pub struct Chunk {
     pub from: usize,
     pub count: usize,

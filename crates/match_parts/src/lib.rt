@@ -1,6 +1,8 @@
 // The parts of a sequence, or the alternatives of a choice, listed once a match, so that they are evaluated one after the other without going down the
 // expression at each place (01, Meaning of a match). There is a list for each symbol's body and for each key's part. Of how the lists are made nothing is
 // promised: they are checked when they are made, and lists that are not right are not used.
+#![tactic(auto)]
+
 ghost use Rattle.std.specs.Prelude.{ℕ, ◌+◌, ◌<◌, ◌≤◌, ◌≡◌, true, get_or, length};
 ghost use Rattle.grammar_table.specs.Table.{symbol_word};
 ghost use Rattle.match_eval.specs.steps.Memory.{count_at, parts_at, Knows};
@@ -24,7 +26,7 @@ const LISTS_AT: usize = 1089;
 const PARTS: usize = 2;
 
 // What is asked of a list: over the cells of n symbols, where it begins, at which place.
-#[derive(Drop)]
+#[derive(Clone, Copy)]
 pub struct Ask {
     pub n: usize,
     pub i: usize,

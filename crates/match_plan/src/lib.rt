@@ -1,6 +1,8 @@
 // What is done where a byte stands, listed once a byte (01, Meaning of a match). Few bytes stand at the many places of a text: what the memory says of one is
 // looked up once, and not for each symbol and each key at each place. Of how the lists are made nothing is promised: they are checked when they are made, and a
 // plan that is not right is not used.
+#![tactic(auto)]
+
 ghost use Rattle.std.specs.Prelude.{ℕ, ◌+◌, ◌≤◌, ◌<◌, ◌≡◌, true, false, get_or};
 ghost use Rattle.match_eval.specs.steps.Named.{Names};
 ghost use Rattle.match_plan.specs.steps.Plan.{Recorded, Planned};
@@ -97,7 +99,7 @@ fn twin(t: &[u32], mem: &[u32], order: &[u32], n: usize) -> usize
 }
 
 // The record of byte b at o, over n symbols; and the key that may tell the last of them.
-#[derive(Drop)]
+#[derive(Clone, Copy)]
 struct Record {
     n: usize,
     b: usize,
@@ -330,7 +332,7 @@ fn row_right(t: &[u32], mem: &[u32], n: usize, b: usize, plan: &Plan, o: usize) 
 }
 
 // Where open symbols are listed, and how many; these are the open ones of the first `of` in the order.
-#[derive(Drop)]
+#[derive(Clone, Copy)]
 struct Listing {
     i: usize,
     m: usize,

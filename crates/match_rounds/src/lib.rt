@@ -1,4 +1,6 @@
 // Rounds that are remembered: at each place that is done, entries for each key (01, Meaning of a match). What the words of the memory are: match_eval.
+#![tactic(auto)]
+
 ghost use Rattle.std.specs.Prelude.{ℕ, ◌+◌, ◌<◌, ◌≤◌, ◌≡◌, List, get_or, length};
 ghost use Rattle.grammar_table.specs.Trees.{tree_of};
 ghost use Rattle.match_eval.specs.Eval.{ev};
@@ -107,7 +109,7 @@ fn remember(mem: &mut Memory, k: usize, p: usize, c: usize)
 }
 
 // The first round of part y from p on: 0 for none, else 1 + the bytes that it takes.
-#[derive(Drop)]
+#[derive(Clone, Copy)]
 pub struct First {
     pub y: usize,
     pub p: usize,
@@ -234,7 +236,7 @@ pub fn learn_all(t: &Table, s: &[u8], cells: &[u32], mem: &mut Memory, n: usize,
 }
 
 // The keys that a plan lists from i on, d of them, each of which takes just the byte at p.
-#[derive(Drop)]
+#[derive(Clone, Copy)]
 pub struct Takers {
     pub i: usize,
     pub d: usize,

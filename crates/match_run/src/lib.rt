@@ -1,4 +1,6 @@
 // The table of a plain grammar matched against a text: refusals 9 and 10, the cells, then the node list with 11 and 12 (01, Meaning of a match).
+#![tactic(auto)]
+
 ghost use Rattle.std.specs.Prelude.{◌≡◌};
 ghost use Rattle.match_run.specs.steps.Runs.{Loopless, Ran, listed_match, not_matched};
 
@@ -7,14 +9,14 @@ use match_eval::memory::Memory;
 use prepare::Verdict;
 
 // Matched to a place, none, or refused with number and place.
-#[derive(Drop)]
+#[derive(Clone, Copy)]
 pub enum Outcome {
     Matched(usize),
     NoMatch,
     Refused { number: usize, place: usize },
 }
 
-#[derive(Drop)]
+#[derive(Clone, Copy)]
 pub struct Match {
     pub nodes: usize,
     pub outcome: Outcome,

@@ -1,5 +1,7 @@
 // The walk of the node list without what is written: which alternative of a choice is taken, what walking an expression comes to, and what comes behind one
 // that is done.
+#![tactic(auto)]
+
 ghost use Rattle.std.specs.Prelude.{◌≤◌, ◌<◌, ◌≡◌, true, ◌⊎◌, length};
 ghost use Rattle.grammar_table.specs.Table.{expression_count};
 ghost use Rattle.grammar_table.specs.Trees.{tree_of};
@@ -26,7 +28,7 @@ pub const WALK: usize = 2;
 pub const ENTER: usize = 3;
 
 // Where a pass stands: how, on which level, at which expression; in the text, in the list.
-#[derive(Drop)]
+#[derive(Clone, Copy)]
 pub struct Stand {
     pub mode: usize,
     pub level: usize,
@@ -36,7 +38,7 @@ pub struct Stand {
 }
 
 // How a pass stands then, at which expression (or before which symbol) and where in the text.
-#[derive(Drop)]
+#[derive(Clone, Copy)]
 pub struct Next {
     pub kind: usize,
     pub x: usize,

@@ -1,4 +1,6 @@
 // Writes the plain text of the lake grammar in the file `grammar.peg` (01, Writing), or refused NUMBER PLACE, or unreadable if the file cannot be opened.
+#![tactic(auto)]
+
 use gurkenmond::{Mode, Verdict};
 
 fn answer(text: &[u8]) {

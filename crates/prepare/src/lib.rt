@@ -1,5 +1,7 @@
 // What every call on a grammar does first (01: "Every call on a grammar checks 1 to 8"): the text becomes a table, the table an intermediate grammar with
 // its sets, and that a plain grammar; or a refusal with number and place.
+#![tactic(auto)]
+
 ghost use Rattle.std.specs.Prelude.{◌≡◌, length};
 ghost use Rattle.std.proofs.Math.Option.{none};
 ghost use Rattle.grammar.specs.Numbers.{numbered};
@@ -21,13 +23,13 @@ use grammar_table::{Table, records, renew};
 use read_tokens::Mode;
 
 // A grammar is accepted, or refused with number and place.
-#[derive(Drop)]
+#[derive(Clone, Copy)]
 pub enum Verdict {
     Accepted,
     Refused { number: usize, place: usize },
 }
 
-#[derive(Drop)]
+#[derive(Clone, Copy)]
 pub struct Counted {
     pub symbols: usize,
     pub terminals: usize,
@@ -94,7 +96,7 @@ pub fn load(mode: Mode, text: &[u8], t: &mut Table) -> Counted
 }
 
 // How many expressions the intermediate grammar has, and how many rounds ALT took.
-#[derive(Drop)]
+#[derive(Clone, Copy)]
 pub struct Intermediate {
     pub expressions: usize,
     pub rounds: usize,
@@ -186,7 +188,7 @@ pub fn expressions(t: &Table) -> usize
 }
 
 // The answer of `read`, and the round count of ALT.
-#[derive(Drop)]
+#[derive(Clone, Copy)]
 pub struct Prepared {
     pub counted: Counted,
     pub rounds: usize,

@@ -1,5 +1,7 @@
 // A grammar's table of words from its text (01, Notation). The text is one that refusals 1 to 5 let through, so that no function here answers an
 // error; on any other text the code does something and ends.
+#![tactic(auto)]
+
 ghost use Rattle.std.specs.Prelude.{◌+◌, ◌<◌, ◌≤◌, ◌≡◌, ◌||◌, length};
 ghost use Rattle.grammar.specs.Trees.{tree_c, tree_s, tree_p, tree_q};
 ghost use Rattle.read_tokens.specs.steps.Code.{Tabled};
@@ -16,7 +18,7 @@ use read_tokens::kinds::laid_out;
 use read_tokens::{Mode, token_by};
 
 // How many symbols, terminals and expressions there are; 65, 65 and 1,025 say that there are more than a table has room for.
-#[derive(Drop)]
+#[derive(Clone, Copy)]
 pub struct Counts {
     pub symbols: usize,
     pub terminals: usize,

@@ -27,14 +27,14 @@ const BAD: usize = 1;
 const LOST: usize = 2;
 
 // What is found of a token for refusal 4, and whether it may be the use of a name of the range.
-#[derive(Drop)]
+#[derive(Clone, Copy)]
 pub struct Meeting {
     pub found: usize,
     pub used: bool,
 }
 
 // How far a walk for refusal 4 came, and whether it may have passed a use of a name of the range.
-#[derive(Drop)]
+#[derive(Clone, Copy)]
 pub struct Passed {
     pub place: usize,
     pub used: bool,
@@ -313,7 +313,7 @@ fn second_from(mode: Mode, text: &[u8], from: usize, a: &mut Room) -> usize
 }
 
 // 1 + the places of refusals 4 and 5; 0 where there is none. That of 5 is told only where there is no 4.
-#[derive(Drop)]
+#[derive(Clone, Copy)]
 pub struct Places {
     pub second: usize,
     pub unruled: usize,

@@ -13,7 +13,7 @@ use read_tokens::kinds::laid_out;
 use read_tokens::{Mode, token_by};
 
 // A refusal; number 0: none.
-#[derive(Drop)]
+#[derive(Clone, Copy)]
 pub struct Found {
     pub number: usize,
     pub place: usize,

@@ -20,7 +20,7 @@ pub fn byte_at(text: &[u8], at: usize) -> u32
 }
 
 // The byte that a character stands for, and how many bytes it takes in the text; no character: width 0.
-#[derive(Drop)]
+#[derive(Clone, Copy)]
 pub struct Char {
     pub byte: u8,
     pub width: usize,
@@ -123,7 +123,7 @@ pub fn char_at(text: &[u8], at: usize) -> Char
 }
 
 // How many characters a literal has, and the place behind its closing quote; broken: 0 and 0.
-#[derive(Drop)]
+#[derive(Clone, Copy)]
 pub struct Count {
     pub count: usize,
     pub next: usize,

@@ -10,7 +10,7 @@ use super::Mode;
 use super::chars::{byte_at, char_at};
 
 // What a class lists at a place: the bytes lo to hi, and how many bytes of the text that takes; nothing: width 0.
-#[derive(Drop)]
+#[derive(Clone, Copy)]
 struct Item {
     lo: u8,
     hi: u8,

@@ -1,4 +1,6 @@
 // The tokens of a grammar text (01, Notation): the token at a place, as numbers; what it holds is read by `chars` and `classes`.
+#![tactic(auto)]
+
 ghost use Rattle.std.specs.Prelude.{suc, ◌<◌, ◌+◌, ◌≡◌, false, eqb, length, drop};
 ghost use Rattle.std.proofs.Math.Option.{some};
 ghost use Rattle.read_tokens.specs.Chars.{body, single};
@@ -17,7 +19,7 @@ use kinds::kind_of;
 use names::{blanks, name_end};
 
 // The two ways to read a grammar text (01, Notation, "Two modes").
-#[derive(Drop)]
+#[derive(Clone, Copy)]
 pub enum Mode {
     Lake,
     Plain,
@@ -56,7 +58,7 @@ pub const CLOSES: u8 = 14;
 pub const BAD: u8 = 15;
 
 // A token by the number of its kind, its first byte's place, the place behind it, and how many bytes a name or a literal has.
-#[derive(Drop)]
+#[derive(Clone, Copy)]
 pub struct Token {
     pub kind: u8,
     pub start: usize,

@@ -1,5 +1,7 @@
 // Refusals 4 and 5 (01, Refusal numbers): left sides and names are compared by their places in the text, so that nothing is stored however many rules a text
 // has.
+#![tactic(auto)]
+
 ghost use Rattle.std.specs.Prelude.{◌≡◌, Bool, true, false, List, [], ℕ, ◌+◌, ◌≤◌, ◌<◌, length, drop, take};
 ghost use Rattle.std.proofs.Math.Option.{some, none};
 ghost use Rattle.read_tokens.specs.Token.{Tok};

@@ -18,6 +18,7 @@
 //   handed WORDS                              handed and the four numbers of each node
 // MODE is `lake` or `plain`; bytes are in hexadecimal, `-` is the empty text; WORDS are numbers with `,` between, `-` none. Every lent word holds
 // 3,735,928,559 before the call.
+#![tactic(auto)]
 
 // The line so far is answered; one byte more than there is room for is too long.
 fn finish(line: &[u8], k: usize) {

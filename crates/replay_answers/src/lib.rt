@@ -1,4 +1,5 @@
 // Every public call asked once, and its answer printed as a line of words and numbers (crate `replay` has the lines).
+#![tactic(auto)]
 
 use gurkenmond::{Mode, Verdict};
 

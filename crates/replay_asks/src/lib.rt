@@ -1,4 +1,6 @@
 // What a line asks: its fields read, and the call of `replay_answers` that answers it. The head of `replay/src/main.rt` has the lines.
+#![tactic(auto)]
+
 ghost use Rattle.std.specs.Prelude.{◌≤◌};
 
 use gurkenmond::Mode;

@@ -1,4 +1,6 @@
 // A line of questions: its fields are words apart by one space, bytes in hexadecimal, decimal numbers.
+#![tactic(auto)]
+
 pub mod buffers;
 
 ghost use Rattle.std.specs.Prelude.{◌+◌, ◌≤◌, ◌<◌, ◌≡◌, length, drop};

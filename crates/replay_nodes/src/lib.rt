@@ -1,5 +1,7 @@
 // The questions on node words alone, which have no refusal: their fields read, and the public calls that answer them. The head of `replay/src/main.rt` has
 // the lines.
+#![tactic(auto)]
+
 use replay_lines::buffers;
 
 fn node_sound(nodes: &[u32], k: usize, n: usize) {

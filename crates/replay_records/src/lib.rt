@@ -1,4 +1,6 @@
 // The questions on records and places (02, par. 2): their fields read, and the public calls that answer them. The head of `replay/src/main.rt` has the lines.
+#![tactic(auto)]
+
 ghost use Rattle.std.specs.Prelude.{◌≤◌};
 
 use gurkenmond::{Mode, Summary, Summed, Verdict};
@@ -8,7 +10,7 @@ use replay_lines::buffers;
 const RECORDS: usize = 96;
 
 // An answer, and all records afterwards.
-#[derive(Drop)]
+#[derive(Clone, Copy)]
 pub struct Lent {
     pub answer: Summed,
     pub records: [Summary; 96],

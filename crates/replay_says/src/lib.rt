@@ -1,4 +1,6 @@
 // What a public call answers, said as a line of words and numbers (crate `replay` has the lines).
+#![tactic(auto)]
+
 use gurkenmond::{LakeWay, NodeStep, Outcome, Parsed, Sets, Verdict, Way, Written};
 
 // A 64-bit number behind a word.

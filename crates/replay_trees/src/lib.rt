@@ -1,4 +1,6 @@
 // The questions on trees as JSON (02, par. 1): their fields read, and the public calls that answer them. The head of `replay/src/main.rt` has the lines.
+#![tactic(auto)]
+
 use gurkenmond::Mode;
 use replay_lines::buffers;
 

@@ -1,6 +1,8 @@
 // Matches standard input by the lake grammar in the file `grammar.peg` and prints the spans (01, Cases):
 //   match TAKEN, then a line START END DEPTH NAME for each node; none; refused NUMBER PLACE; unreadable if the file cannot be opened.
 // All that it prints comes from the public calls: a node has its symbol's number alone, and `symbol_name` is asked once for each symbol that occurs.
+#![tactic(auto)]
+
 ghost use Rattle.std.specs.Prelude.{◌≡◌, ◌<◌, length};
 
 use gurkenmond::{Mode, Outcome};
@@ -12,7 +14,7 @@ const SYMBOLS: usize = 64;
 const NAME_MOST: usize = 34;
 
 // A symbol's name; of size 0 before it is asked for: no name is empty.
-#[derive(Drop)]
+#[derive(Clone, Copy)]
 struct Name {
     bytes: [u8; NAME_MOST],
     size: usize,

@@ -1,5 +1,7 @@
 // Whether lent words are the preorder list of a tree (02, par. 1, refusal 15), and the list handed out node by node.
 // Lent words may hold anything.
+#![tactic(auto)]
+
 ghost use Rattle.std.specs.Prelude.{◌<◌, ◌≡◌};
 ghost use Rattle.match_meaning.specs.Meaning.{nd};
 ghost use Rattle.tree_list.specs.Preorder.{gap, root_first, bad_node};
@@ -11,7 +13,7 @@ ghost use Rattle.tree_list.specs.steps.Judging.{judged_by};
 use match_list::{DEPTH, END, NODE_WORDS, START, SYMBOL};
 
 // A node of a list.
-#[derive(Drop)]
+#[derive(Clone, Copy)]
 pub struct Node {
     pub symbol: usize,
     pub start: usize,
@@ -20,7 +22,7 @@ pub struct Node {
 }
 
 // The next node, if there is one, and the place behind it.
-#[derive(Drop)]
+#[derive(Clone, Copy)]
 pub struct NodeStep {
     pub found: bool,
     pub node: Node,
@@ -28,14 +30,14 @@ pub struct NodeStep {
 }
 
 // The lent node words and a place in them, in nodes (01, Required forms by place).
-#[derive(Drop)]
+#[derive(Clone, Copy)]
 pub struct NodeReader<'a> {
     pub words: &'a [u32],
     pub at: usize,
 }
 
 // Whether words are a list, and else the number of the first bad node.
-#[derive(Drop)]
+#[derive(Clone, Copy)]
 pub struct Judged {
     pub good: bool,
     pub place: usize,

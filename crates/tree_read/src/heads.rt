@@ -15,7 +15,7 @@ pub const LAST: usize = 1;
 pub const MORE: usize = 2;
 
 // A node up to its children, and the place behind.
-#[derive(Drop)]
+#[derive(Clone, Copy)]
 pub struct Head {
     pub symbol: usize,
     pub start: usize,
@@ -65,7 +65,7 @@ fn closings(json: &[u8], at: usize, c: usize) -> Reading
 }
 
 // How it goes on, and where and how deep the next node is.
-#[derive(Drop)]
+#[derive(Clone, Copy)]
 pub struct Behind {
     pub kind: usize,
     pub depth: usize,

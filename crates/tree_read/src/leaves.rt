@@ -10,7 +10,7 @@ use crate::bytes;
 use grammar_table::records;
 
 // What was read, and the place behind it.
-#[derive(Drop)]
+#[derive(Clone, Copy)]
 pub struct Reading {
     pub value: usize,
     pub place: usize,

@@ -1,5 +1,7 @@
 // A JSON text read as the node list that it is the text of (02, par. 1): judged whole, then written; any other text is refused 16, and a list for which
 // there is no room 12, with nothing written.
+#![tactic(auto)]
+
 ghost use Rattle.std.specs.Prelude.{◌≤◌, ◌≡◌, false, length};
 ghost use Rattle.write_leaves.specs.steps.Printed.{called};
 ghost use Rattle.tree_json.specs.Reading.{parsed};
@@ -16,7 +18,7 @@ pub mod leaves;
 pub mod nodes;
 
 // How many nodes were written.
-#[derive(Drop)]
+#[derive(Clone, Copy)]
 pub struct Parsed {
     pub nodes: usize,
     pub verdict: Verdict,

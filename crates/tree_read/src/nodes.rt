@@ -11,7 +11,7 @@ use heads::{LAST, NONE};
 use tree_list::{GAPS, Node};
 
 // Before a node: its place in the text, its depth and number, and how many depths are possible for it.
-#[derive(Drop)]
+#[derive(Clone, Copy)]
 pub struct Stand {
     pub at: usize,
     pub depth: usize,
@@ -20,7 +20,7 @@ pub struct Stand {
 }
 
 // A node that was read, and where the next one is to be read.
-#[derive(Drop)]
+#[derive(Clone, Copy)]
 struct Turn {
     kind: usize,
     node: Node,

@@ -1,5 +1,7 @@
 // One record for each symbol of a node list: how many nodes, how many bytes, the first and the last (02, par. 2). The list is passed once, whatever its
 // depth: beside the records stands the farthest end of each symbol's nodes so far.
+#![tactic(auto)]
+
 ghost use Rattle.std.specs.Prelude.{suc, ◌-◌, ◌<◌, ◌≤◌, max, ◌≡◌, cond, leb, length, get_or, set};
 ghost use Rattle.grammar_table.specs.Table.{symbol_count};
 ghost use Rattle.tree_summary.specs.Summary.{absent};
@@ -12,7 +14,7 @@ use prepare::Verdict;
 
 // The record of a symbol; without a node it is all zeros and not present. Laid out as C does: other languages lend such records too.
 #[repr(C)]
-#[derive(Drop)]
+#[derive(Clone, Copy)]
 pub struct Summary {
     pub nodes: usize,
     pub bytes: usize,
@@ -22,7 +24,7 @@ pub struct Summary {
 }
 
 // What happens to a record: node `number` is added with so many bytes, or it is made absent.
-#[derive(Drop)]
+#[derive(Clone, Copy)]
 pub struct Change {
     pub adds: bool,
     pub number: usize,
@@ -30,7 +32,7 @@ pub struct Change {
 }
 
 // A step of a pass: the record that it changes, the change, and the farthest end of each symbol's nodes behind it.
-#[derive(Drop)]
+#[derive(Clone, Copy)]
 pub struct Sweep {
     pub place: usize,
     pub change: Change,
@@ -38,14 +40,14 @@ pub struct Sweep {
 }
 
 // For how many symbols a record was written.
-#[derive(Drop)]
+#[derive(Clone, Copy)]
 pub struct Summed {
     pub symbols: usize,
     pub verdict: Verdict,
 }
 
 // What is left to do once all is checked; nothing after a refusal.
-#[derive(Drop)]
+#[derive(Clone, Copy)]
 pub struct Plan {
     pub symbols: usize,
     pub steps: usize,

@@ -1,5 +1,7 @@
 // A node list put into lent room as JSON text (02, par. 1): counted before a byte is written; where it does not fit, refusal 13 with the bytes needed and
 // the room as it was. Every function writes from `at` on and answers the place behind; with `write` false it only counts.
+#![tactic(auto)]
+
 ghost use Rattle.std.specs.Prelude.{false};
 ghost use Rattle.match_list.specs.Nodes.{nodes_at, room_of};
 ghost use Rattle.write_leaves.specs.steps.Printed.{called};

@@ -1,1 +1,2 @@
 // A grammar that is written and read again: see specs/.
+#![tactic(auto)]

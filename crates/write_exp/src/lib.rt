@@ -1,4 +1,6 @@
 // Expressions as text, with the parentheses that are needed (01, Writing); as in `write_leaves`, with `write` false they are only counted.
+#![tactic(auto)]
+
 ghost use Rattle.std.specs.Prelude.{◌≡◌, Bool, List, [], ◌∷◌, ℕ, ◌+◌, ◌*◌, ◌≤◌, ◌<◌, length};
 ghost use Rattle.read_tokens.specs.Token.{Symbol};
 ghost use Rattle.grammar_table.specs.Trees.{tree_of};

@@ -55,7 +55,7 @@ fn run_text(out: &mut [u8], write: bool, at: usize, lo: u8, hi: u8) -> usize
 }
 
 // Where the text is, and the byte at which the open run began; 256: no run is open.
-#[derive(Drop)]
+#[derive(Clone, Copy)]
 pub struct Turn {
     pub at: usize,
     pub run: usize,

@@ -1,4 +1,6 @@
 // A text or a symbol's name put into lent room: all of it where it fits, else refusal 13 with the bytes needed and the room as it was (01, Writing).
+#![tactic(auto)]
+
 ghost use Rattle.std.specs.Prelude.{◌<◌, ◌≡◌, false};
 ghost use Rattle.write_rules.specs.Writing.{symbol_text};
 ghost use Rattle.write_leaves.specs.steps.Printed.{called};
@@ -9,7 +11,7 @@ use grammar_table::Table;
 use prepare::Verdict;
 
 // How many bytes were written.
-#[derive(Drop)]
+#[derive(Clone, Copy)]
 pub struct Written {
     pub bytes: usize,
     pub verdict: Verdict,

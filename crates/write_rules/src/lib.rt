@@ -1,1 +1,2 @@
 // A grammar as text: see specs/.
+#![tactic(auto)]

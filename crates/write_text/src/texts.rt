@@ -50,7 +50,7 @@ pub fn rules(t: &[u32], out: &mut [u8], write: bool, plain: bool, at: usize) -> 
 }
 
 // The bytes that a text needs, and whether it was written.
-#[derive(Drop)]
+#[derive(Clone, Copy)]
 pub struct Pages {
     pub bytes: usize,
     pub fits: bool,

@@ -1,0 +1,249 @@
+#!/usr/bin/env python3
+"""Turns a crate's proofs by hand of an older Rattle, proofs/F/Proof.antt, into today's Invariants.antt and Answers.antt.
+
+usage: tools/answers.py CRATE-FOLDER NAMES.json     where NAMES.json is what `rt check --generated DIR --old-names` writes for the crate
+
+A proof of the older form names each goal `tie.Need-X` and walks to a fact by its place, as `c.before.before.if1.true`. Today's goals are named after the
+source, and every fact is a field of `c` by its step's name. NAMES.json has both names of each. Answers that only say `search rules` or `omega arith` go,
+since the check finds them. What it can't turn it says, with the file.
+"""
+import json
+import os
+import re
+import sys
+
+STEP = re.compile(r"\b(?P<v>[cw])(?P<up>(?:\.before)*)\.(?P<step>[^\s().,;\[\]{}]+)(?P<rest>(?:\.[^\s().,;\[\]{}]+)*)")
+START = {"args", "requires", "ranges", "type_inv"}
+MADE = re.compile(r"^use Rattle\.\w+\.proofs\.\S+\.(Statement|Tie|Reads|Lts)(?:\.\{[^}]*\})?(?: as (\S+))?$")
+FOUND = {"search rules", "omega arith"}
+
+
+def norm(name):
+    name = name.replace("_", "-").lower()
+    return name.removeprefix("overflow-")
+
+
+def blocks(text):
+    """Declarations at the left edge, each with its comments before it."""
+    out, now = [], []
+    fresh = True
+    for line in text.split("\n"):
+        starts = line and not line[0].isspace() and not line.startswith((")", "]", "}"))
+        if starts and now and not all(l.startswith("--") or not l.strip() for l in now):
+            head = re.match(r"(?:abbrev |pub |unfoldable )*(\S+)", line).group(1)
+            first = next(l for l in now if l.strip() and not l.startswith("--"))
+            name = re.match(r"(?:abbrev |pub |unfoldable )*(\S+)", first).group(1)
+            # a definition's clauses and its line `unfolding` go on
+            if line.startswith("unfolding ") or (head == name and not line.startswith(("use ", "--"))):
+                now.append(line)
+                continue
+            out.append("\n".join(now).strip("\n"))
+            now = []
+        now.append(line)
+    if now:
+        out.append("\n".join(now).strip("\n"))
+    return [b for b in out if b]
+
+
+class Names:
+    """One function's old and new names."""
+
+    def __init__(self, table):
+        self.needs = {}
+        self.at = {}
+        for (old, new), (place, _) in zip(table["needs"], table["asked_at"]):
+            self.needs[norm(old)] = new
+            self.at[norm(old)] = place
+        self.places = {p[0]: p for p in table["places"]}
+        self.arms = {p[0]: a for p, a in zip(table["places"], table["arms"]) if a}
+        self.loops = {old: (new, names) for (old, new), names in table["loops"]}
+        self.changed = table["changed"]
+        self.args = [(a.replace(" ", ""), b.replace(" ", "")) for a, b in table["args"]]
+        self.settled = set(map(norm, table["settled"]))
+        self.lost = []
+
+    def chain(self, place):
+        out = []
+        while place is not None and place in self.places:
+            out.append(self.places[place])
+            place = self.places[place][1]
+        return out
+
+    def step(self, place, ups, step, rest):
+        if step in START:
+            path = "." + step + rest
+            for old, new in self.args:
+                if path == old or path.startswith(old + "."):
+                    path = new + path[len(old) :]
+                    break
+            return path
+        chain = self.chain(place)
+        order = chain[ups : ups + 1] + chain[ups + 1 :] + chain[:ups][::-1]
+        for p in order:
+            arm = self.arms.get(p[0])
+            for field, old, path in sorted(arm[2] if arm else [], key=lambda f: -len(f[2])):
+                way = "".join("." + w for w in path)
+                if norm(old) == norm(step) and (rest + ".").startswith(way + "."):
+                    return f".{arm[0]}.{field}{rest[len(way):]}"
+            old, new = p[2]
+            if old and norm(old) == norm(step):
+                for was, now in p[4]:
+                    if rest == "." + was or rest.startswith("." + was + "."):
+                        rest = "." + now + rest[len(was) + 1 :]
+                        break
+                return "." + new + rest
+        self.lost.append(f"{step} at {place}")
+        return "." + step + rest
+
+
+def facts(body, names, place):
+    def sub(m):
+        if m.group("v") != "c":
+            return m.group()
+        return "c" + names.step(place, m.group("up").count("before"), m.group("step"), m.group("rest"))
+
+    return STEP.sub(sub, body)
+
+
+def head_of(block):
+    """The comments, the name, the type and the rest of a block."""
+    lines = block.split("\n")
+    k = 0
+    while lines[k].startswith("--") or not lines[k].strip():
+        k += 1
+    m = re.match(r"((?:abbrev |pub |unfoldable )*)(\S+) : (.*)", lines[k])
+    if not m:
+        return lines[:k], None, "\n".join(lines[k:]), ""
+    typed = m.group(3)
+    k2 = k + 1
+    # a type may go over some lines
+    while k2 < len(lines) and lines[k2][:1].isspace() and not re.match(re.escape(m.group(2)) + r"\b", lines[k2]):
+        typed += "\n" + lines[k2]
+        k2 += 1
+    return lines[:k], m.group(2), typed, "\n".join(lines[k2:])
+
+
+def turn(path, crate, table):
+    with open(path, encoding="utf-8") as f:
+        text = f.read()
+    folder = os.path.dirname(path)
+    inner = folder.split("/proofs/", 1)[1].replace("/", ".")
+    names = Names(table)
+    uses, made, answers, invariants, kept, comments = [], {}, [], [], [], []
+    said = []
+    for block in blocks(text):
+        if block.startswith("use "):
+            for line in block.split("\n"):
+                if not line.startswith("use "):
+                    if line.startswith("--"):
+                        comments.append(line)
+                    continue
+                m = MADE.match(line)
+                if m:
+                    made[m.group(2)] = line
+                else:
+                    uses.append(line)
+            continue
+        before, name, typed, body = head_of(block)
+        if name is None:
+            if all(l.startswith(("--", "use ")) or not l.strip() for l in block.split("\n")):
+                for line in block.split("\n"):
+                    if line.startswith("use "):
+                        m = MADE.match(line)
+                        if m:
+                            made[m.group(2)] = line
+                        else:
+                            uses.append(line)
+                    elif line.startswith("--"):
+                        comments.append(line)
+                continue
+            kept.append(block)
+            continue
+        if "tie.close" in body:
+            continue
+        m = re.match(r"tie\.(invariant|decreases)-(loop\d*)$", typed)
+        if m:
+            kind, loop = m.groups()
+            if loop not in names.loops:
+                said.append(f"no loop {loop}")
+                continue
+            new, variables = names.loops[loop]
+            changed = names.changed[list(names.loops).index(loop)]
+            d = re.match(re.escape(name) + r"((?: [^\s=]+)*) =\s*(.*)", body, re.S)
+            params = d.group(1).split()
+            fields = [("l.initial." if c else "l.") + v for v, c in zip(variables, changed)] + ["l." + v for v, c in zip(variables, changed) if c]
+            if len(params) != len(fields):
+                said.append(f"loop {loop}: {params} but {fields}")
+            given = dict(zip(params, fields))
+            value = re.sub(r"(?<![^\s(){}\[\],;])([^\s(){}\[\],;.]+)(?=[\s(){}\[\],;.]|$)", lambda w: given.get(w.group(1), w.group(1)), d.group(2))
+            sep = "\n" if "\n" in value and not value.startswith("\n") and d.group(2) and re.search(re.escape(name) + r"[^\n]* =\n", body) else " "
+            if sep == "\n":
+                value = "    " + value
+            invariants.append("\n".join(before + [f"abbrev pub {kind}-{new} : goal.{kind}-{new}", f"{kind}-{new} l ={sep}{value}"]))
+            continue
+        m = re.match(r"tie\.Need-(\S+)", typed)
+        if m:
+            old = norm(m.group(1))
+            d = re.match(r"((?:unfolding [^\n]*\n(?:[ ]+[^\n]*\n)*)*)" + re.escape(name) + r" c( κs)? =(\s*)(.*)", body, re.S)
+            if not d:
+                said.append(f"{name}: its form")
+                kept.append(block)
+                continue
+            if d.group(4).strip() in FOUND:
+                continue
+            if old not in names.needs:
+                if old not in names.settled:
+                    said.append(f"no goal {m.group(1)}: {sorted(names.needs)}")
+                continue
+            new = names.needs[old]
+            value = facts(d.group(4), names, names.at[old])
+            lines = value.split("\n")
+            if len(lines) > 1:
+                # an unparenthesised term over several lines is laid out by rt fmt
+                value = "\n".join(lines)
+            answers.append((new, "\n".join(before + [f"pub {new} : goal.{new}"] + ([d.group(1).rstrip("\n")] if d.group(1) else []) + [f"{new} c ={d.group(3)}{value}"])))
+            continue
+        if "tie." in block:
+            said.append(f"{name} : {typed[:60]}")
+        kept.append(block)
+    said += names.lost
+    rattle = [u for u in uses]
+    own = f"Rattle.{crate}.proofs.{inner}"
+    body = "\n\n".join(kept + [a for _, a in answers])
+    needed = [line for alias, line in made.items() if alias and alias != "tie" and re.search(r"\b" + re.escape(alias) + r"\.", body)]
+    head = [c for c in comments if "meets its contract" not in c]
+    if answers or kept:
+        with open(os.path.join(folder, "Answers.antt"), "w", encoding="utf-8") as f:
+            f.write("\n".join(head + rattle + needed + [f"use {own}.Goals as goal", "", body, ""]))
+    if invariants:
+        with open(os.path.join(folder, "Invariants.antt"), "w", encoding="utf-8") as f:
+            f.write("\n".join(rattle + [f"use {own}.Given as goal", "", "\n\n".join(invariants), ""]))
+    os.remove(path)
+    return said
+
+
+def main(argv):
+    crate = os.path.basename(os.path.abspath(argv[0]))
+    with open(argv[1], encoding="utf-8") as f:
+        tables = json.load(f)
+    for folder, inner, files in os.walk(os.path.join(argv[0], "proofs")):
+        inner.sort()
+        if "Proof.antt" not in files:
+            continue
+        path = os.path.join(folder, "Proof.antt")
+        key = "Rattle-" + crate + "-proofs." + folder.split("/proofs/", 1)[1].replace("/", ".") + ".Lts"
+        with open(path, encoding="utf-8") as f:
+            text = f.read()
+        if "tie.close" not in text:
+            print(f"{path}: left: by hand")
+            continue
+        if key not in tables:
+            print(f"{path}: left: no names for {key}")
+            continue
+        for line in turn(path, crate, tables[key]):
+            print(f"{path}: {line}")
+    return 0
+
+
+if __name__ == "__main__":
+    raise SystemExit(main(sys.argv[1:]))
