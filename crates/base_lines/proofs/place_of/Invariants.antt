@@ -1,0 +1,13 @@
+use Prim.Native.Nat.{suc, ◌-◌, ◌≤◌}
+use mathlib.Core.Path.{refl}
+use native.Mathlib.Omega.{arith}
+use borrow.Author.Rules.{rules}
+use Rattle.base_lines.specs.steps.Behind.{Counted}
+use Rattle.base_lines.specs.laws.Counting.{counting-begins, counting-small, counting-goes-on, counting-ends}
+use Rattle.base_lines.proofs.place_of.Given as goal
+
+abbrev pub invariant-loop-i : goal.invariant-loop-i
+invariant-loop-i l = Counted l.text l.to l.i l.at
+
+abbrev pub decreases-loop-i : goal.decreases-loop-i
+decreases-loop-i l = l.to - l.i

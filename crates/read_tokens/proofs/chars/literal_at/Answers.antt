@@ -1,0 +1,95 @@
+use mathlib.Core.Path.{◌≡◌, refl, sym, ap, ◌∙◌}
+use native.Mathlib.Omega.{arith}
+use Prim.Native.Nat.{◌+◌, ◌-◌, ◌≤◌}
+use lib.ListN.{length, drop, get_or}
+use Rattle.read_tokens.specs.Chars.{single, char}
+use Rattle.read_tokens.specs.steps.Code.{counted}
+use Rattle.read_tokens.specs.laws.Passing.{from}
+use Rattle.read_tokens.specs.laws.Widths.{width-inside}
+use Rattle.read_tokens.proofs.LiteralSteps.{width_of, at-end, at-quote, no_char, one_char}
+use borrow.Author.Rules.{rules}
+use Rattle.read_tokens.proofs.chars.literal_at.Goals as goal
+
+pub loop-i-init : goal.loop-i-init
+loop-i-init c = (c.requires, omega arith, refl)
+
+pub returns-then-text-i : goal.returns-then-text-i
+returns-then-text-i c = at-quote c.args.q c.args.text.now c.loop-i.i
+    c.loop-i.n c.loop-i-test.true c.if-text-i.true ∙ c.loop-i.invariant.2
+
+pub returns-then-w-eq0 : goal.returns-then-w-eq0
+returns-then-w-eq0 c = no_char c.args.q c.args.text.now
+    c.loop-i.i c.loop-i.n c.loop-i-test.true
+    c.if-text-i.false (sym (width_of _ c.char_at-c.ensures) ∙ c.if-w-eq0.true) ∙ c.loop-i.invariant.2
+
+pub overflow_add-n : goal.overflow_add-n
+overflow_add-n c = omega (
+  arith,
+  c.loop-i-test.true,
+  width_of _ c.char_at-c.ensures,
+  width-inside
+      c.args.text.now c.loop-i.i
+      c.loop-i.invariant.0,
+  c.if-w-eq0.false,
+  c.loop-i.invariant.0,
+  c.loop-i.invariant.1,
+)
+
+pub overflow_add-i : goal.overflow_add-i
+overflow_add-i c = omega (
+  arith,
+  c.loop-i-test.true,
+  width_of _ c.char_at-c.ensures,
+  width-inside
+      c.args.text.now c.loop-i.i
+      c.loop-i.invariant.0,
+  c.if-w-eq0.false,
+  c.loop-i.invariant.0,
+  c.loop-i.invariant.1,
+)
+
+pub loop-i-smaller : goal.loop-i-smaller
+loop-i-smaller c = omega (
+  arith,
+  c.loop-i-test.true,
+  width_of _ c.char_at-c.ensures,
+  width-inside
+      c.args.text.now c.loop-i.i
+      c.loop-i.invariant.0,
+  c.if-w-eq0.false,
+  c.loop-i.invariant.0,
+  c.loop-i.invariant.1,
+)
+
+pub loop-i-preserved : goal.loop-i-preserved
+loop-i-preserved c = (
+  omega (
+    arith,
+    c.loop-i-test.true,
+    width_of _ c.char_at-c.ensures,
+    width-inside
+        c.args.text.now c.loop-i.i
+        c.loop-i.invariant.0,
+    c.if-w-eq0.false,
+    c.loop-i.invariant.0,
+    c.loop-i.invariant.1,
+  ),
+  omega (
+    arith,
+    c.loop-i-test.true,
+    width_of _ c.char_at-c.ensures,
+    width-inside
+        c.args.text.now c.loop-i.i
+        c.loop-i.invariant.0,
+    c.if-w-eq0.false,
+    c.loop-i.invariant.0,
+    c.loop-i.invariant.1,
+  ),
+  one_char c.args.q
+      c.args.text.now c.loop-i.i
+      c.loop-i.n _ c.loop-i-test.true c.if-text-i.false
+      (width_of _ c.char_at-c.ensures) c.if-w-eq0.false ∙ c.loop-i.invariant.2,
+)
+
+pub returns : goal.returns
+returns c = at-end c.args.q c.args.text.now c.loop-i.i c.loop-i.n c.loop-i-test.false ∙ c.loop-i.invariant.2

@@ -1,0 +1,17 @@
+use mathlib.Core.Path.{◌≡◌, refl, sym, ap, ◌∙◌}
+use native.Mathlib.Omega.{arith}
+use Prim.Native.Nat.{◌+◌, ◌-◌, ◌≤◌}
+use lib.ListN.{length, drop, get_or}
+use Rattle.read_tokens.specs.Chars.{single, char}
+use Rattle.read_tokens.specs.steps.Code.{counted}
+use Rattle.read_tokens.specs.laws.Passing.{from}
+use Rattle.read_tokens.specs.laws.Widths.{width-inside}
+use Rattle.read_tokens.proofs.LiteralSteps.{width_of, at-end, at-quote, no_char, one_char}
+use borrow.Author.Rules.{rules}
+use Rattle.read_tokens.proofs.chars.literal_at.Given as goal
+
+abbrev pub invariant-loop-i : goal.invariant-loop-i
+invariant-loop-i l = (l.i ≤ length l.text) × (l.n + l.at ≤ l.i) × (counted l.n (from l.q single l.text l.i) ≡ counted 0 (from l.q single l.text l.at))
+
+abbrev pub decreases-loop-i : goal.decreases-loop-i
+decreases-loop-i l = length l.text - l.i

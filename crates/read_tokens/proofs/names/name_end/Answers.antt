@@ -1,0 +1,21 @@
+use mathlib.Core.Path.{◌≡◌, refl, sym, ap, ◌∙◌}
+use borrow.Author.Tests.{not-true, not-false}
+use native.Mathlib.Omega.{arith}
+use Prim.Native.Nat.{◌+◌, ◌-◌, ◌≤◌}
+use lib.ListN.{length, drop, get_or}
+use Rattle.read_tokens.specs.Tokens.{name_span}
+use Rattle.read_tokens.proofs.TokenSteps.{span-end, span-stop, span_more}
+use borrow.Author.Rules.{rules}
+use Rattle.read_tokens.proofs.names.name_end.Goals as goal
+
+pub loop-i-init : goal.loop-i-init
+loop-i-init c = refl
+
+pub returns-then-not-in_name : goal.returns-then-not-in_name
+returns-then-not-in_name c = sym (span-stop _ _ c.loop-i-test.true (sym c.in_name.ensures ∙ not-true _ c.if-not-in_name.true-raw)) ∙ c.loop-i.invariant
+
+pub loop-i-preserved : goal.loop-i-preserved
+loop-i-preserved c = sym (span_more _ _ c.loop-i-test.true (sym c.in_name.ensures ∙ not-false _ c.if-not-in_name.false-raw)) ∙ c.loop-i.invariant
+
+pub returns : goal.returns
+returns c = sym (span-end _ _ c.loop-i-test.false) ∙ c.loop-i.invariant

@@ -1,0 +1,15 @@
+use mathlib.Core.Path.{◌≡◌, refl, ◌∙◌}
+use mathlib.Core.Bool.{false}
+use Prim.Native.Nat.{◌-◌}
+use native.Mathlib.Omega.{arith}
+use lib.ListN.{length, drop}
+use Rattle.read_tokens.specs.Tokens.{skip}
+use Rattle.read_tokens.proofs.TokenSteps.{space-more}
+use borrow.Author.Rules.{rules}
+use Rattle.read_tokens.proofs.spaces.Given as goal
+
+abbrev pub invariant-loop-i : goal.invariant-loop-i
+invariant-loop-i l = skip false l.i (drop l.i l.text) ≡ skip false l.at (drop l.at l.text)
+
+abbrev pub decreases-loop-i : goal.decreases-loop-i
+decreases-loop-i l = length l.text - l.i

@@ -1,0 +1,10 @@
+use Prim.Native.Nat.{ℕ}
+use mathlib.Core.Path.{◌≡◌, sym}
+use lib.ListN.{length, replicate, length-replicate}
+use Rattle.replay_lines.proofs.buffers.cells.Goals as goal
+
+filled : (n : ℕ) → n ≡ length (replicate {A = ℕ} n 3735928559)
+filled n = sym (length-replicate n 3735928559)
+
+pub returns : goal.returns
+returns c = filled 131072

@@ -1,0 +1,14 @@
+use Prim.Native.Nat.{ℕ, ◌+◌, ◌-◌, ◌≤◌, ◌<◌}
+use mathlib.Core.Path.{◌≡◌, refl, sym, ap, ◌∙◌}
+use native.Mathlib.Omega.{arith}
+use lib.ListN.{length, get_or, drop}
+use Rattle.replay_lines.specs.steps.Fields.{begins}
+use Rattle.replay_lines.specs.laws.Fields.{word_more, word-differs, word-done, word-short, word-start}
+use borrow.Author.Rules.{rules}
+use Rattle.replay_lines.proofs.stands.Given as goal
+
+abbrev pub invariant-loop-i : goal.invariant-loop-i
+invariant-loop-i l = (l.i ≤ length l.word) × (begins (drop l.i l.word) (drop (l.at + l.i) l.s) ≡ begins l.word (drop l.at l.s))
+
+abbrev pub decreases-loop-i : goal.decreases-loop-i
+decreases-loop-i l = length l.word - l.i

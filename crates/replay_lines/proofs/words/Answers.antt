@@ -1,0 +1,12 @@
+use Prim.Native.Nat.{ℕ, ◌+◌, ◌-◌, ◌*◌, ◌≤◌, ◌<◌}
+use mathlib.Core.Path.{◌≡◌, refl, sym, ap, ◌∙◌}
+use native.Mathlib.Omega.{arith}
+use lib.ListN.{length, length-set}
+use borrow.Author.Rules.{rules}
+use Rattle.replay_lines.proofs.words.Goals as goal
+
+pub returns-then-to-end : goal.returns-then-to-end
+returns-then-to-end c = simp length-set (omega (arith, c.loop-n-test.true))
+
+pub loop-n-preserved : goal.loop-n-preserved
+loop-n-preserved c = (simp length-set (omega (arith, c.loop-n-test.true)), simp length-set c.loop-n.invariant.1)
