@@ -13,7 +13,7 @@ import re
 import sys
 
 STEP = re.compile(r"\b(?P<v>[cw])(?P<up>(?:\.before)*)\.(?P<step>[^\s().,;\[\]{}]+)(?P<rest>(?:\.[^\s().,;\[\]{}]+)*)")
-START = {"args", "requires", "ranges", "type_inv"}
+START = {"args", "requires", "ranges", "type_inv", "well_formed"}
 MADE = re.compile(r"^use Rattle\.\w+\.proofs\.\S+\.(Statement|Tie|Reads|Lts)(?:\.\{[^}]*\})?(?: as (\S+))?$")
 FOUND = {"search rules", "omega arith"}
 
@@ -60,6 +60,7 @@ class Names:
         self.changed = table["changed"]
         self.args = [(a.replace(" ", ""), b.replace(" ", "")) for a, b in table["args"]]
         self.settled = set(map(norm, table["settled"]))
+        self.params = table["params"]
         self.lost = []
 
     def chain(self, place):
@@ -69,8 +70,16 @@ class Names:
             place = self.places[place][1]
         return out
 
+    def named(self, callee, rest):
+        """`.new.1.1.0` goes by position, `.new.t` by name."""
+        m = re.match(r"(\.(?:new|auto))((?:\.1)*)\.0(?=\.|$)", rest)
+        if not m or callee not in self.params or m.group(2).count("1") >= len(self.params[callee]):
+            return rest
+        return f"{m.group(1)}.{self.params[callee][m.group(2).count('1')]}{rest[m.end():]}"
+
     def step(self, place, ups, step, rest):
-        if step in START:
+        if step.replace("-", "_") in START or step.startswith(("told-", "fits-", "lifetimes")):
+            step = step.replace("-", "_") if step.replace("-", "_") in START else step
             path = "." + step + rest
             for old, new in self.args:
                 if path == old or path.startswith(old + "."):
@@ -91,12 +100,27 @@ class Names:
                     if rest == "." + was or rest.startswith("." + was + "."):
                         rest = "." + now + rest[len(was) + 1 :]
                         break
-                return "." + new + rest
+                return "." + new + self.named(p[3], rest)
+        if step.endswith("_lem"):
+            # tools/respell.py and port.py took a step's name for a lemma's
+            return self.step(place, ups, step.removesuffix("_lem"), rest)
         self.lost.append(f"{step} at {place}")
         return "." + step + rest
 
 
+def unnamed(body):
+    """Writes out what a `let` names that is a place or a field of `c`."""
+    while True:
+        m = re.search(r"\blet (\S+) = (c(?:\.[^\s().,;\[\]{}]+)*) in(?:[ \n]+)", body)
+        if not m:
+            return body
+        rest = re.sub(r"(?<![^\s(){}\[\],;←])" + re.escape(m.group(1)) + r"(?=[.\s)},;\]]|$)", lambda _: m.group(2), body[m.end() :])
+        body = body[: m.start()] + rest
+
+
 def facts(body, names, place):
+    body = unnamed(body)
+
     def sub(m):
         if m.group("v") != "c":
             return m.group()
@@ -222,6 +246,80 @@ def turn(path, crate, table):
     return said
 
 
+def turn_cycle(path, crate, tables):
+    """The proof of functions that call one another, or of one that calls itself: every name begins with the function's."""
+    with open(path, encoding="utf-8") as f:
+        text = f.read()
+    folder = os.path.dirname(path)
+    inner = folder.split("/proofs/", 1)[1].replace("/", ".")
+    start = f"Rattle-{crate}-proofs.{inner}.Lts-"
+    functions = {norm(k.removeprefix(start)): (k.removeprefix(start), Names(t)) for k, t in tables.items() if k.startswith(start)}
+    params = {k.split("::")[-1]: v for t in tables.values() if isinstance(t, dict) and "params" in t for k, v in t["params"].items()}
+    uses, answers, invariants, kept, said = [], [], [], [], []
+    for block in blocks(text):
+        if block.startswith(("use ", "--")) and all(l.startswith(("--", "use ")) or not l.strip() for l in block.split("\n")):
+            for line in block.split("\n"):
+                if line.startswith("use ") and not MADE.match(line) and not re.search(r"\.proofs\.\S*(Kinds as|Lts-|Tie\.|\{statement\})|borrow\.Fn\.", line):
+                    uses.append(line)
+            continue
+        before, name, typed, body = head_of(block)
+        if name is None:
+            kept.append(block)
+            continue
+        if "-claims" in name or re.search(r": ℕ → In \d", block) or " → statement M" in block:
+            continue
+        m = re.match(r"Measures \d+ (\S+)-kinds\.ps", typed)
+        if m:
+            func, _ = functions[norm(m.group(1))]
+            value = re.sub(r"\ba((?:\.1)*)\.0(?![0-9])", lambda w: "l." + params[func][w.group(1).count("1")], body.split(" =", 1)[1].strip())
+            invariants.append(f"abbrev pub decreases-{func} : goal.decreases-{func}\ndecreases-{func} l = {value}")
+            continue
+        m = re.match(r"(\S+?)-lts\.(invariant|decreases)-(loop\d*)$", typed)
+        if m:
+            func, names = functions[norm(m.group(1))]
+            new, variables = names.loops[m.group(3)]
+            changed = names.changed[list(names.loops).index(m.group(3))]
+            d = re.match(re.escape(name) + r"((?: [^\s=]+)*) =\s*(.*)", body, re.S)
+            fields = [("l.initial." if c else "l.") + v for v, c in zip(variables, changed)] + ["l." + v for v, c in zip(variables, changed) if c]
+            given = dict(zip(d.group(1).split(), fields))
+            if len(given) != len(fields):
+                said.append(f"{name}: {given} {fields}")
+            value = re.sub(r"(?<![^\s(){}\[\],;])([^\s(){}\[\],;.]+)(?=[\s(){}\[\],;.]|$)", lambda w: given.get(w.group(1), w.group(1)), d.group(2))
+            invariants.append("\n".join(before + [f"abbrev pub {m.group(2)}-{func}-{new} : goal.{m.group(2)}-{func}-{new}", f"{m.group(2)}-{func}-{new} l = {value}"]))
+            continue
+        m = re.match(r"\(t : ℕ\) → (\S+?)-lts\.Need-(\S+)", typed)
+        if m:
+            func, names = functions[norm(m.group(1))]
+            old = norm(m.group(2))
+            d = re.match(r"((?:unfolding [^\n]*\n(?:[ ]+[^\n]*\n)*)*)" + re.escape(name) + r" t c( κs)? =(\s*)(.*)", body, re.S)
+            if not d:
+                said.append(f"{name}: its form")
+                kept.append(block)
+                continue
+            if d.group(4).strip() in FOUND:
+                continue
+            if old not in names.needs:
+                if old not in names.settled:
+                    said.append(f"no goal {m.group(2)}: {sorted(names.needs)}")
+                continue
+            new = func + "-" + names.needs[old]
+            value = facts(d.group(4), names, names.at[old])
+            answers.append("\n".join(before + [f"pub {new} : goal.{new}"] + ([d.group(1).rstrip("\n")] if d.group(1) else []) + [f"{new} t c ={d.group(3)}{value}"]))
+            continue
+        if "-lts." in block:
+            said.append(f"{name} : {typed[:60]}")
+        kept.append(block)
+    for _, names in functions.values():
+        said += names.lost
+    own = f"Rattle.{crate}.proofs.{inner}"
+    with open(os.path.join(folder, "Answers.antt"), "w", encoding="utf-8") as f:
+        f.write("\n".join(uses + [f"use {own}.Goals as goal", "", "\n\n".join(kept + answers), ""]))
+    with open(os.path.join(folder, "Invariants.antt"), "w", encoding="utf-8") as f:
+        f.write("\n".join(uses + [f"use {own}.Given as goal", "", "\n\n".join(invariants), ""]))
+    os.remove(path)
+    return said
+
+
 def main(argv):
     crate = os.path.basename(os.path.abspath(argv[0]))
     with open(argv[1], encoding="utf-8") as f:
@@ -234,6 +332,10 @@ def main(argv):
         key = "Rattle-" + crate + "-proofs." + folder.split("/proofs/", 1)[1].replace("/", ".") + ".Lts"
         with open(path, encoding="utf-8") as f:
             text = f.read()
+        if os.path.basename(folder).startswith("+"):
+            for line in turn_cycle(path, crate, tables):
+                print(f"{path}: {line}")
+            continue
         if "tie.close" not in text:
             print(f"{path}: left: by hand")
             continue

@@ -18,12 +18,15 @@ module _ (g : Meant) (s : List ℕ) where
   -- the plain body, from what the lake's own right side, water and the skip derive
   own_in : (w o : Option (Exp ℕ)) (ss : List (Exp ℕ)) {d p m : ℕ} {ns : List Node} → Tries g s d (own o) p (suc m) ns → Tries g s d (exp (step_two (step_one w o) ss)) p (suc m) ns
   unfolding step_one step_two
+  own_in none none ss x = elim x [ ]
+  own_in (some w) none ss x = elim x [ ]
   own_in none (some e) ss (own_is t) = alt-first t
   own_in (some w) (some e) ss (own_is t) = alt-first (alt-first t)
 
   water-in : (w o : Option (Exp ℕ)) (ss : List (Exp ℕ)) {d p m : ℕ} {ks ns : List Node} → Tries g s d (own o) p 0 ks → Tries g s d (wet w) p (suc m) ns
       → Tries g s d (exp (step_two (step_one w o) ss)) p (suc m) ns
   unfolding step_one step_two
+  water-in none o ss x y = elim y [ ]
   water-in (some w) none ss own-none (wet-is u) = alt-first u
   water-in (some w) (some e) ss (own_is t) (wet-is u) = alt-first (alt-second t u)
 

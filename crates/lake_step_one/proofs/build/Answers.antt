@@ -1,0 +1,33 @@
+use mathlib.Core.Path.{◌≡◌, refl, sym, ap, ap₂, ◌∙◌, subst}
+use mathlib.Core.List.{List, [], ◌∷◌, ◌++◌}
+use Prim.Native.Nat.{ℕ, ◌+◌, ◌*◌, ◌-◌, ◌^◌, ◌≤◌, ◌<◌}
+use native.Mathlib.Omega.{arith}
+use lib.ListN.{length, get_or, set, take}
+use Rattle.lake_step_one.specs.steps.Made.{Made, MadeNext, WaterAt, BuiltAll, SteppedOne}
+use Rattle.grammar.specs.Numbers.{Grammar}
+use Rattle.grammar_table.specs.Holds.{Holds}
+use Rattle.grammar_table.specs.Table.{symbol_count}
+use Rattle.lake_step_one.specs.Intermediate.{water_in}
+use Rattle.grammar.specs.Numbers.{terminal_in}
+use Rattle.lake_step_one.specs.steps.Runs.{BodyAt}
+use borrow.Author.Rules.{rules}
+use Rattle.lake_step_one.proofs.build.Goals as goal
+
+pub loop-s-init : goal.loop-s-init
+loop-s-init c = (omega arith, omega arith, omega arith, refl, λ g h e w made. made)
+
+pub loop-s-preserved : goal.loop-s-preserved
+loop-s-preserved c = (
+  omega arith,
+  c.symbol-u.ensures.0,
+  omega (arith, c.symbol-u.ensures.1),
+  omega (arith, c.symbol-u.auto),
+  λ g h e w made. c.symbol-u.ensures.2 g h (omega arith) w (c.loop-s.invariant.4 g h e w made),
+)
+
+pub returns : goal.returns
+returns c = λ g h e w made. let q : c.loop-s.s ≡ c.args.r = omega arith in (
+  c.loop-s.from,
+  subst (λ (y : ℕ). Made
+      c.args.t.now g y c.loop-s.from c.loop-s.m c.loop-s.mid) q (c.loop-s.invariant.4 g h e w made),
+)

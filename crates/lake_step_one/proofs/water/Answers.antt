@@ -1,0 +1,37 @@
+use mathlib.Core.Path.{◌≡◌, refl, sym, ap, ap₂, ◌∙◌, subst}
+use mathlib.Core.List.{List, [], ◌∷◌, ◌++◌}
+use Prim.Native.Nat.{ℕ, ◌+◌, ◌*◌, ◌-◌, ◌^◌, ◌≤◌, ◌<◌}
+use mathlib.Core.Bool.{Bool, true, false, not, ◌&&◌}
+use native.Mathlib.Omega.{arith}
+use lib.ListN.{length, get_or, set, take}
+use Rattle.lake_step_one.specs.steps.Made.{next_by, lake_at, Made}
+use Rattle.lake_step_one.specs.laws.Water.{five, water_test, water-is, Sought, sought-start, sought-next, sought-found, sought-none}
+use Rattle.grammar_table.specs.Table.{symbol_word, symbol_count, name_in}
+use Rattle.grammar.specs.Numbers.{Grammar}
+use Rattle.grammar_table.specs.Holds.{Holds}
+use borrow.Author.Rules.{rules}
+use Rattle.lake_step_one.proofs.water.Goals as goal
+
+pub loop-s-init : goal.loop-s-init
+loop-s-init c = (omega arith, omega arith, λ g h e. sought-start c.args.t.now g)
+
+pub returns-then-is_water : goal.returns-then-is_water
+returns-then-is_water c = (
+  omega arith,
+  c.body-b.ensures.1,
+  λ g h e. sought-found c.args.t.now g h c.loop-s.s
+      c.loop-s.from c.body-b.result (omega arith) (c.loop-s.invariant.2 g h e) (sym
+      c.is_water.ensures ∙ c.if-is_water.true) c.body-b.ensures.0,
+)
+
+pub loop-s-preserved : goal.loop-s-preserved
+loop-s-preserved c = (
+  omega arith,
+  c.pass-from.ensures.0,
+  λ g h e. sought-next c.args.t.now g h c.loop-s.s
+      c.loop-s.from c.pass-from.result (omega arith) (c.loop-s.invariant.2 g h e) (sym
+      c.is_water.ensures ∙ c.if-is_water.false) c.pass-from.ensures.1,
+)
+
+pub returns : goal.returns
+returns c = (omega arith, omega arith, λ g h e. sought-none c.args.t.now g h c.loop-s.s c.loop-s.from (omega arith) (c.loop-s.invariant.2 g h e))

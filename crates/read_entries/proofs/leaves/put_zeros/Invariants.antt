@@ -1,0 +1,14 @@
+use Prim.Native.Nat.{ℕ, ◌+◌, ◌-◌, ◌≤◌}
+use mathlib.Core.Path.{◌≡◌, sym, ap, ◌∙◌}
+use native.Mathlib.Omega.{arith}
+use Rattle.read_entries.specs.steps.Leaves.{zeros}
+use lib.Seq.{sets}
+use Rattle.read_entries.proofs.Steps.{zeros-at, zeros-none, store-whole, store-next, store-none, kept-length}
+use borrow.Author.Rules.{rules}
+use Rattle.read_entries.proofs.leaves.put_zeros.Given as goal
+
+abbrev pub invariant-loop-k : goal.invariant-loop-k
+invariant-loop-k l = (l.k ≤ l.n) × (sets l.initial.t l.at (zeros l.n) ≡ sets l.t (l.at + l.k) (zeros (l.n - l.k)))
+
+abbrev pub decreases-loop-k : goal.decreases-loop-k
+decreases-loop-k l = l.n - l.k

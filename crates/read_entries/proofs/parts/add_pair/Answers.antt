@@ -1,0 +1,11 @@
+use Prim.Native.Nat.{ℕ, suc, ◌+◌, ◌-◌, ◌*◌, ◌≤◌, ◌<◌}
+use mathlib.Core.Path.{◌≡◌, refl, sym, ap, ◌∙◌}
+use mathlib.Core.List.{List, map}
+use native.Mathlib.Omega.{arith}
+use Rattle.read_entries.proofs.Steps.{pushed-args}
+use borrow.Author.Rules.{rules}
+use Rattle.read_entries.proofs.parts.add_pair.Goals as goal
+
+pub returns : goal.returns
+returns c = pushed-args _ _ _ _ _ _ _ c.add_part.ensures c.before-l.ensures (c.before-r.ensures ∙ ap
+    (λ (x : ℕ). x - 1) c.expressions-c.ensures.0)

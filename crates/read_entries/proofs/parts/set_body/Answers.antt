@@ -1,0 +1,13 @@
+use Prim.Native.Nat.{ℕ, suc, ◌+◌, ◌-◌, ◌*◌, ◌≤◌, ◌<◌}
+use mathlib.Core.Path.{◌≡◌, refl, sym, ap, ◌∙◌}
+use mathlib.Core.List.{List, map}
+use native.Mathlib.Omega.{arith}
+use Rattle.read_entries.proofs.Steps.{bodied-in, bodied-out}
+use borrow.Author.Rules.{rules}
+use Rattle.read_entries.proofs.parts.set_body.Goals as goal
+
+pub returns-then-k-lt64 : goal.returns-then-k-lt64
+returns-then-k-lt64 c = bodied-in _ _ _ _ c.if-k-lt64.true c.expressions-c.ensures.0 c.store_body.ensures
+
+pub returns-else-k-lt64 : goal.returns-else-k-lt64
+returns-else-k-lt64 c = bodied-out _ _ c.if-k-lt64.false

@@ -1,0 +1,17 @@
+use Prim.Native.Nat.{ℕ, suc, ◌+◌, ◌-◌, ◌*◌, ◌≤◌, ◌<◌}
+use mathlib.Core.Path.{◌≡◌, refl, sym, ap, ◌∙◌}
+use mathlib.Core.Bool.{Bool, true, false, not, ◌||◌}
+use mathlib.Core.List.{List}
+use native.Mathlib.Omega.{arith}
+use lib.ListN.{length}
+use Rattle.read_grammar.specs.laws.Glue.{over-end, over-next}
+use borrow.Author.Rules.{rules}
+use Rattle.read_grammar.proofs.over.Goals as goal
+
+pub returns-then-kind-eq-END : goal.returns-then-kind-eq-END
+returns-then-kind-eq-END c = over-end c.args.mode c.args.text.now c.args.at c.token_by-k.result
+    c.token_by-k.ensures c.if-kind-eq-END.true c.requires.0
+
+pub returns : goal.returns
+returns c = over-next c.args.mode c.args.text.now c.args.at c.token_by-k.result
+    c.token_by-k.ensures c.if-kind-eq-END.false
