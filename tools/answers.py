@@ -23,6 +23,10 @@ def norm(name):
     return name.removeprefix("overflow-")
 
 
+def plain(step):
+    return re.sub(r"\d+$", "", norm(step))
+
+
 def blocks(text):
     """Declarations at the left edge, each with its comments before it."""
     out, now = [], []
@@ -61,6 +65,7 @@ class Names:
         self.args = [(a.replace(" ", ""), b.replace(" ", "")) for a, b in table["args"]]
         self.settled = set(map(norm, table["settled"]))
         self.params = table["params"]
+        self.cycle = False
         self.lost = []
 
     def chain(self, place):
@@ -80,6 +85,9 @@ class Names:
     def step(self, place, ups, step, rest):
         if step.replace("-", "_") in START or step.startswith(("told-", "fits-", "lifetimes")):
             step = step.replace("-", "_") if step.replace("-", "_") in START else step
+            if self.cycle and step == "requires":
+                # the measure's value stood before the clauses
+                step, rest = ("decreases", rest[2:]) if rest.startswith(".0") else ("requires", rest[2:])
             path = "." + step + rest
             for old, new in self.args:
                 if path == old or path.startswith(old + "."):
@@ -88,6 +96,12 @@ class Names:
             return path
         chain = self.chain(place)
         order = chain[ups : ups + 1] + chain[ups + 1 :] + chain[:ups][::-1]
+        # a step's number may have moved: the place says which is meant
+        there = chain[ups][2][0] if ups < len(chain) else ""
+        if there and norm(there) != norm(step) and plain(there) == plain(step):
+            step = there
+        elif not any(norm(p[2][0]) == norm(step) or self.arms.get(p[0]) for p in chain):
+            step = next((p[2][0] for p in order if plain(p[2][0]) == plain(step)), step)
         for p in order:
             arm = self.arms.get(p[0])
             for field, old, path in sorted(arm[2] if arm else [], key=lambda f: -len(f[2])):
@@ -254,6 +268,8 @@ def turn_cycle(path, crate, tables):
     inner = folder.split("/proofs/", 1)[1].replace("/", ".")
     start = f"Rattle-{crate}-proofs.{inner}.Lts-"
     functions = {norm(k.removeprefix(start)): (k.removeprefix(start), Names(t)) for k, t in tables.items() if k.startswith(start)}
+    for _, names in functions.values():
+        names.cycle = True
     params = {k.split("::")[-1]: v for t in tables.values() if isinstance(t, dict) and "params" in t for k, v in t["params"].items()}
     uses, answers, invariants, kept, said = [], [], [], [], []
     for block in blocks(text):

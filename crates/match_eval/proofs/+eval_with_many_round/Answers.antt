@@ -18,6 +18,7 @@ use Rattle.match_eval.specs.laws.Memory.{known-ends, said-right, knows-from}
 use borrow.Author.Rules.{rules}
 use Prim.Native.Nat.{ℕ, suc, ◌+◌, ◌-◌, ◌*◌, ◌≤◌, ◌<◌}
 use Rattle.match_eval.proofs.+eval_with_many_round.Goals as goal
+use Rattle.match_eval.proofs.+eval_with_many_round.Goals.{many-then-w-eq0, many-else-w-eq0}
 
 rounds-within : (s cs t : List ℕ) (n x q : ℕ) → q ≤ length s → rep (length s) (λ (i : ℕ). ev s cs n (tree_of t x) i) q + q ≤ length s
 rounds-within s cs t n x q h = rep-within _ _ (λ (i : ℕ). ev s cs n (tree_of t x) i) (λ i g. ev-within s cs n (tree_of t x) i g) q h
@@ -33,20 +34,20 @@ pub eval_with-overflow_sub-e : goal.eval_with-overflow_sub-e
 eval_with-overflow_sub-e t c = omega (arith, c.if-x-eq0.false)
 
 pub eval_with-left-l-requires : goal.eval_with-left-l-requires
-eval_with-left-l-requires t c = omega (arith, c.requires.1.0)
+eval_with-left-l-requires t c = omega (arith, c.requires.0)
 
 pub eval_with-part-y-requires : goal.eval_with-part-y-requires
 eval_with-part-y-requires t c = c.left-l.ensures.1
 
 pub eval_with-op-op-requires : goal.eval_with-op-op-requires
-eval_with-op-op-requires t c = omega (arith, c.requires.1.0)
+eval_with-op-op-requires t c = omega (arith, c.requires.0)
 
 pub eval_with-leaf_at-requires : goal.eval_with-leaf_at-requires
 eval_with-leaf_at-requires t c = omega
-    (arith, c.left-l.ensures.1, c.requires.1.0)
+    (arith, c.left-l.ensures.1, c.requires.0)
 
 pub eval_with-cell_at-requires : goal.eval_with-cell_at-requires
-eval_with-cell_at-requires t c = omega (arith, c.requires.1.0)
+eval_with-cell_at-requires t c = omega (arith, c.requires.0)
 
 pub eval_with-round-a-requires : goal.eval_with-round-a-requires
 eval_with-round-a-requires t c = (
@@ -56,8 +57,8 @@ eval_with-round-a-requires t c = (
         (c.args.x - 1),
     c.part-y.ensures,
     c.if-x-eq0.false,
+    c.decreases,
     c.requires.0,
-    c.requires.1.0,
   ),
   (
     omega (
@@ -66,10 +67,10 @@ eval_with-round-a-requires t c = (
           (c.args.x - 1),
       c.part-y.ensures,
       c.if-x-eq0.false,
+      c.decreases,
       c.requires.0,
-      c.requires.1.0,
     ),
-    c.requires.1.1,
+    c.requires.1,
   ),
 )
 
@@ -91,7 +92,7 @@ eval_with-returns-then-a-eq0 t c = seq-left _ _ _ (c.round-a.ensures ∙ ap
     c.left-l.ensures.0
 
 pub eval_with-right-r-requires : goal.eval_with-right-r-requires
-eval_with-right-r-requires t c = omega (arith, c.requires.1.0)
+eval_with-right-r-requires t c = omega (arith, c.requires.0)
 
 pub eval_with-part-z-requires : goal.eval_with-part-z-requires
 eval_with-part-z-requires t c = c.right-r.ensures.1
@@ -108,9 +109,9 @@ eval_with-overflow_add-p t c = omega (
       (tree_of c.args.t.now
       c.part-y.result)
       c.args.p
-      (omega (arith, c.requires.1.0)),
+      (omega (arith, c.requires.0)),
   c.round-a.ensures,
-  c.requires.1.0,
+  c.requires.0,
 )
 
 pub eval_with-round-b-requires : goal.eval_with-round-b-requires
@@ -128,11 +129,11 @@ eval_with-round-b-requires t c = (
         (tree_of c.args.t.now
         c.part-y.result)
         c.args.p
-        (omega (arith, c.requires.1.0)),
+        (omega (arith, c.requires.0)),
     c.round-a.ensures,
     c.if-a-eq0.false,
+    c.decreases,
     c.requires.0,
-    c.requires.1.0,
   ),
   (
     omega (
@@ -147,11 +148,11 @@ eval_with-round-b-requires t c = (
           (tree_of c.args.t.now
           c.part-y.result)
           c.args.p
-          (omega (arith, c.requires.1.0)),
+          (omega (arith, c.requires.0)),
       c.round-a.ensures,
       c.if-a-eq0.false,
+      c.decreases,
       c.requires.0,
-      c.requires.1.0,
     ),
     knows-from
         c.args.t.now
@@ -161,7 +162,7 @@ eval_with-round-b-requires t c = (
         c.args.n 0 0
         c.args.p
         (c.args.p + (c.round-a.result - 1))
-        (omega arith) (omega arith) c.requires.1.1,
+        (omega arith) (omega arith) c.requires.1,
   ),
 )
 
@@ -205,7 +206,7 @@ eval_with-overflow_add-result t c = omega (
       c.args.t.now
       c.part-y.result)
       c.args.p (omega
-      (arith, c.requires.1.0)),
+      (arith, c.requires.0)),
   c.round-a.ensures,
   ev-within
       c.args.s.now
@@ -223,12 +224,12 @@ eval_with-overflow_add-result t c = omega (
             c.args.t.now
             c.part-y.result)
             c.args.p (omega
-            (arith, c.requires.1.0)),
+            (arith, c.requires.0)),
         c.round-a.ensures,
-        c.requires.1.0,
+        c.requires.0,
       )),
   c.round-b.ensures,
-  c.requires.1.0,
+  c.requires.0,
 )
 
 pub eval_with-overflow_sub-result : goal.eval_with-overflow_sub-result
@@ -242,8 +243,8 @@ eval_with-round-a-requires-in-3 t c = (
         (c.args.x - 1),
     c.part-y.ensures,
     c.if-x-eq0.false,
+    c.decreases,
     c.requires.0,
-    c.requires.1.0,
   ),
   (
     omega (
@@ -252,10 +253,10 @@ eval_with-round-a-requires-in-3 t c = (
           (c.args.x - 1),
       c.part-y.ensures,
       c.if-x-eq0.false,
+      c.decreases,
       c.requires.0,
-      c.requires.1.0,
     ),
-    c.requires.1.1,
+    c.requires.1,
   ),
 )
 
@@ -277,7 +278,7 @@ eval_with-returns-then-a-ne0 t c = alt-left _ _ _ (c.round-a-in-3.ensures ∙ ap
     c.left-l.ensures.0
 
 pub eval_with-right-r-requires-in-3 : goal.eval_with-right-r-requires-in-3
-eval_with-right-r-requires-in-3 t c = omega (arith, c.requires.1.0)
+eval_with-right-r-requires-in-3 t c = omega (arith, c.requires.0)
 
 pub eval_with-part-z-requires-in-3 : goal.eval_with-part-z-requires-in-3
 eval_with-part-z-requires-in-3 t c = c.right-r-in-3.ensures.1
@@ -290,8 +291,8 @@ eval_with-round-requires t c = (
         (c.args.x - 1),
     c.part-z-in-3.ensures,
     c.if-x-eq0.false,
+    c.decreases,
     c.requires.0,
-    c.requires.1.0,
   ),
   (
     omega (
@@ -299,10 +300,10 @@ eval_with-round-requires t c = (
       below-le c.right-r-in-3.result (c.args.x - 1),
       c.part-z-in-3.ensures,
       c.if-x-eq0.false,
+      c.decreases,
       c.requires.0,
-      c.requires.1.0,
     ),
-    c.requires.1.1,
+    c.requires.1,
   ),
 )
 
@@ -314,8 +315,8 @@ eval_with-round-a-requires-in-4 t c = (
         (c.args.x - 1),
     c.part-y.ensures,
     c.if-x-eq0.false,
+    c.decreases,
     c.requires.0,
-    c.requires.1.0,
   ),
   (
     omega (
@@ -324,10 +325,10 @@ eval_with-round-a-requires-in-4 t c = (
           (c.args.x - 1),
       c.part-y.ensures,
       c.if-x-eq0.false,
+      c.decreases,
       c.requires.0,
-      c.requires.1.0,
     ),
-    c.requires.1.1,
+    c.requires.1,
   ),
 )
 
@@ -356,8 +357,8 @@ eval_with-many-requires t c = (
         (c.args.x - 1),
     c.part-y.ensures,
     c.if-x-eq0.false,
+    c.decreases,
     c.requires.0,
-    c.requires.1.0,
   ),
   (
     omega (
@@ -366,10 +367,10 @@ eval_with-many-requires t c = (
           (c.args.x - 1),
       c.part-y.ensures,
       c.if-x-eq0.false,
+      c.decreases,
       c.requires.0,
-      c.requires.1.0,
     ),
-    c.requires.1.1,
+    c.requires.1,
   ),
 )
 
@@ -381,9 +382,9 @@ eval_with-overflow_add-result-in-5 t c = omega (
       c.args.t.now
       c.args.n c.part-y.result
       c.args.p
-      (omega (arith, c.requires.1.0)),
+      (omega (arith, c.requires.0)),
   c.many.ensures,
-  c.requires.1.0,
+  c.requires.0,
 )
 
 pub eval_with-round-a-requires-in-6 : goal.eval_with-round-a-requires-in-6
@@ -394,8 +395,8 @@ eval_with-round-a-requires-in-6 t c = (
         (c.args.x - 1),
     c.part-y.ensures,
     c.if-x-eq0.false,
+    c.decreases,
     c.requires.0,
-    c.requires.1.0,
   ),
   (
     omega (
@@ -404,10 +405,10 @@ eval_with-round-a-requires-in-6 t c = (
           (c.args.x - 1),
       c.part-y.ensures,
       c.if-x-eq0.false,
+      c.decreases,
       c.requires.0,
-      c.requires.1.0,
     ),
-    c.requires.1.1,
+    c.requires.1,
   ),
 )
 
@@ -445,9 +446,9 @@ eval_with-overflow_add-p-in-6 t c = omega (
       c.args.n
       (tree_of c.args.t.now c.part-y.result)
       c.args.p
-      (omega (arith, c.requires.1.0)),
+      (omega (arith, c.requires.0)),
   c.round-a-in-6.ensures,
-  c.requires.1.0,
+  c.requires.0,
 )
 
 pub eval_with-many-requires-in-6 : goal.eval_with-many-requires-in-6
@@ -464,11 +465,11 @@ eval_with-many-requires-in-6 t c = (
         c.args.n
         (tree_of c.args.t.now c.part-y.result)
         c.args.p
-        (omega (arith, c.requires.1.0)),
+        (omega (arith, c.requires.0)),
     c.round-a-in-6.ensures,
     c.if-a-le1.false,
+    c.decreases,
     c.requires.0,
-    c.requires.1.0,
   ),
   (
     omega (
@@ -483,11 +484,11 @@ eval_with-many-requires-in-6 t c = (
           c.args.n
           (tree_of c.args.t.now c.part-y.result)
           c.args.p
-          (omega (arith, c.requires.1.0)),
+          (omega (arith, c.requires.0)),
       c.round-a-in-6.ensures,
       c.if-a-le1.false,
+      c.decreases,
       c.requires.0,
-      c.requires.1.0,
     ),
     knows-from
         c.args.t.now
@@ -497,7 +498,7 @@ eval_with-many-requires-in-6 t c = (
         c.args.n 0 0
         c.args.p
         (c.args.p + (c.round-a-in-6.result - 1)) (omega arith) (omega arith)
-        c.requires.1.1,
+        c.requires.1,
   ),
 )
 
@@ -509,7 +510,7 @@ eval_with-overflow_add-result-in-6 t c = omega (
       c.args.n
       (tree_of c.args.t.now
       c.part-y.result) c.args.p
-      (omega (arith, c.requires.1.0)),
+      (omega (arith, c.requires.0)),
   c.round-a-in-6.ensures,
   rounds-within
       c.args.s.now
@@ -524,12 +525,12 @@ eval_with-overflow_add-result-in-6 t c = omega (
             c.args.n
             (tree_of c.args.t.now
             c.part-y.result) c.args.p
-            (omega (arith, c.requires.1.0)),
+            (omega (arith, c.requires.0)),
         c.round-a-in-6.ensures,
-        c.requires.1.0,
+        c.requires.0,
       )),
   c.many-in-6.ensures,
-  c.requires.1.0,
+  c.requires.0,
 )
 
 pub eval_with-round-a-requires-in-7 : goal.eval_with-round-a-requires-in-7
@@ -540,8 +541,8 @@ eval_with-round-a-requires-in-7 t c = (
         (c.args.x - 1),
     c.part-y.ensures,
     c.if-x-eq0.false,
+    c.decreases,
     c.requires.0,
-    c.requires.1.0,
   ),
   (
     omega (
@@ -550,10 +551,10 @@ eval_with-round-a-requires-in-7 t c = (
           (c.args.x - 1),
       c.part-y.ensures,
       c.if-x-eq0.false,
+      c.decreases,
       c.requires.0,
-      c.requires.1.0,
     ),
-    c.requires.1.1,
+    c.requires.1,
   ),
 )
 
@@ -582,8 +583,8 @@ eval_with-round-a-requires-in_default t c = (
         (c.args.x - 1),
     c.part-y.ensures,
     c.if-x-eq0.false,
+    c.decreases,
     c.requires.0,
-    c.requires.1.0,
   ),
   (
     omega (
@@ -592,10 +593,10 @@ eval_with-round-a-requires-in_default t c = (
           (c.args.x - 1),
       c.part-y.ensures,
       c.if-x-eq0.false,
+      c.decreases,
       c.requires.0,
-      c.requires.1.0,
     ),
-    c.requires.1.1,
+    c.requires.1,
   ),
 )
 
@@ -814,7 +815,7 @@ eval_with-returns-else-a-eq0-4 t c = never-fails _ _ (c.round-a-in_default.ensur
     c.left-l.ensures.0
 
 pub many-loop-k-init : goal.many-loop-k-init
-many-loop-k-init t c = (omega arith, omega (arith, c.requires.1.0), refl, omega arith)
+many-loop-k-init t c = (omega arith, omega (arith, c.requires.0), refl, omega arith)
 
 pub many-overflow_sub-result : goal.many-overflow_sub-result
 many-overflow_sub-result t c = omega (arith, c.loop-k.invariant.0)
@@ -839,7 +840,7 @@ many-returns-then-w-lt3 t c = omega (
       c.args.mem.now
       c.args.n 0 0
       c.args.p c.loop-k.q
-      (omega arith) c.loop-k.invariant.0 c.requires.1.1)
+      (omega arith) c.loop-k.invariant.0 c.requires.1)
       c.args.x c.byte_at-b.result
       c.said-w.result c.loop-k.invariant.1
       c.byte_at-b.ensures.0 c.said-w.ensures (λ e. omega (arith, e, c.if-w-gt0.true)))
@@ -849,7 +850,7 @@ many-returns-then-w-lt3 t c = omega (
 )
 
 pub many-known-c-requires : goal.many-known-c-requires
-many-known-c-requires t c = omega (arith, c.loop-k.invariant.1, c.requires.1.0)
+many-known-c-requires t c = omega (arith, c.loop-k.invariant.1, c.requires.0)
 
 pub many-overflow_sub-result-then-c-lt-UNKNOWN : goal.many-overflow_sub-result-then-c-lt-UNKNOWN
 many-overflow_sub-result-then-c-lt-UNKNOWN t c = omega (arith, c.loop-k.invariant.0)
@@ -860,7 +861,7 @@ many-overflow_add-result t c = omega (
   c.loop-k.invariant.0,
   c.loop-k.invariant.1,
   c.if-c-lt-UNKNOWN.true,
-  c.requires.1.0,
+  c.requires.0,
 )
 
 pub many-returns-then-c-lt-UNKNOWN : goal.many-returns-then-c-lt-UNKNOWN
@@ -868,10 +869,10 @@ many-returns-then-c-lt-UNKNOWN t c = known-ends c.args.t.now
     c.args.s.now
     c.args.cells.now
     c.args.mem.now c.args.n
-    c.args.p c.requires.1.1
+    c.args.p c.requires.1
     c.args.x c.loop-k.k
     c.args.p c.loop-k.q c.known-c.result
-    (omega (arith, c.requires.1.0)) c.loop-k.invariant.0
+    (omega (arith, c.requires.0)) c.loop-k.invariant.0
     c.loop-k.invariant.1 c.loop-k.invariant.3
     c.loop-k.invariant.2 (c.known-c.ensures c.if-c-lt-UNKNOWN.true)
 
@@ -880,15 +881,15 @@ many-eval_with-a-requires t c = (
   omega (
     arith,
     c.loop-k.invariant.1,
+    c.decreases,
     c.requires.0,
-    c.requires.1.0,
   ),
   (
     omega (
       arith,
       c.loop-k.invariant.1,
+      c.decreases,
       c.requires.0,
-      c.requires.1.0,
     ),
     knows-from c.args.t.now
         c.args.s.now
@@ -898,7 +899,7 @@ many-eval_with-a-requires t c = (
         c.args.p
         c.loop-k.q (omega arith)
         c.loop-k.invariant.0
-        c.requires.1.1,
+        c.requires.1,
   ),
 )
 
@@ -916,27 +917,30 @@ many-returns-then-a-le1 t c = let h : c.if-w-eq0.a ≡ ev
     c.args.t.now
     c.args.x)
     c.loop-k.q =
-    ⊎_elim (λ w. w.2 ∙ w.1.ensures) (λ w. w.1 ∙ said-right
-    c.args.t.now
-    c.args.s.now
-    c.args.cells.now
-    c.args.mem.now
-    c.args.n 0
-    c.loop-k.q
-    (knows-from c.args.t.now
-    c.args.s.now
-    c.args.cells.now
-    c.args.mem.now
-    c.args.n 0 0
-    c.args.p
-    c.loop-k.q (omega arith)
-    c.loop-k.invariant.0
-    c.requires.1.1)
-    c.args.x
-    c.byte_at-b.result c.said-w.result
-    c.loop-k.invariant.1
-    c.byte_at-b.ensures.0 c.said-w.ensures
-    w.0.left) c.if-w-eq0.branch in
+    elim c.if-w-eq0.branch [
+      | many-then-w-eq0 w ↦ w.a-is ∙ w.eval_with-a.ensures
+      | many-else-w-eq0 w ↦ w.a-is ∙ said-right
+          c.args.t.now
+          c.args.s.now
+          c.args.cells.now
+          c.args.mem.now
+          c.args.n 0
+          c.loop-k.q
+          (knows-from c.args.t.now
+          c.args.s.now
+          c.args.cells.now
+          c.args.mem.now
+          c.args.n 0 0
+          c.args.p
+          c.loop-k.q (omega arith)
+          c.loop-k.invariant.0
+          c.requires.1)
+          c.args.x
+          c.byte_at-b.result c.said-w.result
+          c.loop-k.invariant.1
+          c.byte_at-b.ensures.0 c.said-w.ensures
+          w.if-w-eq0.false
+    ] in
     omega (
       arith,
       rep-ends (λ (i : ℕ). ev c.args.s.now
@@ -962,27 +966,30 @@ many-overflow_add-q t c = let h : c.if-w-eq0.a ≡ ev
     c.args.t.now
     c.args.x)
     c.loop-k.q =
-    ⊎_elim (λ w. w.2 ∙ w.1.ensures) (λ w. w.1 ∙ said-right
-    c.args.t.now
-    c.args.s.now
-    c.args.cells.now
-    c.args.mem.now
-    c.args.n 0
-    c.loop-k.q
-    (knows-from c.args.t.now
-    c.args.s.now
-    c.args.cells.now
-    c.args.mem.now
-    c.args.n 0 0
-    c.args.p
-    c.loop-k.q (omega arith)
-    c.loop-k.invariant.0
-    c.requires.1.1)
-    c.args.x
-    c.byte_at-b.result c.said-w.result
-    c.loop-k.invariant.1
-    c.byte_at-b.ensures.0
-    c.said-w.ensures w.0.left) c.if-w-eq0.branch in
+    elim c.if-w-eq0.branch [
+      | many-then-w-eq0 w ↦ w.a-is ∙ w.eval_with-a.ensures
+      | many-else-w-eq0 w ↦ w.a-is ∙ said-right
+          c.args.t.now
+          c.args.s.now
+          c.args.cells.now
+          c.args.mem.now
+          c.args.n 0
+          c.loop-k.q
+          (knows-from c.args.t.now
+          c.args.s.now
+          c.args.cells.now
+          c.args.mem.now
+          c.args.n 0 0
+          c.args.p
+          c.loop-k.q (omega arith)
+          c.loop-k.invariant.0
+          c.requires.1)
+          c.args.x
+          c.byte_at-b.result c.said-w.result
+          c.loop-k.invariant.1
+          c.byte_at-b.ensures.0
+          c.said-w.ensures w.if-w-eq0.false
+    ] in
     omega (
       arith,
       ev-within c.args.s.now
@@ -993,7 +1000,7 @@ many-overflow_add-q t c = let h : c.if-w-eq0.a ≡ ev
           c.loop-k.q (omega
           (arith, c.loop-k.invariant.1)),
       h,
-      c.requires.1.0,
+      c.requires.0,
     )
 
 pub many-overflow_sub-k : goal.many-overflow_sub-k
@@ -1010,27 +1017,30 @@ many-loop-k-preserved t c = let h : c.if-w-eq0.a ≡ ev
     c.args.t.now
     c.args.x)
     c.loop-k.q =
-    ⊎_elim (λ w. w.2 ∙ w.1.ensures) (λ w. w.1 ∙ said-right
-    c.args.t.now
-    c.args.s.now
-    c.args.cells.now
-    c.args.mem.now
-    c.args.n 0
-    c.loop-k.q
-    (knows-from c.args.t.now
-    c.args.s.now
-    c.args.cells.now
-    c.args.mem.now
-    c.args.n 0 0
-    c.args.p
-    c.loop-k.q (omega arith)
-    c.loop-k.invariant.0
-    c.requires.1.1)
-    c.args.x
-    c.byte_at-b.result c.said-w.result
-    c.loop-k.invariant.1
-    c.byte_at-b.ensures.0
-    c.said-w.ensures w.0.left) c.if-w-eq0.branch in (
+    elim c.if-w-eq0.branch [
+      | many-then-w-eq0 w ↦ w.a-is ∙ w.eval_with-a.ensures
+      | many-else-w-eq0 w ↦ w.a-is ∙ said-right
+          c.args.t.now
+          c.args.s.now
+          c.args.cells.now
+          c.args.mem.now
+          c.args.n 0
+          c.loop-k.q
+          (knows-from c.args.t.now
+          c.args.s.now
+          c.args.cells.now
+          c.args.mem.now
+          c.args.n 0 0
+          c.args.p
+          c.loop-k.q (omega arith)
+          c.loop-k.invariant.0
+          c.requires.1)
+          c.args.x
+          c.byte_at-b.result c.said-w.result
+          c.loop-k.invariant.1
+          c.byte_at-b.ensures.0
+          c.said-w.ensures w.if-w-eq0.false
+    ] in (
       omega (arith, c.loop-k.invariant.0),
       omega (
         arith,
@@ -1087,11 +1097,11 @@ pub round-returns-then-w-ne0 : goal.round-returns-then-w-ne0
 round-returns-then-w-ne0 t c = said-right c.args.t.now c.args.s.now
     c.args.cells.now c.args.mem.now
     c.args.n 0 c.args.p
-    c.requires.1.1 c.args.x c.byte_at-b.result
-    c.said-w.result (omega (arith, c.requires.1.0)) c.byte_at-b.ensures.0 c.said-w.ensures c.if-w-ne0.true
+    c.requires.1 c.args.x c.byte_at-b.result
+    c.said-w.result (omega (arith, c.requires.0)) c.byte_at-b.ensures.0 c.said-w.ensures c.if-w-ne0.true
 
 pub round-eval_with-requires : goal.round-eval_with-requires
-round-eval_with-requires t c = (omega (arith, c.requires.0), c.requires.1)
+round-eval_with-requires t c = (omega (arith, c.decreases), c.requires)
 
 pub round-returns : goal.round-returns
 round-returns t c = c.eval_with.ensures

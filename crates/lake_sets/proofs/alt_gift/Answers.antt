@@ -1,0 +1,176 @@
+use mathlib.Core.Path.{◌≡◌, refl, sym, ap, ap₂, ◌∙◌, subst}
+use mathlib.Core.List.{List, [], ◌∷◌, ◌++◌}
+use Prim.Native.Nat.{ℕ, ◌+◌, ◌*◌, ◌-◌, ◌^◌, ◌≤◌, ◌<◌}
+use mathlib.Core.Bool.{Bool, true, false}
+use native.Mathlib.Omega.{arith}
+use lib.ListN.{length, get_or, set, take, replicate, length-set, length-append, length-replicate}
+use Rattle.base_words.specs.Set.{union_of, empty}
+use Rattle.grammar_table.specs.Table.{part_by, part_in, up_to}
+use Rattle.lake_rules.specs.Flows.{edge, Gift, gift, when, given, succeed_gifts, alt_gifts}
+use Rattle.lake_sets.specs.steps.Steps.{pair_at, root_in, kept, edges_by, handed, succeed_given, alt_given, Fine}
+use Rattle.lake_sets.specs.laws.Edges.{gave-nothing, gave-two, gave-as, alt-rest}
+use Rattle.lake_rules.specs.laws.Over.{over_none, over-next}
+use Rattle.lake_sets.specs.laws.Edges.{alt-choice, alt-choice-off, alt-option, alt-repeat, alt-repeat1}
+use borrow.Author.Rules.{rules}
+use Rattle.lake_sets.proofs.alt_gift.Goals as goal
+
+pub returns-then-flag_at : goal.returns-then-flag_at
+returns-then-flag_at c = gave-as c.args.base.now c.gift-then-flag_at.new.base
+    (gift c.node-k.result.left
+    c.set_at.result ∷ gift
+    c.node-k.result.left c.set_at-then-flag_at.result ∷ [])
+    (alt_gifts (pair_at c.args.sets.now
+    c.args.eps.now)
+    (root_in c.args.t.now)
+    (λ i. get_or c.args.succ.now i empty)
+    c.args.e
+    (part_by c.node-k.result.op
+    c.node-k.result.left
+    c.node-k.result.right))
+    (alt_gifts (pair_at c.args.sets.now
+    c.args.eps.now)
+    (root_in c.args.t.now)
+    (λ i. get_or c.args.succ.now i empty)
+    c.args.e
+    (part_in c.args.t.now
+    c.args.e))
+    (gave-two (gift c.node-k.result.left
+    c.set_at.result ∷ [])
+    (gift c.node-k.result.left c.set_at-then-flag_at.result ∷ [])
+    c.args.base.now
+    c.gift.new.base c.gift-then-flag_at.new.base
+    c.gift.ensures c.gift-then-flag_at.ensures)
+    (ap₂ (λ (s u : List ℕ). gift c.node-k.result.left s ∷ gift
+    c.node-k.result.left u ∷ [])
+    c.set_at.ensures c.set_at-then-flag_at.ensures ∙ alt-choice
+    (pair_at c.args.sets.now
+    c.args.eps.now)
+    (root_in c.args.t.now)
+    (λ i. get_or c.args.succ.now i empty)
+    c.args.e
+    c.node-k.result.op
+    c.node-k.result.left
+    c.node-k.result.right
+    c.in-3.is
+    (sym c.flag_at.ensures ∙ c.if-flag_at.true))
+    (ap (alt_gifts (pair_at c.args.sets.now
+    c.args.eps.now)
+    (root_in c.args.t.now)
+    (λ i. get_or c.args.succ.now i empty)
+    c.args.e)
+    c.node-k.ensures.0)
+
+pub returns-in-3 : goal.returns-in-3
+returns-in-3 c = gave-as c.args.base.now c.gift.new.base
+    (gift c.node-k.result.left c.set_at.result ∷ [])
+    (alt_gifts (pair_at c.args.sets.now
+    c.args.eps.now)
+    (root_in c.args.t.now)
+    (λ i. get_or c.args.succ.now i empty)
+    c.args.e
+    (part_by c.node-k.result.op c.node-k.result.left
+    c.node-k.result.right))
+    (alt_gifts (pair_at c.args.sets.now
+    c.args.eps.now)
+    (root_in c.args.t.now)
+    (λ i. get_or c.args.succ.now i empty)
+    c.args.e
+    (part_in c.args.t.now
+    c.args.e)) c.gift.ensures
+    (ap (λ (s : List ℕ). gift c.node-k.result.left s ∷ [])
+    c.set_at.ensures ∙ alt-choice-off
+    (pair_at c.args.sets.now
+    c.args.eps.now)
+    (root_in c.args.t.now)
+    (λ i. get_or c.args.succ.now i empty)
+    c.args.e c.node-k.result.op
+    c.node-k.result.left c.node-k.result.right
+    c.in-3.is (sym c.flag_at.ensures ∙ c.if-flag_at.false))
+    (ap (alt_gifts (pair_at c.args.sets.now
+    c.args.eps.now)
+    (root_in c.args.t.now)
+    (λ i. get_or c.args.succ.now i empty)
+    c.args.e) c.node-k.ensures.0)
+
+pub returns-in-4 : goal.returns-in-4
+returns-in-4 c = gave-as c.args.base.now c.gift-in-4.new.base
+    (gift c.node-k.result.left c.set_at-in-4.result ∷ [])
+    (alt_gifts (pair_at c.args.sets.now c.args.eps.now)
+    (root_in c.args.t.now)
+    (λ i. get_or c.args.succ.now i empty) c.args.e
+    (part_by c.node-k.result.op c.node-k.result.left
+    c.node-k.result.right))
+    (alt_gifts (pair_at c.args.sets.now c.args.eps.now)
+    (root_in c.args.t.now)
+    (λ i. get_or c.args.succ.now i empty) c.args.e
+    (part_in c.args.t.now c.args.e)) c.gift-in-4.ensures
+    (ap (λ (s : List ℕ). gift c.node-k.result.left s ∷ []) c.set_at-in-4.ensures ∙ alt-option
+    (pair_at c.args.sets.now c.args.eps.now)
+    (root_in c.args.t.now)
+    (λ i. get_or c.args.succ.now i empty) c.args.e
+    c.node-k.result.op c.node-k.result.left
+    c.node-k.result.right c.in-4.is)
+    (ap (alt_gifts (pair_at c.args.sets.now
+    c.args.eps.now) (root_in c.args.t.now)
+    (λ i. get_or c.args.succ.now i empty) c.args.e)
+    c.node-k.ensures.0)
+
+pub returns-in-5 : goal.returns-in-5
+returns-in-5 c = gave-as c.args.base.now c.gift-in-5.new.base
+    (gift c.node-k.result.left c.set_at-in-5.result ∷ [])
+    (alt_gifts (pair_at c.args.sets.now c.args.eps.now)
+    (root_in c.args.t.now)
+    (λ i. get_or c.args.succ.now i empty) c.args.e
+    (part_by c.node-k.result.op c.node-k.result.left
+    c.node-k.result.right))
+    (alt_gifts (pair_at c.args.sets.now c.args.eps.now)
+    (root_in c.args.t.now)
+    (λ i. get_or c.args.succ.now i empty) c.args.e
+    (part_in c.args.t.now c.args.e)) c.gift-in-5.ensures
+    (ap (λ (s : List ℕ). gift c.node-k.result.left s ∷ []) c.set_at-in-5.ensures ∙ alt-repeat
+    (pair_at c.args.sets.now c.args.eps.now)
+    (root_in c.args.t.now)
+    (λ i. get_or c.args.succ.now i empty) c.args.e
+    c.node-k.result.op c.node-k.result.left
+    c.node-k.result.right c.in-5.is)
+    (ap (alt_gifts (pair_at c.args.sets.now
+    c.args.eps.now) (root_in c.args.t.now)
+    (λ i. get_or c.args.succ.now i empty) c.args.e)
+    c.node-k.ensures.0)
+
+pub returns-in-6 : goal.returns-in-6
+returns-in-6 c = gave-as c.args.base.now c.gift-in-6.new.base
+    (gift c.node-k.result.left c.set_at-in-6.result ∷ [])
+    (alt_gifts (pair_at c.args.sets.now c.args.eps.now)
+    (root_in c.args.t.now)
+    (λ i. get_or c.args.succ.now i empty) c.args.e
+    (part_by c.node-k.result.op c.node-k.result.left
+    c.node-k.result.right))
+    (alt_gifts (pair_at c.args.sets.now c.args.eps.now)
+    (root_in c.args.t.now)
+    (λ i. get_or c.args.succ.now i empty) c.args.e
+    (part_in c.args.t.now c.args.e)) c.gift-in-6.ensures
+    (ap (λ (s : List ℕ). gift c.node-k.result.left s ∷ []) c.set_at-in-6.ensures ∙ alt-repeat1
+    (pair_at c.args.sets.now c.args.eps.now)
+    (root_in c.args.t.now)
+    (λ i. get_or c.args.succ.now i empty) c.args.e
+    c.node-k.result.op c.node-k.result.left
+    c.node-k.result.right c.in-6.is)
+    (ap (alt_gifts (pair_at c.args.sets.now
+    c.args.eps.now) (root_in c.args.t.now)
+    (λ i. get_or c.args.succ.now i empty) c.args.e)
+    c.node-k.ensures.0)
+
+pub returns-in_default : goal.returns-in_default
+returns-in_default c = gave-as c.args.base.now c.args.base.now ([])
+    (alt_gifts (pair_at c.args.sets.now c.args.eps.now) (root_in c.args.t.now)
+    (λ i. get_or c.args.succ.now i empty) c.args.e
+    (part_by c.node-k.result.op c.node-k.result.left c.node-k.result.right))
+    (alt_gifts (pair_at c.args.sets.now c.args.eps.now) (root_in c.args.t.now)
+    (λ i. get_or c.args.succ.now i empty) c.args.e
+    (part_in c.args.t.now c.args.e)) (gave-nothing c.args.base.now)
+    (alt-rest (pair_at c.args.sets.now c.args.eps.now) (root_in c.args.t.now)
+    (λ i. get_or c.args.succ.now i empty) c.args.e c.node-k.result.op c.node-k.result.left
+    c.node-k.result.right c.in_default.in_default-own.rest.0.0.0.1 c.in_default.in_default-own.rest.0.0.1 c.in_default.in_default-own.rest.0.1 c.in_default.in_default-own.rest.1)
+    (ap (alt_gifts (pair_at c.args.sets.now c.args.eps.now) (root_in c.args.t.now)
+    (λ i. get_or c.args.succ.now i empty) c.args.e) c.node-k.ensures.0)

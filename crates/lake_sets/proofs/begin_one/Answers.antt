@@ -1,0 +1,37 @@
+use Rattle.grammar.specs.Parts.{Part}
+use Rattle.lake_sets.specs.steps.Steps.{Small}
+use mathlib.Core.Path.{◌≡◌, refl, sym, ap, ap₂, ◌∙◌, subst}
+use mathlib.Core.List.{List, [], ◌∷◌}
+use Prim.Native.Nat.{ℕ, ◌+◌, ◌*◌, ◌-◌, ◌^◌, ◌≤◌, ◌<◌}
+use mathlib.Core.Bool.{Bool, true, false, cond, ◌&&◌, ◌||◌}
+use native.Mathlib.Omega.{arith}
+use lib.ListN.{length, get_or, set, replicate, length-set, get_or-eq_default, length-replicate}
+use Rattle.grammar_table.specs.Table.{part_by, part_in, up_to}
+use Rattle.lake_rules.specs.Beginning.{Beginning, nothing, begin, marked, begin_by}
+use Rattle.lake_sets.specs.steps.Steps.{pair_at, root_in, Tame, begins_in, mark_next, marks_in, BegunAll, MarkedAll}
+use Rattle.lake_sets.specs.laws.Begins.{rest, small}
+use Rattle.lake_rules.specs.laws.Begins.{set-any, eps-any, begin-agree, begins-rule, begins-long}
+use borrow.Author.Rules.{rules}
+use Rattle.lake_sets.proofs.begin_one.Goals as goal
+
+pub returns : goal.returns
+returns c = record {
+  set_is = λ h. ap (set c.args.sets.now
+      c.args.e)
+      (subst (λ (p : Part). Small p → c.begin_set-s.result ≡ (begin_by (λ x. false)
+      (pair_at c.args.sets.now
+      c.args.eps.now) p).set) c.node-k.ensures.0
+      c.begin_set-s.ensures h ∙ set-any (λ x. false) (marked c.args.marks.now)
+      (pair_at c.args.sets.now
+      c.args.eps.now)
+      (part_in c.args.t.now c.args.e));
+  set_long = simp length-set;
+  eps-is = ap (set c.args.eps.now c.args.e)
+      (c.begin_eps-b.ensures ∙ ap (λ (p : Part). (begin_by (marked c.args.marks.now)
+      (pair_at [] c.args.eps.now) p).eps)
+      c.node-k.ensures.0 ∙ eps-any (marked c.args.marks.now)
+      (pair_at [] c.args.eps.now)
+      (pair_at c.args.sets.now
+      c.args.eps.now) (λ i. refl)
+      (part_in c.args.t.now c.args.e));
+}

@@ -1,0 +1,11 @@
+use mathlib.Core.Path.{◌≡◌, refl, sym, ap, ap₂, ◌∙◌, subst}
+use Prim.Native.Nat.{ℕ, ◌+◌, ◌-◌, ◌^◌, ◌≤◌, ◌<◌}
+use native.Mathlib.Nat.{one-mul}
+use lib.Pow.{shl_exact}
+use native.Mathlib.Omega.{arith}
+use lib.Dec.{lit<}
+use borrow.Author.Rules.{rules}
+use Rattle.lake_sets.proofs.bit.Goals as goal
+
+pub returns-then-k-lt64 : goal.returns-then-k-lt64
+returns-then-k-lt64 c = λ h. shl_exact 1 c.args.k 64 (lit< tt) (omega arith) ∙ one-mul (2 ^ c.args.k)

@@ -1,0 +1,19 @@
+use mathlib.Core.Path.{◌≡◌, refl, sym, ap, ap₂, ◌∙◌}
+use Prim.Native.Nat.{ℕ, ◌+◌, ◌-◌, ◌≤◌}
+use native.Mathlib.Omega.{arith}
+use mathlib.Core.List.{List, []}
+use mathlib.Core.Bool.{Bool, true, false, cond}
+use lib.ListN.{length, get_or}
+use Rattle.lake_sets.specs.steps.Steps.{pair_at, root_in}
+use Rattle.lake_sets.specs.laws.Alts.{root_none, root-some}
+use borrow.Author.Rules.{rules}
+use Rattle.lake_sets.proofs.body_eps.Goals as goal
+
+pub returns-then-b-eq0 : goal.returns-then-b-eq0
+returns-then-b-eq0 c = root_none (pair_at [] c.args.eps.now) c.body-b.result
+    (root_in c.args.t.now c.args.r) c.if-b-eq0.true c.body-b.ensures.0
+
+pub returns : goal.returns
+returns c = root-some (pair_at [] c.args.eps.now) c.body-b.result
+    (root_in c.args.t.now c.args.r) c.flag_at.result c.if-b-eq0.false
+    c.body-b.ensures.0 c.flag_at.ensures

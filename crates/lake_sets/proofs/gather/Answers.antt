@@ -1,0 +1,31 @@
+use mathlib.Core.Path.{◌≡◌, refl, sym, ap, ap₂, ◌∙◌, subst}
+use mathlib.Core.List.{List, [], ◌∷◌}
+use Prim.Native.Nat.{ℕ, ◌+◌, ◌*◌, ◌-◌, ◌^◌, ◌≤◌, ◌<◌}
+use mathlib.Core.Bool.{Bool, true, false, cond, ◌&&◌, ◌||◌}
+use native.Mathlib.Omega.{arith}
+use lib.ListN.{length, get_or, set, replicate, length-set, get_or-eq_default, length-replicate}
+use Rattle.base_facts.specs.laws.Numbers.{lt-or-ge}
+use Rattle.grammar_table.specs.Table.{part_by, part_in, up_to}
+use Rattle.lake_rules.specs.Beginning.{Beginning, nothing, begin, marked, root_eps, begin_by}
+use Rattle.lake_sets.specs.steps.Steps.{pair_at, root_in, Tame, begins_in, mark_next, marks_in, BegunAll, MarkedAll}
+use Rattle.base_rounds.specs.laws.Fill.{fill_more}
+use Rattle.grammar_table.specs.laws.Places.{get_d_any, is-up_to, up_to-same}
+use borrow.Author.Rules.{rules}
+use Rattle.lake_sets.proofs.gather.Goals as goal
+
+pub loop-r-init : goal.loop-r-init
+loop-r-init c = (omega arith, refl, λ j p. let z : ⊥ = omega arith in absurd z)
+
+pub loop-r-preserved : goal.loop-r-preserved
+loop-r-preserved c = (
+  simp length-set (omega arith),
+  simp length-set c.loop-r.invariant.1,
+  fill_more false
+      (λ j. root_eps (pair_at [] c.args.eps.now) (root_in c.args.t.now j))
+      c.loop-r.marks c.loop-r.r c.body_eps.result c.loop-r.invariant.2 (omega arith)
+      c.body_eps.ensures,
+)
+
+pub returns : goal.returns
+returns c = is-up_to false (λ j. root_eps (pair_at [] c.args.eps.now) (root_in c.args.t.now j))
+    c.loop-r.marks (length c.args.marks.now) (omega arith) (λ i p. c.loop-r.invariant.2 i (omega arith))

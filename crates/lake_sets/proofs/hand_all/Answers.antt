@@ -1,0 +1,48 @@
+use Rattle.base_rounds.specs.Flow.{Edge}
+use mathlib.Core.Path.{◌≡◌, refl, sym, ap, ap₂, ◌∙◌, subst}
+use mathlib.Core.List.{List, [], ◌∷◌, ◌++◌}
+use Prim.Native.Nat.{ℕ, ◌+◌, ◌*◌, ◌-◌, ◌^◌, ◌≤◌, ◌<◌}
+use mathlib.Core.Bool.{Bool, true, false}
+use native.Mathlib.Omega.{arith}
+use lib.ListN.{length, get_or, set, take, replicate, length-set, length-append, length-replicate}
+use Rattle.grammar_table.specs.Table.{part_by, part_in, up_to}
+use Rattle.lake_rules.specs.Flows.{edge, Gift, gift, when, given, succeed_gifts, alt_gifts}
+use Rattle.lake_sets.specs.steps.Steps.{pair_at, root_in, kept, edges_by, handed, succeed_given, alt_given, Fine}
+use Rattle.lake_sets.specs.laws.Edges.{edges-two, kept-long, handed-next}
+use Rattle.lake_rules.specs.laws.Over.{over_none, over-next}
+use Rattle.base_rounds.specs.laws.Sys.{edges, empties}
+use borrow.Author.Rules.{rules}
+use Rattle.lake_sets.proofs.hand_all.Goals as goal
+
+pub loop-e-init : goal.loop-e-init
+loop-e-init c = (
+  omega arith,
+  omega arith,
+  sym (over_none (λ i p. kept (length c.args.eps.now) (edges_by c.args.back (pair_at [] c.args.eps.now) (root_in
+      c.args.t.now) i p)) (part_in c.args.t.now)),
+)
+
+pub loop-e-preserved : goal.loop-e-preserved
+loop-e-preserved c = let es = edges_by c.args.back (pair_at [] c.args.eps.now) (root_in
+    c.args.t.now) c.loop-e.e (part_in c.args.t.now
+    c.loop-e.e) in (
+      omega arith,
+      omega (
+        arith,
+        c.hand-m.ensures.most,
+        kept-long (length c.args.eps.now) es,
+        edges-two (pair_at []
+            c.args.eps.now) (root_in c.args.t.now) c.loop-e.e
+            c.args.back (part_in c.args.t.now c.loop-e.e),
+      ),
+      c.hand-m.ensures.all ∙ ap (λ (l : List Edge). l ++ kept (length c.args.eps.now) es) c.loop-e.invariant.2 ∙ sym
+          (handed-next c.args.t.now c.args.eps.now
+          c.args.back (length c.args.eps.now) c.loop-e.e),
+    )
+
+pub returns : goal.returns
+returns c = let q : c.loop-e.e ≡ (length c.args.eps.now) = omega arith in (
+  omega arith,
+  c.loop-e.invariant.2 ∙ ap (handed
+      c.args.t.now c.args.eps.now c.args.back (length c.args.eps.now)) q,
+)

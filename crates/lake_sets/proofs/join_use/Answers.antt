@@ -1,0 +1,19 @@
+use mathlib.Core.Path.{◌≡◌, refl, sym, ap, ap₂, ◌∙◌}
+use Prim.Native.Nat.{ℕ, ◌+◌, ◌-◌, ◌≤◌}
+use native.Mathlib.Omega.{arith}
+use mathlib.Core.List.{List, []}
+use mathlib.Core.Bool.{Bool, true, false, cond}
+use lib.ListN.{length, get_or}
+use Rattle.base_words.specs.Set.{union_of, empty}
+use borrow.Author.Rules.{rules}
+use Rattle.lake_sets.proofs.join_use.Goals as goal
+
+pub returns-then-is_use : goal.returns-then-is_use
+returns-then-is_use c = c.union.ensures ∙ ap (union_of c.args.s) c.set_at-a.ensures ∙ ap
+    (λ (b : Bool). cond b (union_of c.args.s
+    (get_or c.args.alts.now c.args.e empty)) c.args.s)
+    (sym c.if-is_use.true ∙ c.is_use.ensures)
+
+pub returns : goal.returns
+returns c = ap (λ (b : Bool). cond b (union_of c.args.s (get_or c.args.alts.now c.args.e empty))
+    c.args.s) (sym c.if-is_use.false ∙ c.is_use.ensures)

@@ -1,0 +1,30 @@
+use mathlib.Core.Path.{◌≡◌, refl, sym, ap, ◌∙◌, subst}
+use native.Mathlib.Omega.{arith}
+use borrow.Author.Tests.{not-true, not-false}
+use Rattle.read_order.specs.steps.Order.{symbol_in}
+use Rattle.read_order.specs.laws.Order.{fits_word}
+use Rattle.read_names.specs.laws.Marks.{known-not, known-mark}
+use borrow.Author.Rules.{rules}
+use Rattle.read_names.proofs.lefts.known.Goals as goal
+
+pub same_name-requires : goal.same_name-requires
+same_name-requires c = (
+  c.requires.1,
+  fits_word c.args.text.now
+      c.args.a.now _ c.word-w.result c.requires.0 c.word-w.ensures.0,
+)
+
+pub returns-then-not-same_name : goal.returns-then-not-same_name
+returns-then-not-same_name c = known-not c.args.text.now c.args.a.now
+    c.args.count c.find-j.result
+    (symbol_in c.args.text.now c.args.v)
+    c.args.marks.now c.find-j.ensures.0 c.same_name.result
+    c.word-w.result c.word-w.ensures.0 c.same_name.ensures (not-true _ c.if-not-same_name.true-raw)
+
+pub returns : goal.returns
+returns c = known-mark c.args.text.now c.args.a.now
+    c.args.count c.find-j.result
+    (symbol_in c.args.text.now c.args.v)
+    c.args.marks.now c.find-j.ensures.0
+    c.same_name.result c.word-w.result c.word-w.ensures.0 c.same_name.ensures
+    (not-false _ c.if-not-same_name.false-raw)
