@@ -318,7 +318,7 @@ def turn_cycle(path, crate, tables):
                 if old not in names.settled:
                     said.append(f"no goal {m.group(2)}: {sorted(names.needs)}")
                 continue
-            new = func + "-" + names.needs[old]
+            new = (func + "-" if len(functions) > 1 else "") + names.needs[old]
             value = facts(d.group(4), names, names.at[old])
             answers.append("\n".join(before + [f"pub {new} : goal.{new}"] + ([d.group(1).rstrip("\n")] if d.group(1) else []) + [f"{new} t c ={d.group(3)}{value}"]))
             continue

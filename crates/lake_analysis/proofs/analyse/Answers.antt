@@ -1,0 +1,34 @@
+use mathlib.Core.Path.{◌≡◌, refl, sym, ap, ap₂, ◌∙◌, subst}
+use mathlib.Core.List.{List, [], ◌∷◌, ◌++◌}
+use Prim.Native.Nat.{ℕ, ◌+◌, ◌*◌, ◌-◌, ◌^◌, ◌≤◌, ◌<◌}
+use mathlib.Core.Bool.{Bool, true, false}
+use native.Mathlib.Omega.{arith}
+use lib.ListN.{length, get_or, set, take}
+use Rattle.lake_analysis.specs.laws.Joined.{joined, parted-as}
+use borrow.Author.Rules.{rules}
+use Rattle.lake_analysis.proofs.analyse.Goals as goal
+
+pub returns : goal.returns
+returns c = parted-as
+    c.args.t.now (length
+    c.args.sets.now) (length
+    c.args.base.now) (length
+    c.args.marks.now) (length
+    c.args.marks.now) c.alt_all.result
+    c.begins.new.marks _
+    c.begins.new.sets _
+    c.begins.new.eps _
+    c.succeed_all-first.new.cur _ c.alt_all.new.cur _
+    c.requires.5 refl refl refl refl refl refl
+    (joined
+    c.args.t.now (length
+    c.args.base.now) (length
+    c.args.sets.now) (length c.succeed_all-first.new.base) (length
+    c.args.marks.now)
+    c.begins.new.marks
+    c.begins.new.sets
+    c.begins.new.eps c.succeed_all-first.new.cur c.alt_all.new.cur
+    c.succeed_all-first.result c.alt_all.result (sym
+    c.requires.5) (omega (arith, c.succeed_all-first.auto))
+    c.begins.ensures
+    c.succeed_all-first.ensures c.alt_all.ensures)

@@ -1,0 +1,25 @@
+use Prim.Native.Nat.{ℕ, ◌+◌, ◌-◌, ◌≤◌, ◌<◌}
+use mathlib.Core.Path.{◌≡◌, refl, sym, ap, ◌∙◌, subst}
+use mathlib.Core.Bool.{Bool, true, false}
+use mathlib.Core.List.{List}
+use native.Mathlib.Omega.{arith}
+use lib.ListN.{length, get_or, set, replicate, length-set, length-replicate}
+use lib.Seq.{ext_get_or}
+use Rattle.base_rounds.specs.laws.Fill.{fill_more}
+use borrow.Author.Rules.{rules}
+use Rattle.lake_calls.proofs.loops.copy.Goals as goal
+
+pub loop-i-init : goal.loop-i-init
+loop-i-init c = (omega arith, refl, λ j p. let z : ⊥ = omega arith in absurd z)
+
+pub loop-i-preserved : goal.loop-i-preserved
+loop-i-preserved c = (
+  simp length-set (omega arith),
+  simp length-set c.loop-i.invariant.1,
+  fill_more false (λ j. get_or c.args.from.now j false)
+      c.loop-i.to c.loop-i.i (get_or c.args.from.now c.loop-i.i false)
+      c.loop-i.invariant.2 (omega arith) refl,
+)
+
+pub returns : goal.returns
+returns c = ext_get_or false _ _ (omega arith) (λ i p. c.loop-i.invariant.2 i (omega arith))

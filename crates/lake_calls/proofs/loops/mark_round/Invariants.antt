@@ -1,0 +1,24 @@
+use Prim.Native.Nat.{ℕ, ◌+◌, ◌-◌, ◌≤◌, ◌<◌}
+use mathlib.Core.Path.{◌≡◌, refl, sym, ap, ◌∙◌, subst}
+use mathlib.Core.Bool.{Bool, true, false}
+use mathlib.Core.List.{List}
+use native.Mathlib.Omega.{arith}
+use lib.ListN.{length, get_or, set, replicate, length-set, length-replicate}
+use Rattle.read_tokens.specs.Token.{Leaf}
+use Rattle.grammar_table.specs.Table.{symbol_word}
+use Rattle.grammar.specs.Empty.{has_empty}
+use Rattle.lake_rules.specs.Beginning.{marked}
+use Rattle.grammar_table.specs.Trees.{tree_of}
+use Rattle.base_rounds.specs.laws.Fill.{fill_more}
+use Rattle.grammar_table.specs.laws.Places.{is-up_to}
+use Rattle.lake_calls.specs.steps.Firsts.{Firsts}
+use Rattle.lake_calls.specs.steps.Marks.{SoundIn}
+use borrow.Author.Rules.{rules}
+use Rattle.lake_calls.proofs.loops.mark_round.Given as goal
+
+abbrev pub invariant-loop-i : goal.invariant-loop-i
+invariant-loop-i l = (l.i ≤ length l.next) × (length l.next ≡ length l.initial.next) × ((number : Leaf → ℕ) (r x : ℕ) → r ≤ 64 → SoundIn number r x l.t (length l.initial.next) →
+    (j : ℕ) → j < l.i → get_or l.next j false ≡ has_empty (marked l.marks) (tree_of l.t (symbol_word l.t j 1)))
+
+abbrev pub decreases-loop-i : goal.decreases-loop-i
+decreases-loop-i l = length l.initial.next - l.i

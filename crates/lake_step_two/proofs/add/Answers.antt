@@ -1,0 +1,34 @@
+use mathlib.Core.Path.{◌≡◌, refl, sym, ap, ap₂, ◌∙◌, subst}
+use mathlib.Core.List.{List, [], ◌∷◌, ◌++◌}
+use mathlib.Core.Bool.{Bool, true, false, not, ◌&&◌}
+use Prim.Native.Nat.{ℕ, ◌+◌, ◌*◌, ◌-◌, ◌^◌, ◌≤◌, ◌<◌}
+use native.Mathlib.Omega.{arith}
+use lib.ListN.{length, get_or, set, take}
+use lib.Dec.{eqb}
+use Rattle.lake_step_two.specs.laws.Skips.{added-first, added_next}
+use borrow.Author.Rules.{rules}
+use Rattle.lake_step_two.proofs.add.Goals as goal
+
+pub returns-then-m-o : goal.returns-then-m-o
+returns-then-m-o c = (
+  omega arith,
+  added-first c.args.op c.args.x
+      c.args.o c.args.m c.args.out.now
+      c.store_expression.new.t c.store_expression.ensures c.if-m-o.true,
+)
+
+pub returns : goal.returns
+returns c = (
+  omega arith,
+  added_next c.args.op
+      c.args.x
+      c.args.o
+      c.args.m
+      c.args.out.now
+      c.store_expression.new.t
+      c.store_expression.ensures c.store_expression-2.new.t
+      c.cap-l.result c.cap-r.result c.if-m-o.false
+      (λ h. c.cap-l.ensures.1 (omega
+      (arith, c.span.ensures)) ∙ c.span.ensures)
+      c.cap-r.ensures.1 c.store_expression-2.ensures,
+)

@@ -1,0 +1,19 @@
+use mathlib.Core.Path.{◌≡◌, refl, sym, ap, ap₂, ◌∙◌, subst}
+use mathlib.Core.List.{List, [], ◌∷◌, ◌++◌}
+use mathlib.Core.Bool.{Bool, true, false, not, ◌&&◌}
+use Prim.Native.Nat.{ℕ, ◌+◌, ◌*◌, ◌-◌, ◌^◌, ◌≤◌, ◌<◌}
+use native.Mathlib.Omega.{arith}
+use lib.ListN.{length, get_or, set, take}
+use lib.Dec.{eqb}
+use Rattle.lake_step_two.specs.steps.Stepped.{Ready, PlainMade}
+use Rattle.grammar_table.specs.Table.{symbol_count, terminal_count}
+use Rattle.grammar.specs.Numbers.{Grammar}
+use borrow.Author.Rules.{rules}
+use Rattle.lake_step_two.proofs.build.Given as goal
+
+abbrev pub invariant-loop-s : goal.invariant-loop-s
+invariant-loop-s l = (l.s ≤ l.among.symbols) × (l.from < 4294967296) × (l.m ≤ l.s * 4294967556) × (length l.out ≡ length l.initial.out)
+    × ((g : Grammar) → Ready l.t l.alts g → l.among.symbols ≡ symbol_count l.t → l.among.terminals ≡ terminal_count l.t → PlainMade l.t g 0 0 0 l.initial.out → PlainMade l.t g l.s l.from l.m l.out)
+
+abbrev pub decreases-loop-s : goal.decreases-loop-s
+decreases-loop-s l = l.among.symbols - l.s

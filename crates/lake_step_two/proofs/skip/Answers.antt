@@ -1,0 +1,50 @@
+use mathlib.Core.Path.{◌≡◌, refl, sym, ap, ap₂, ◌∙◌, subst}
+use mathlib.Core.List.{List, [], ◌∷◌, ◌++◌}
+use mathlib.Core.Bool.{Bool, true, false, not, ◌&&◌}
+use Prim.Native.Nat.{ℕ, ◌+◌, ◌*◌, ◌-◌, ◌^◌, ◌≤◌, ◌<◌}
+use native.Mathlib.Omega.{arith}
+use lib.ListN.{length, get_or, set, take}
+use lib.Dec.{eqb}
+use Rattle.lake_step_two.specs.laws.Skips.{skip-none, skip-some}
+use borrow.Author.Rules.{rules}
+use Rattle.lake_step_two.proofs.skip.Goals as goal
+
+pub returns-then-p-m : goal.returns-then-p-m
+returns-then-p-m c = (
+  omega (arith, c.choice-p.ensures.0),
+  skip-none
+      c.args.t.now
+      c.args.s
+      c.args.r
+      c.args.x
+      c.args.m c.choice-p.result
+      c.args.out.now c.choice-p.new.out
+      c.choice-p.ensures.1 c.store_expression.new.t c.if-p-m.true
+      c.store_expression.ensures,
+)
+
+pub returns : goal.returns
+returns c = (
+  omega (
+    arith,
+    c.choice-p.ensures.0,
+  ),
+  skip-some
+      c.args.t.now
+      c.args.s
+      c.args.r
+      c.args.x
+      c.args.m c.choice-p.result
+      c.args.out.now c.choice-p.new.out
+      c.choice-p.ensures.1
+      c.store_expression-2.new.t
+      c.store_expression-3.new.t c.store_expression-4.new.t
+      c.cap-l.result c.cap-a.result
+      c.cap-b.result c.if-p-m.false
+      (λ h. c.cap-l.ensures.1 (omega
+      (arith, c.span.ensures)) ∙
+      c.span.ensures)
+      c.store_expression-2.ensures
+      c.store_expression-3.ensures c.cap-a.ensures.1
+      c.cap-b.ensures.1 c.store_expression-4.ensures,
+)
