@@ -235,6 +235,10 @@ def turn(path, crate, table):
                 continue
             new = names.needs[old]
             value = facts(d.group(4), names, names.at[old])
+            if ".branch" in value and "⊎_elim" in value:
+                # a join's ways are no sum today, and the check takes them one by one
+                said.append(f"{new}: left to the check: {value[:80]}")
+                continue
             lines = value.split("\n")
             if len(lines) > 1:
                 # an unparenthesised term over several lines is laid out by rt fmt

@@ -14,7 +14,7 @@ returns c = order-made c.args.t.now (length
     c.mark_all.ensures c.calls_of.ensures
     c.ranks.ensures (omega (
       arith,
-      c.ranks.given,
+      c.ranks.auto.ranks,
       c.requires.3,
     ))
     c.order.ensures.0 c.order.ensures.1
