@@ -5,6 +5,7 @@
 ghost use Rattle.std.specs.Prelude.{◌≤◌, ◌≡◌, length};
 
 use gurkenmond::{Mode, Outcome, Verdict};
+use std::os::fd::AsRawFd;
 
 // Room for what a class types: 22 symbols on 47 KB of text, 32,768 nodes, 2 MiB of JSON; all of it lies on a stack of 8 MiB.
 const CELLS: usize = 1048576;
@@ -80,14 +81,12 @@ fn answer_input(text: &[u8]) {
     answer(text, &input[..n]);
 }
 
-fn main() {
-    let fd = console::open_grammar();
-    if fd < 0 {
+fn main(rt: HostRuntime) {
+    let Some(file) = console::open_grammar(&rt) else {
         console::unreadable();
         return;
-    }
+    };
     let mut text = console::text_room();
-    let n = io::read_full(fd, &mut text);
-    libc::close(fd);
+    let n = io::read_full(file.as_raw_fd(), &mut text);
     answer_input(&text[..n]);
 }

@@ -3,9 +3,14 @@
 
 ghost use Rattle.std.specs.Prelude.{◌≡◌, length};
 
-// The file `grammar.peg` of the folder that the program runs in, opened for reading; below 0 where it cannot be.
-pub fn open_grammar() -> i32 {
-    os::open_read(b"grammar.peg")
+use std::fs::File;
+
+// The file `grammar.peg` of the folder that the program runs in, opened for reading; none where it cannot be.
+pub fn open_grammar(rt: &HostRuntime) -> Option<File> {
+    match File::open(rt, "grammar.peg") {
+        Ok(file) => Some(file),
+        Err(_) => None,
+    }
 }
 
 // Room for a grammar text and one byte: a longer one is seen to be too long (01, refusal 1).

@@ -5,6 +5,7 @@
 
 use explain_shown::say;
 use gurkenmond::{Mode, Spot, Verdict};
+use std::os::fd::AsRawFd;
 
 mod words;
 
@@ -46,14 +47,12 @@ fn answer(text: &[u8]) {
     }
 }
 
-fn main() {
-    let fd = console::open_grammar();
-    if fd < 0 {
+fn main(rt: HostRuntime) {
+    let Some(file) = console::open_grammar(&rt) else {
         console::unreadable();
         return;
-    }
+    };
     let mut text = console::text_room();
-    let n = io::read_full(fd, &mut text);
-    libc::close(fd);
+    let n = io::read_full(file.as_raw_fd(), &mut text);
     answer(&text[..n]);
 }

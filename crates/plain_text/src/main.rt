@@ -2,6 +2,7 @@
 #![tactic(auto)]
 
 use gurkenmond::{Mode, Verdict};
+use std::os::fd::AsRawFd;
 
 fn answer(text: &[u8]) {
     let mut out = io::large_buffer();
@@ -16,14 +17,12 @@ fn answer(text: &[u8]) {
     }
 }
 
-fn main() {
-    let fd = console::open_grammar();
-    if fd < 0 {
+fn main(rt: HostRuntime) {
+    let Some(file) = console::open_grammar(&rt) else {
         console::unreadable();
         return;
-    }
+    };
     let mut text = console::text_room();
-    let n = io::read_full(fd, &mut text);
-    libc::close(fd);
+    let n = io::read_full(file.as_raw_fd(), &mut text);
     answer(&text[..n]);
 }

@@ -6,6 +6,7 @@
 ghost use Rattle.std.specs.Prelude.{◌≡◌, ◌<◌, length};
 
 use gurkenmond::{Mode, Outcome};
+use std::os::fd::AsRawFd;
 
 // Symbols of a grammar (01, Notation).
 const SYMBOLS: usize = 64;
@@ -128,14 +129,12 @@ fn answer_input(text: &[u8]) {
     answer(text, &input[..n]);
 }
 
-fn main() {
-    let fd = console::open_grammar();
-    if fd < 0 {
+fn main(rt: HostRuntime) {
+    let Some(file) = console::open_grammar(&rt) else {
         console::unreadable();
         return;
-    }
+    };
     let mut text = console::text_room();
-    let n = io::read_full(fd, &mut text);
-    libc::close(fd);
+    let n = io::read_full(file.as_raw_fd(), &mut text);
     answer_input(&text[..n]);
 }
