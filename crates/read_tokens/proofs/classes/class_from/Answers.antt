@@ -8,7 +8,6 @@ use Rattle.read_tokens.specs.laws.Turning.{some_from}
 use Rattle.read_tokens.specs.steps.Code.{class_is}
 use Rattle.read_tokens.specs.laws.Passing.{from}
 use Rattle.read_tokens.proofs.ClassSteps.{nothing-listed, broken-is, plain-is, turned-is, filled_none, filled-as, unmarked}
-use borrow.Author.Rules.{rules}
 use Rattle.read_tokens.proofs.classes.class_from.Goals as goal
 
 pub returns-then-b-eq93 : goal.returns-then-b-eq93
