@@ -1,5 +1,5 @@
 use mathlib.Core.Path.{sym, ap, ◌∙◌}
-use Prim.Native.Nat.{suc, ◌-◌}
+use Prim.Native.Nat.{suc}
 use lib.ListN.{drop}
 use Rattle.read_tokens.specs.steps.Code.{coded}
 use Rattle.read_tokens.specs.declared.Mode.{Mode}

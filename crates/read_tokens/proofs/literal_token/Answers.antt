@@ -1,5 +1,5 @@
 use mathlib.Core.Path.{ap, ◌∙◌}
-use Prim.Native.Nat.{ℕ, ◌-◌}
+use Prim.Native.Nat.{ℕ}
 use Rattle.read_tokens.specs.steps.Code.{coded}
 use native.Mathlib.Numerals.{add-one}
 use Rattle.read_tokens.specs.Chars.{single, Body}

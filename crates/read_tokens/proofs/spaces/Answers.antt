@@ -1,6 +1,4 @@
 use mathlib.Core.Path.{refl, ◌∙◌}
-use mathlib.Core.Bool.{false}
-use Prim.Native.Nat.{◌-◌}
 use Rattle.read_tokens.proofs.TokenSteps.{space-more}
 use Rattle.read_tokens.proofs.spaces.Goals as goal
 

@@ -1,6 +1,5 @@
 use mathlib.Core.Path.{refl, sym, ◌∙◌}
 use native.Mathlib.Omega.{arith}
-use Prim.Native.Nat.{◌-◌}
 use Rattle.read_tokens.specs.laws.Widths.{width-inside}
 use Rattle.read_tokens.proofs.LiteralSteps.{width_of, at-end, at-quote, no_char, one_char}
 use Rattle.read_tokens.proofs.chars.literal_at.Goals as goal

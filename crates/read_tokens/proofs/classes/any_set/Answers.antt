@@ -1,6 +1,5 @@
 use mathlib.Core.Path.{refl, ◌∙◌}
 use native.Mathlib.Omega.{arith}
-use Prim.Native.Nat.{◌-◌}
 use Rattle.read_tokens.proofs.ClassSteps.{mark-yes, mark-no, mark-end}
 use Rattle.read_tokens.proofs.classes.any_set.Goals as goal
 

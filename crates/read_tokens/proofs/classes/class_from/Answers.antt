@@ -1,7 +1,6 @@
 use mathlib.Core.Path.{sym, ap, ◌∙◌}
 use mathlib.Core.Bool.{Bool}
 use mathlib.Core.List.{List}
-use Prim.Native.Nat.{◌-◌}
 use Rattle.read_tokens.specs.Chars.{listed}
 use Rattle.read_tokens.specs.Tokens.{class_token, class_by}
 use Rattle.read_tokens.specs.laws.Turning.{some_from}

@@ -1,5 +1,4 @@
 use mathlib.Core.Path.{sym, ap}
-use Prim.Native.Nat.{◌-◌}
 use Rattle.read_tokens.specs.declared.Mode.{Mode}
 use Rattle.read_tokens.specs.steps.Code.{caret_at}
 use Rattle.read_tokens.proofs.classes.is_caret.Goals as goal

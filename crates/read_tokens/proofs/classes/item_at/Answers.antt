@@ -1,6 +1,6 @@
 use mathlib.Core.Path.{sym, ap, ◌∙◌}
 use native.Mathlib.Omega.{arith}
-use Prim.Native.Nat.{◌+◌, ◌-◌}
+use Prim.Native.Nat.{◌+◌}
 use Rattle.read_tokens.specs.declared.classes.Item.{Item}
 use Rattle.read_tokens.specs.laws.Widths.{width-inside}
 use Rattle.read_tokens.proofs.CharSteps.{inside}

@@ -1,5 +1,4 @@
 use native.Mathlib.Omega.{arith}
-use Prim.Native.Nat.{◌-◌}
 use Rattle.read_tokens.proofs.ClassSteps.{at-end, at-close, no_item, one-item, to_same, to-on}
 use Rattle.read_tokens.proofs.classes.set_items.Goals as goal
 

@@ -1,6 +1,5 @@
 use mathlib.Core.Path.{refl, ◌∙◌}
 use native.Mathlib.Omega.{arith}
-use Prim.Native.Nat.{◌-◌}
 use Rattle.read_tokens.proofs.ClassSteps.{paint-one, paint-none}
 use Rattle.read_tokens.proofs.classes.set_range.Goals as goal
 

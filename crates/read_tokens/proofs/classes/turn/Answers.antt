@@ -1,6 +1,5 @@
 use mathlib.Core.Path.{refl, ◌∙◌}
 use native.Mathlib.Omega.{arith}
-use Prim.Native.Nat.{◌-◌}
 use Rattle.read_tokens.proofs.ClassSteps.{turn_one, turn-none}
 use Rattle.read_tokens.proofs.classes.turn.Goals as goal
 

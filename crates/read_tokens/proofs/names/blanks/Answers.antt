@@ -1,7 +1,5 @@
 use mathlib.Core.Path.{refl, sym, ◌∙◌}
 use borrow.Author.Tests.{eq-eqb, ne_eqb}
-use mathlib.Core.Bool.{true, false}
-use Prim.Native.Nat.{◌-◌}
 use Rattle.read_tokens.proofs.TokenSteps.{skip-end, skip_stop, skip-more}
 use Rattle.read_tokens.proofs.names.blanks.Goals as goal
 

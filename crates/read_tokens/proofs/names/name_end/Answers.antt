@@ -1,6 +1,5 @@
 use mathlib.Core.Path.{refl, sym, ◌∙◌}
 use borrow.Author.Tests.{not-true, not-false}
-use Prim.Native.Nat.{◌-◌}
 use Rattle.read_tokens.proofs.TokenSteps.{span-end, span-stop, span_more}
 use Rattle.read_tokens.proofs.names.name_end.Goals as goal
 
