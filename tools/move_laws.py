@@ -3,6 +3,9 @@
 
 usage: tools/move_laws.py CRATE..          at the top; --list says what would move
 
+       tools/move_laws.py --split CRATE MODULE NAME..     of one module, all but what these names declare
+       tools/move_laws.py --paths                         mends paths to laws that have moved
+
 A module of specs/laws/ stays where a contract or a definition cites it, and so does what such a module cites itself. All others move, word for word but for
 the paths. What the contracts and definitions of any crate cite is thereby in specs/ as before.
 """
@@ -110,7 +113,86 @@ def move(crate):
     return keep, moved
 
 
+def blocks(text):
+    """What stands at the left edge, each with the comments before it."""
+    out, now = [], []
+    for line in text.split("\n"):
+        if line and not line[0].isspace() and now and not now[-1].strip() and any(l.strip() for l in now):
+            out.append("\n".join(now).strip("\n"))
+            now = []
+        now.append(line)
+    out.append("\n".join(now).strip("\n"))
+    return [b for b in out if b]
+
+
+def names_in(block):
+    return {
+        a or b for a, b in re.findall(r"^[ ]*(?:abbrev |pub |unfoldable )*(?:(?:data |record )([^\s(){}:]+)|([^\s(){}:]+) :)", block, re.M)
+    }
+
+
+def bring(line, crate, module, gone):
+    """A `use` line of the module, in two where some of its names have gone to proofs/."""
+    m = re.match(r"((?:ghost )?use Rattle\." + crate + r")\.specs\.laws\." + module + r"\.\{([^}]*)\}(;?)$", line)
+    if not m:
+        return line
+    names = [n.strip() for n in m.group(2).split(",")]
+    left = [n for n in names if n.split(" as ")[0] not in gone]
+    moved = [n for n in names if n.split(" as ")[0] in gone]
+    out = []
+    if left:
+        out.append(f"{m.group(1)}.specs.laws.{module}.{{{', '.join(left)}}}{m.group(3)}")
+    if moved:
+        out.append(f"{m.group(1)}.proofs.laws.{module}.{{{', '.join(moved)}}}{m.group(3)}")
+    return "\n".join(out)
+
+
+def split(crate, module, stay):
+    path = f"crates/{crate}/specs/laws/{module}.antt"
+    whole = blocks(read(path))
+    head, rest = whole[0], whole[1:]
+    left = [b for b in rest if names_in(b) & set(stay)]
+    gone = [b for b in rest if not names_in(b) & set(stay)]
+    moved = set().union(*map(names_in, gone))
+    kept = sorted(set().union(*map(names_in, left)) & set(stay), key=stay.index)
+    write(path, "\n\n".join([head] + left) + "\n")
+    write(f"crates/{crate}/proofs/laws/{module}.antt", "\n\n".join([f"{head}\nuse Rattle.{crate}.specs.laws.{module}.{{{', '.join(kept)}}}"] + gone) + "\n")
+    declare(f"crates/{crate}/proofs/laws.antt", [module], crate)
+    declare(f"crates/{crate}/proofs/Lib.antt", ["laws"], crate)
+    for f in glob.glob("crates/*/specs/**/*.antt", recursive=True) + glob.glob("crates/*/proofs/**/*.antt", recursive=True):
+        old = read(f)
+        new = "\n".join(bring(l, crate, module, moved) for l in old.split("\n"))
+        if new != old:
+            write(f, new)
+
+
+def paths():
+    """A path to a law that has moved goes to proofs/."""
+    moved = {}
+    for p in glob.glob("crates/*/proofs/laws/*.antt"):
+        crate, module = p.split("/")[1], os.path.basename(p)[:-5]
+        stays = f"crates/{crate}/specs/laws/{module}.antt"
+        moved[crate, module] = set().union(*map(names_in, blocks(read(p)))) if os.path.exists(stays) else None
+    for f in glob.glob("crates/*/specs/**/*.antt", recursive=True) + glob.glob("crates/*/proofs/**/*.antt", recursive=True):
+        old = new = read(f)
+        for (crate, module), names in moved.items():
+            if f"Rattle.{crate}.specs.laws.{module}" not in new:
+                continue
+            if names is None:
+                new = re.sub(r"Rattle\." + crate + r"\.specs\.laws\." + module + r"(?![A-Za-z_0-9])", f"Rattle.{crate}.proofs.laws.{module}", new)
+            elif f != f"crates/{crate}/proofs/laws/{module}.antt":
+                new = "\n".join(bring(l, crate, module, names) for l in new.split("\n"))
+        if new != old:
+            write(f, new)
+
+
 def main(argv):
+    if "--split" in argv:
+        split(argv[1], argv[2], argv[3:])
+        return 0
+    if "--paths" in argv:
+        paths()
+        return 0
     for crate in [a for a in argv if not a.startswith("-")]:
         modules = modules_of(crate)
         keep, moved = stays(crate, modules) if "--list" in argv else move(crate)

@@ -4,8 +4,3 @@ pub mod Cells
 pub mod Flow
 pub mod Pair
 pub mod Sys
-pub mod Fill
-pub mod Told
-pub mod Run
-pub mod Settle
-pub mod Stable

@@ -7,4 +7,3 @@ pub mod Checks
 pub mod Meets
 pub mod Before
 pub mod Demands
-pub mod laws

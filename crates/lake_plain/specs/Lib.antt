@@ -1,4 +1,3 @@
 pub mod Plain
 pub mod Calls
 pub mod Loops
-pub mod laws

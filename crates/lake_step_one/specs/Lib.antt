@@ -1,4 +1,3 @@
 pub mod Intermediate
 pub mod Proper
 pub mod steps
-pub mod laws

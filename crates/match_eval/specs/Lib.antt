@@ -1,3 +1,2 @@
 pub mod Eval
 pub mod steps
-pub mod laws

@@ -5,4 +5,3 @@ pub mod Reader
 pub mod Reading
 pub mod Grammar
 pub mod steps
-pub mod laws

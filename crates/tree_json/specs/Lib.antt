@@ -1,3 +1,2 @@
 pub mod Json
 pub mod Reading
-pub mod laws

@@ -2,7 +2,7 @@ use mathlib.Core.List.{[]}
 use Rattle.base_words.specs.Set.{empty}
 use Rattle.base_rounds.specs.laws.Sys.{empties}
 use lib.ListN.{length-replicate, get_or-replicate}
-use Rattle.base_rounds.specs.laws.Fill.{fill_more}
+use Rattle.base_rounds.proofs.laws.Fill.{fill_more}
 use mathlib.Core.Path.{refl, sym, ◌∙◌}
 use Prim.Native.Nat.{◌-◌}
 use native.Mathlib.Omega.{arith}

@@ -1,5 +1,5 @@
 use mathlib.Core.List.{[]}
-use Rattle.base_rounds.specs.laws.Fill.{fill_more}
+use Rattle.base_rounds.proofs.laws.Fill.{fill_more}
 use mathlib.Core.Path.{refl}
 use Prim.Native.Nat.{◌-◌}
 use native.Mathlib.Omega.{arith}

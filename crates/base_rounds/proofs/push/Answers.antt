@@ -1,7 +1,8 @@
 use mathlib.Core.List.{[]}
 use Rattle.base_words.specs.Set.{union_of}
 use borrow.Author.Rules.{scaled_Fits}
-use Rattle.base_rounds.specs.laws.Sys.{pushed, pushed_more}
+use Rattle.base_rounds.specs.laws.Sys.{pushed}
+use Rattle.base_rounds.proofs.laws.Sys.{pushed_more}
 use mathlib.Core.Path.{◌≡◌, sym, ap, ◌∙◌}
 use mathlib.Core.List.{List}
 use Prim.Native.Nat.{ℕ, ◌-◌}

@@ -1,7 +1,8 @@
 use mathlib.Core.Path.{ap, ◌∙◌}
 use Prim.Native.Nat.{◌+◌, ◌-◌}
 use native.Mathlib.Omega.{arith}
-use Rattle.base_rounds.specs.laws.Sys.{empties, round-next, moved-next, few}
+use Rattle.base_rounds.specs.laws.Sys.{empties}
+use Rattle.base_rounds.proofs.laws.Sys.{round-next, moved-next, few}
 use Rattle.base_rounds.proofs.solve.Goals as goal
 
 pub loop-k-init : goal.loop-k-init

@@ -4,7 +4,8 @@ use Prim.Native.Nat.{ℕ}
 use lib.ListN.{length}
 use native.Mathlib.Omega.{arith}
 use borrow.Author.Tests.{not-true, not-false}
-use Rattle.base_rounds.specs.laws.Sys.{shaped-at, pushed}
+use Rattle.base_rounds.specs.laws.Sys.{pushed}
+use Rattle.base_rounds.proofs.laws.Sys.{shaped-at}
 use Rattle.base_rounds.proofs.step.Goals as goal
 
 pub push-requires : goal.push-requires

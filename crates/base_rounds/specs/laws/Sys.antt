@@ -6,7 +6,7 @@ use Rattle.base_words.specs.Set.{union_of, empty}
 use Rattle.base_rounds.specs.Rounds.{First, iter}
 use Rattle.base_rounds.specs.laws.Cells.{Every}
 use Rattle.base_rounds.specs.Flow.{Edge, flow, hand_on}
-use Rattle.base_rounds.specs.laws.Flow.{Inside, flow-more, bound}
+use Rattle.base_rounds.specs.laws.Flow.{Inside}
 use Rattle.base_rounds.specs.laws.Pair.{Set2, pair, pair-joins}
 
 abbrev pub edge : List ℕ → List ℕ → ℕ → Edge
@@ -21,9 +21,6 @@ edges src dst (suc m) = edges src dst m ++ (edge src dst m ∷ [])
 abbrev pub pushed : List ℕ → List ℕ → ℕ → List (List ℕ) → List (List ℕ) → List (List ℕ)
 pushed src dst m old acc = flow union_of [] (edges src dst m) old acc
 
-pub pushed_more : (src dst : List ℕ) (m : ℕ) (old acc : List (List ℕ)) → pushed src dst (m + 1) old acc ≡ hand_on union_of [] (edge src dst m) old (pushed src dst m old acc)
-pushed_more src dst m old acc = rw add-one (flow-more union_of [] (edges src dst m) (edge src dst m) old acc)
-
 -- a round
 abbrev pub round_of : List ℕ → List ℕ → List (List ℕ) → List (List ℕ) → List (List ℕ)
 round_of src dst base old = pushed src dst (length src) old base
@@ -31,41 +28,16 @@ round_of src dst base old = pushed src dst (length src) old base
 abbrev pub empties : ℕ → List (List ℕ)
 empties n = replicate n empty
 
-abbrev pub round_at : List ℕ → List ℕ → List (List ℕ) → ℕ → List (List ℕ)
-round_at src dst base k = iter (round_of src dst base) (empties (length base)) k
-
 pub record Shaped (src dst : List ℕ) (n : ℕ) : Type 0 where
   pub both : length src ≡ length dst
   pub from_in : (e : ℕ) → e < length src → get_or src e 0 < n
   pub to_in : (e : ℕ) → e < length src → get_or dst e 0 < n
 
-inside-more : (n : ℕ) (es : List Edge) (e : Edge) → Inside n es → e.from < n → e.to < n → Inside n (es ++ (e ∷ []))
-inside-more n [] e h p q = (p, q, tt)
-inside-more n (x ∷ es) e h p q = (h.0, h.1, inside-more n es e h.2 p q)
-
-pub inside : (src dst : List ℕ) (n m : ℕ) → m ≤ length src → Shaped src dst n → Inside n (edges src dst m)
-inside src dst n zero l s = tt
-inside src dst n (suc m) l s = inside-more n (edges src dst m) (edge src dst m) (inside src dst n m (omega arith) s) (s.from_in m (omega arith)) (s.to_in m (omega arith))
+abbrev pub round_at : List ℕ → List ℕ → List (List ℕ) → ℕ → List (List ℕ)
+round_at src dst base k = iter (round_of src dst base) (empties (length base)) k
 
 abbrev pub Moved : List ℕ → List ℕ → List (List ℕ) → ℕ → Type 0
 Moved src dst base k = (j : ℕ) → j < k → round_of src dst base (round_at src dst base j) ≡ round_at src dst base j → ⊥
-
-module _ (src dst : List ℕ) (base : List (List ℕ)) (k : ℕ) (s : List (List ℕ)) (e : s ≡ round_at src dst base k) where
-  pub round-next : round_of src dst base s ≡ round_at src dst base (k + 1)
-  round-next = rw (e, add-one)
-
-  -- one more round that was not equal
-  pub moved-next : Moved src dst base k → (round_of src dst base s ≡ s → ⊥) → Moved src dst base (k + 1)
-  moved-next h n j p =
-      ⊎_elim (λ l. h j l)
-      (λ l. let q : k ≡ j = omega arith in
-      subst (λ (m : ℕ). round_of src dst base (round_at src dst base m) ≡ round_at src dst base m → ⊥) q (rw e at n)) (lt-or-ge j k)
-
--- at most (r + t) rounds for each cell
-pub few : (r t : ℕ) (src dst : List ℕ) (base : List (List ℕ)) → Shaped src dst (length base) → Every (Set2 r t) [] (length base) base
-    → (k : ℕ) → Moved src dst base k → k ≤ length base * (r + t)
-few r t src dst base s g k h =
-    bound (pair r t) union_of empty [] (pair-joins r t) (length base) (edges src dst (length src)) (inside src dst (length base) (length src) (omega arith) s) base g k h
 
 pub record Stepped (src dst : List ℕ) (base old cur next : List (List ℕ)) (r : Bool) : Type 0 where
   pub cur-is : cur ≡ round_of src dst base old
@@ -77,6 +49,3 @@ pub record Solved (src dst : List ℕ) (base : List (List ℕ)) (k : ℕ) (s t :
   pub first : First (round_of src dst base) (empties (length base)) k
   pub is : s ≡ round_at src dst base k
   pub too : t ≡ round_at src dst base k
-
-pub shaped-at : {src dst : List ℕ} {n m : ℕ} → Shaped src dst n → n ≡ m → Shaped src dst m
-shaped-at {src} {dst} s e = subst (λ (k : ℕ). Shaped src dst k) e s

@@ -28,7 +28,7 @@ use Rattle.tree_list.specs.Preorder.{bad_node, whole}
 use Rattle.tree_list.specs.laws.Bad.{good-parts}
 use Rattle.tree_json.specs.Json.{json_text}
 use Rattle.tree_json.specs.Reading.{parsed}
-use Rattle.tree_json.specs.laws.Same.{text_same, parsed-same}
+use Rattle.tree_json.proofs.laws.Same.{text_same, parsed-same}
 use Rattle.tree_write.specs.steps.Lists.{list_checks, room_check, wrote_by, room_after, WroteList}
 use Rattle.tree_read.specs.declared.Parsed.{Parsed}
 use Rattle.tree_read.specs.steps.Puts.{parsed_by, words_by}

@@ -8,7 +8,7 @@ use Rattle.lake_sets.specs.steps.Steps.{Tame, marks_in, BegunAll, succeed_given,
 use Rattle.lake_rules.specs.laws.Reached.{Flowed}
 use Rattle.lake_sets.specs.laws.Told.{told, tame}
 use Rattle.lake_step_one.specs.Proper.{middle}
-use Rattle.lake_step_one.specs.laws.Held.{names-are}
+use Rattle.lake_step_one.proofs.laws.Held.{names-are}
 use Rattle.lake_analysis.specs.steps.Lent.{Begins, Parted, SetsOf}
 use Rattle.lake_sets.specs.declared.Sets.{Sets}
 use Rattle.lake_rules.specs.Beginning.{Beginning, begin, nothing}

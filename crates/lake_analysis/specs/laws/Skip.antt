@@ -20,7 +20,7 @@ use Rattle.lake_step_one.specs.Proper.{Proper, middle}
 use Rattle.lake_sets.specs.steps.Analysed.{Analysed}
 use Rattle.grammar_table.specs.laws.Places.{up_to-at}
 use Rattle.lake_sets.specs.laws.Told.{lake-alt-is}
-use Rattle.lake_step_one.specs.laws.Held.{by_kind, names-are}
+use Rattle.lake_step_one.proofs.laws.Held.{by_kind, names-are}
 use Rattle.lake_analysis.specs.steps.Lent.{lake_in, hit_in, blocked_in, skip_in, skips_in}
 
 pub blocked-next : (t : List ℕ) (ms : List Bool) (s : List ℕ) (n : ℕ) → (hit_in t ms s n || blocked_in t ms s n) ≡ blocked_in t ms s (n + 1)

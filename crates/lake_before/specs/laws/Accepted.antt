@@ -12,10 +12,10 @@ use Rattle.grammar.specs.Parts.{Part, terminal, parts_all}
 use Rattle.grammar_table.specs.Holds.{present, roots_from}
 use Rattle.lake_step_one.specs.Intermediate.{intermediate, water_in}
 use Rattle.lake_step_one.specs.Proper.{ProperIn, middle}
-use Rattle.lake_step_one.specs.laws.Proper.{proper-of}
-use Rattle.lake_step_one.specs.laws.Next.{bodies-long}
+use Rattle.lake_step_one.proofs.laws.Proper.{proper-of}
+use Rattle.lake_step_one.proofs.laws.Next.{bodies-long}
 use Rattle.lake_rules.specs.Analysis.{Analysis, analysed, analysis_in, analysis, lake_alt}
-use Rattle.lake_rules.specs.laws.Least.{part-ok, lawful-in}
+use Rattle.lake_rules.proofs.laws.Least.{part-ok, lawful-in}
 use Rattle.lake_plain.specs.Plain.{alternatives, right_or, plain_by, plain_from, plain_bodies, sizes}
 use Rattle.lake_plain.specs.Calls.{loop}
 use Rattle.lake_before.specs.Before.{bodies_before, middle_before, alt_before, two_before, plain_from_before, plain_before}

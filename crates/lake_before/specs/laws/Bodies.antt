@@ -15,7 +15,7 @@ use Rattle.grammar_table.specs.Holds.{present}
 use Rattle.grammar_table.specs.laws.Parts.{present-some}
 use Rattle.lake_step_one.specs.Intermediate.{intermediate, intermediate_by, bodies_by, water_in}
 use Rattle.lake_step_one.specs.Proper.{Sound, SoundAll, ProperIn}
-use Rattle.lake_step_one.specs.laws.Proper.{May, may_at}
+use Rattle.lake_step_one.proofs.laws.Proper.{May, may_at}
 use Rattle.lake_before.specs.Before.{water_before, body_before, bodies_before, middle_before}
 
 -- a body now, and before

@@ -15,8 +15,8 @@ use Rattle.lake_rules.specs.Beginning.{Beginning, nothing, root_eps}
 use Rattle.lake_rules.specs.Analysis.{Analysis, is_use, uses_alt}
 use Rattle.lake_rules.specs.Rules.{InB, OfBody, BeginRule, SucceedRule, AltRule, SetsRule, LeastBy}
 use Rattle.lake_rules.specs.laws.Wholes.{Ok}
-use Rattle.lake_rules.specs.laws.Least.{Lawful}
-use Rattle.lake_rules.specs.laws.Uses.{is-occurs, uses-good, uses-least}
+use Rattle.lake_rules.proofs.laws.Least.{Lawful}
+use Rattle.lake_rules.proofs.laws.Uses.{is-occurs, uses-good, uses-least}
 use Rattle.lake_before.specs.Before.{alt_before}
 use Rattle.lake_step_one.specs.steps.Runs.{renamed}
 use Rattle.lake_before.specs.laws.Copies.{BodyIn, Copied}

@@ -16,7 +16,7 @@ use Rattle.grammar.specs.Parts.{Part, terminal, choice, last, parts_of, parts_al
 use Rattle.grammar_table.specs.Holds.{present, roots_from}
 use Rattle.grammar_table.specs.laws.Parts.{size-pos, total, parts-long, all-long, Seg, seg-left, seg-right, seg-one}
 use Rattle.lake_step_one.specs.steps.Runs.{renamed}
-use Rattle.lake_step_one.specs.laws.Shifts.{Moves, last-moves, run-renamed}
+use Rattle.lake_step_one.proofs.laws.Shifts.{Moves, last-moves, run-renamed}
 use Rattle.lake_before.specs.laws.Bodies.{KinAll, none_left, and_one, none-now, same, first_of}
 
 -- of a body with root k, where it was j: it is all of it, or the first of a choice

@@ -14,7 +14,7 @@ use Rattle.read_tokens.specs.Token.{Symbol, Leaf}
 use Rattle.grammar.specs.Exp.{Exp, sym as uses, ter}
 use Rattle.grammar.specs.Numbers.{Grammar, is_lake}
 use Rattle.lake_plain.specs.Plain.{nonterminals_in, terminals_in, alternatives}
-use Rattle.lake_rules.specs.laws.Marks.{Imp}
+use Rattle.lake_rules.proofs.laws.Marks.{Imp}
 
 -- the first list is the second, with some left out
 pub data Among : List (Exp ℕ) → List (Exp ℕ) → Type 0 where

@@ -13,11 +13,11 @@ use Rattle.grammar.specs.Empty.{has_empty}
 use Rattle.grammar.specs.Lakes.{choice_of, skip_of}
 use Rattle.grammar_table.specs.laws.Parts.{size-pos}
 use Rattle.lake_rules.specs.Beginning.{marked, marks_of}
-use Rattle.lake_rules.specs.laws.Marks.{Imp, or-least, or_l, or_r, empty-mono, marks-least}
+use Rattle.lake_rules.proofs.laws.Marks.{Imp, or-least, or_l, or_r, empty-mono, marks-least}
 use Rattle.lake_plain.specs.Plain.{sizes}
 use Rattle.lake_plain.specs.Calls.{loop}
 use Rattle.lake_plain.specs.Loops.{Calls, FirstCalls, LeadsTo, at_once, and-on}
-use Rattle.lake_plain.specs.laws.Exact.{no-loop-exact}
+use Rattle.lake_plain.proofs.laws.Exact.{no-loop-exact}
 use Rattle.lake_before.specs.laws.Fewer.{Among, done, keep, leave}
 
 -- marks that are among others

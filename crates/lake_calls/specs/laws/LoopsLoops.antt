@@ -23,7 +23,7 @@ use Rattle.grammar_table.specs.Trees.{tree_of}
 use Rattle.lake_calls.specs.steps.Firsts.{AllFirsts}
 use Rattle.lake_calls.specs.steps.Place.{placed}
 use Rattle.lake_calls.specs.steps.Marks.{empty_round, SoundIn, AllMarks, Looped, LoopedAll}
-use Rattle.lake_plain.specs.laws.Exact.{calls-long}
+use Rattle.lake_plain.proofs.laws.Exact.{calls-long}
 use Rattle.lake_calls.specs.laws.Trees.{bodies-are, trees-are}
 
 sound-at : (number : Leaf → ℕ) (r x : ℕ) (es : List (Exp ℕ)) (d : Exp ℕ) → SoundAll number r x es → (i : ℕ) → i < length es → Sound number r x (get_or es i d)

@@ -17,7 +17,7 @@ use Rattle.grammar.specs.Numbers.{terminal_in}
 use Rattle.lake_step_one.specs.Proper.{SoundAll}
 use Rattle.grammar_table.specs.laws.Places.{up_to-at}
 use Rattle.grammar_table.specs.laws.Parts.{parts-long, Seg, seg-left, seg-right}
-use Rattle.lake_step_one.specs.laws.Held.{names-are, rights-long, part-is}
+use Rattle.lake_step_one.proofs.laws.Held.{names-are, rights-long, part-is}
 use Rattle.lake_calls.specs.laws.Trees.{leaf-is, tree-of}
 
 module _ (t : List ℕ) (number : Leaf → ℕ) (r x : ℕ) (leaves : (l : Leaf) → number l < x → leaf_in t (number l) ≡ l) where

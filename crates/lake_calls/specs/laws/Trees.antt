@@ -20,7 +20,7 @@ use Rattle.grammar.specs.Numbers.{terminal_in}
 use Rattle.lake_step_one.specs.Proper.{Sound, SoundAll}
 use Rattle.grammar_table.specs.laws.Places.{up_to-at}
 use Rattle.grammar_table.specs.laws.Parts.{size-pos, parts-long, all-long, total, Seg, seg-left, seg-right, seg-one}
-use Rattle.lake_step_one.specs.laws.Held.{part_of, terminals-are, parts_are, bodies-count}
+use Rattle.lake_step_one.proofs.laws.Held.{part_of, terminals-are, parts_are, bodies-count}
 use Rattle.lake_step_one.specs.steps.Made.{with_bodies}
 use Rattle.grammar_table.specs.Trees.{tree_of, below}
 use Rattle.grammar_table.specs.laws.Trees.{tree-node}

@@ -16,9 +16,10 @@ use Rattle.base_rounds.specs.Flow.{Edge, same_sets}
 use Rattle.base_rounds.specs.Rounds.{First, iter, settled}
 use Rattle.base_rounds.specs.laws.Cells.{Every}
 use Rattle.base_rounds.specs.laws.Pair.{Set2, pair, pair-joins}
-use Rattle.base_rounds.specs.laws.Flow.{Inside, bound, round-fine}
-use Rattle.base_rounds.specs.laws.Run.{sets-sound, sets-whole}
-use Rattle.base_rounds.specs.laws.Settle.{settle-first}
+use Rattle.base_rounds.specs.laws.Flow.{Inside}
+use Rattle.base_rounds.proofs.laws.Flow.{bound, round-fine}
+use Rattle.base_rounds.proofs.laws.Run.{sets-sound, sets-whole}
+use Rattle.base_rounds.proofs.laws.Settle.{settle-first}
 use Rattle.grammar.specs.Parts.{Part, terminal, occurs, sequence, choice, option, repeat, repeat1, affirms, denies}
 use Rattle.lake_rules.specs.Beginning.{Beginning, nothing, begin_by}
 use Rattle.lake_rules.specs.Flows.{Gift, gift, when, over_parts, given, round_by, least_by, succeed_gifts, alt_gifts}

@@ -6,7 +6,7 @@ use native.Mathlib.Omega.{arith}
 use lib.ListN.{length, length-set}
 use Rattle.lake_rules.specs.Beginning.{root_eps}
 use Rattle.lake_sets.specs.steps.Steps.{pair_at, root_in}
-use Rattle.base_rounds.specs.laws.Fill.{fill_more}
+use Rattle.base_rounds.proofs.laws.Fill.{fill_more}
 use Rattle.grammar_table.specs.laws.Places.{is-up_to}
 use Rattle.lake_sets.proofs.gather.Goals as goal
 

@@ -8,7 +8,7 @@ use lib.ListN.{length}
 use Rattle.grammar_table.specs.Table.{part_in}
 use Rattle.lake_sets.specs.steps.Steps.{pair_at, root_in, kept, edges_by, handed}
 use Rattle.lake_sets.specs.laws.Edges.{edges-two, kept-long, handed-next}
-use Rattle.lake_rules.specs.laws.Over.{over_none}
+use Rattle.lake_rules.proofs.laws.Over.{over_none}
 use Rattle.lake_sets.proofs.hand_all.Goals as goal
 
 pub loop-e-init : goal.loop-e-init

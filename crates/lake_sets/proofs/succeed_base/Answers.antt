@@ -9,7 +9,7 @@ use Rattle.grammar_table.specs.Table.{part_in}
 use Rattle.lake_rules.specs.Flows.{Gift, given, succeed_gifts}
 use Rattle.lake_sets.specs.steps.Steps.{pair_at, root_in, succeed_given}
 use Rattle.lake_sets.specs.laws.Edges.{given-append, given-none, given-long, none-fine}
-use Rattle.lake_rules.specs.laws.Over.{over_none, over-next}
+use Rattle.lake_rules.proofs.laws.Over.{over_none, over-next}
 use Rattle.lake_sets.proofs.succeed_base.Goals as goal
 
 pub loop-e-init : goal.loop-e-init

@@ -17,7 +17,7 @@ use Rattle.grammar.specs.Parts.{Part, terminal, occurs, sequence, choice, option
 use Rattle.grammar_table.specs.Table.{up_to, part_in, part_by}
 use Rattle.lake_rules.specs.Beginning.{Beginning}
 use Rattle.lake_rules.specs.Flows.{edge, edge_into, Gift, gift, when, over_parts, given, round_by, succeed_gifts, alt_gifts}
-use Rattle.lake_rules.specs.laws.Over.{over-next, inside-append}
+use Rattle.lake_rules.proofs.laws.Over.{over-next, inside-append}
 use Rattle.lake_sets.specs.steps.Steps.{pair_at, root_in, kept_by, kept, edges_by, handed, Grown, Gave, Fine, RoundsAsk}
 use Rattle.lake_rules.specs.laws.Reached.{Flowed}
 use Rattle.grammar_table.specs.laws.Places.{get_d_any, up_to-long}

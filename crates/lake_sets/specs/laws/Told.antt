@@ -31,12 +31,12 @@ use Rattle.lake_step_one.specs.Proper.{Sound, SoundAll, Proper, middle}
 use Rattle.lake_sets.specs.steps.Analysed.{Analysed}
 use Rattle.grammar_table.specs.laws.Places.{up_to-long, up_to-at, is-up_to}
 use Rattle.lake_rules.specs.laws.Begins.{begins-rule, begins-long}
-use Rattle.lake_rules.specs.laws.Over.{over-next, over_none}
+use Rattle.lake_rules.proofs.laws.Over.{over-next, over_none}
 use Rattle.lake_sets.specs.laws.Edges.{handed-inside}
 use Rattle.grammar_table.specs.laws.Parts.{total, all-long, root-le}
-use Rattle.lake_step_one.specs.laws.Held.{part_of, names-are, terminals-are, rights-long, expressions-are}
+use Rattle.lake_step_one.proofs.laws.Held.{part_of, names-are, terminals-are, rights-long, expressions-are}
 use Rattle.lake_rules.specs.laws.Wholes.{OkAll, ok_at, all-ok, eps-body}
-use Rattle.lake_rules.specs.laws.Uses.{alt-by-uses}
+use Rattle.lake_rules.proofs.laws.Uses.{alt-by-uses}
 use Rattle.lake_rules.specs.laws.Reached.{begins-good, over-good, succeed-good, alt-good, least-is, state-at}
 
 -- ---- lists that agree expression by expression

@@ -1,5 +1,5 @@
 use native.Mathlib.Omega.{arith}
-use Rattle.lake_step_one.specs.laws.Bodies.{plain_body}
+use Rattle.lake_step_one.proofs.laws.Bodies.{plain_body}
 use Rattle.lake_step_one.proofs.body.Goals as goal
 
 pub returns-then-lake : goal.returns-then-lake

@@ -1,4 +1,4 @@
-use Rattle.lake_step_one.specs.laws.Final.{copied_more}
+use Rattle.lake_step_one.proofs.laws.Final.{copied_more}
 use mathlib.Core.Path.{◌≡◌, refl, ap, ◌∙◌}
 use mathlib.Core.List.{List}
 use Prim.Native.Nat.{ℕ, ◌-◌}

@@ -6,8 +6,8 @@ use native.Mathlib.Omega.{arith}
 use Rattle.grammar_table.specs.Table.{part_by, part_in}
 use Rattle.grammar.specs.Parts.{Part}
 use Rattle.lake_step_one.specs.steps.Runs.{shift, Above, Grew}
-use Rattle.lake_step_one.specs.laws.Stores.{grew-one}
-use Rattle.lake_step_one.specs.laws.Shifts.{shift-below, shift-part}
+use Rattle.lake_step_one.proofs.laws.Stores.{grew-one}
+use Rattle.lake_step_one.proofs.laws.Shifts.{shift-below, shift-part}
 use Rattle.lake_step_one.proofs.copy_one.Goals as goal
 
 pub returns-then-op-lt2 : goal.returns-then-op-lt2

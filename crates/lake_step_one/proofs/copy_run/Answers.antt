@@ -1,8 +1,8 @@
 use mathlib.Core.Path.{◌≡◌, refl, sym, ap, ◌∙◌}
 use Prim.Native.Nat.{ℕ, ◌+◌, ◌-◌}
 use native.Mathlib.Omega.{arith}
-use Rattle.lake_step_one.specs.laws.Stores.{grew-as}
-use Rattle.lake_step_one.specs.laws.Shifts.{front, front-none, front-all, run_more}
+use Rattle.lake_step_one.proofs.laws.Stores.{grew-as}
+use Rattle.lake_step_one.proofs.laws.Shifts.{front, front-none, front-all, run_more}
 use Rattle.lake_step_one.proofs.copy_run.Goals as goal
 
 pub loop-j-init : goal.loop-j-init

@@ -5,7 +5,7 @@ use Rattle.grammar_table.specs.Table.{table_words}
 use Rattle.grammar.specs.Exp.{Exp, size}
 use Rattle.read_tokens.specs.Token.{Leaf}
 use Rattle.lake_step_one.specs.steps.Runs.{PartsRun, Grew}
-use Rattle.lake_step_one.specs.laws.Shifts.{front}
+use Rattle.lake_step_one.proofs.laws.Shifts.{front}
 use Rattle.lake_step_one.proofs.copy_run.Given as goal
 
 abbrev pub invariant-loop-j : goal.invariant-loop-j

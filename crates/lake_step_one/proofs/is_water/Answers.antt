@@ -2,7 +2,7 @@ use mathlib.Core.Path.{sym}
 use Prim.Native.Nat.{◌-◌}
 use mathlib.Core.Bool.{true, false}
 use borrow.Author.Tests.{eq-eqb, ne_eqb, not-true, not-false}
-use Rattle.lake_step_one.specs.laws.Water.{water-is}
+use Rattle.lake_step_one.proofs.laws.Water.{water-is}
 use Rattle.lake_step_one.proofs.is_water.Goals as goal
 
 pub returns-then-k-ne0 : goal.returns-then-k-ne0

@@ -1,4 +1,4 @@
-use Rattle.lake_step_one.specs.laws.Next.{positive}
+use Rattle.lake_step_one.proofs.laws.Next.{positive}
 use mathlib.Core.Path.{sym, ap}
 use Prim.Native.Nat.{◌-◌}
 use Rattle.lake_step_one.specs.steps.Made.{next_by}

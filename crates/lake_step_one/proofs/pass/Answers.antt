@@ -1,4 +1,4 @@
-use Rattle.lake_step_one.specs.laws.Next.{next-lt}
+use Rattle.lake_step_one.proofs.laws.Next.{next-lt}
 use mathlib.Core.Path.{ap, ◌∙◌}
 use Prim.Native.Nat.{◌-◌}
 use Rattle.lake_step_one.specs.steps.Made.{next_by}

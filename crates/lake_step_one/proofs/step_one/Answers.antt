@@ -1,6 +1,6 @@
 use Prim.Native.Nat.{◌-◌}
 use native.Mathlib.Omega.{arith}
-use Rattle.lake_step_one.specs.laws.Final.{stepped}
+use Rattle.lake_step_one.proofs.laws.Final.{stepped}
 use Rattle.lake_step_one.proofs.step_one.Goals as goal
 
 pub returns-then-r-gt64 : goal.returns-then-r-gt64

@@ -1,10 +1,10 @@
 use Rattle.lake_step_one.specs.steps.Runs.{BodyTo}
-use Rattle.lake_step_one.specs.laws.Next.{next-lt}
+use Rattle.lake_step_one.proofs.laws.Next.{next-lt}
 use mathlib.Core.Path.{sym, ap, subst}
 use Prim.Native.Nat.{ℕ, ◌+◌, ◌-◌}
 use mathlib.Core.Bool.{Bool, not}
 use Rattle.lake_step_one.specs.steps.Made.{Made}
-use Rattle.lake_step_one.specs.laws.Next.{made-next}
+use Rattle.lake_step_one.proofs.laws.Next.{made-next}
 use lib.Dec.{eqb}
 use Rattle.lake_step_one.proofs.symbol.Goals as goal
 

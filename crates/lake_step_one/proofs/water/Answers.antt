@@ -2,7 +2,7 @@ use mathlib.Core.Path.{sym, ◌∙◌}
 use Prim.Native.Nat.{◌-◌}
 use mathlib.Core.Bool.{true, false}
 use native.Mathlib.Omega.{arith}
-use Rattle.lake_step_one.specs.laws.Water.{sought-start, sought-next, sought-found, sought-none}
+use Rattle.lake_step_one.proofs.laws.Water.{sought-start, sought-next, sought-found, sought-none}
 use Rattle.lake_step_one.proofs.water.Goals as goal
 
 pub loop-s-init : goal.loop-s-init

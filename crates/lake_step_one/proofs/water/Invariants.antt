@@ -1,6 +1,6 @@
 use mathlib.Core.Path.{◌≡◌}
 use Prim.Native.Nat.{◌-◌, ◌≤◌, ◌<◌}
-use Rattle.lake_step_one.specs.laws.Water.{Sought}
+use Rattle.lake_step_one.proofs.laws.Water.{Sought}
 use Rattle.grammar_table.specs.Table.{symbol_count}
 use Rattle.grammar.specs.Numbers.{Grammar}
 use Rattle.grammar_table.specs.Holds.{Holds}

@@ -2,7 +2,7 @@ use mathlib.Core.Path.{◌∙◌}
 use mathlib.Core.Bool.{true, false}
 use Prim.Native.Nat.{◌-◌}
 use native.Mathlib.Omega.{arith}
-use Rattle.lake_step_two.specs.laws.Skips.{added-first, added_next}
+use Rattle.lake_step_two.proofs.laws.Skips.{added-first, added_next}
 use Rattle.lake_step_two.proofs.add.Goals as goal
 
 pub returns-then-m-o : goal.returns-then-m-o

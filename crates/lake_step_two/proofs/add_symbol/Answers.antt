@@ -3,7 +3,7 @@ use mathlib.Core.Bool.{true, false}
 use Prim.Native.Nat.{◌-◌}
 use native.Mathlib.Omega.{arith}
 use borrow.Author.Tests.{not-true, not-false}
-use Rattle.lake_step_two.specs.laws.Skips.{symbol-not, symbol-lake, symbol-yes}
+use Rattle.lake_step_two.proofs.laws.Skips.{symbol-not, symbol-lake, symbol-yes}
 use Rattle.lake_step_two.proofs.add_symbol.Goals as goal
 
 pub returns-then-not-member : goal.returns-then-not-member

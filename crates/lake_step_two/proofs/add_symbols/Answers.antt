@@ -2,7 +2,7 @@ use mathlib.Core.Path.{◌≡◌, refl, subst}
 use Prim.Native.Nat.{ℕ, ◌-◌}
 use native.Mathlib.Omega.{arith}
 use Rattle.lake_step_two.specs.steps.Skips.{each, symbol_in, Adds}
-use Rattle.lake_step_two.specs.laws.Skips.{each_none, each_more}
+use Rattle.lake_step_two.proofs.laws.Skips.{each_none, each_more}
 use Rattle.lake_step_two.proofs.add_symbols.Goals as goal
 
 pub loop-i-init : goal.loop-i-init

@@ -3,7 +3,7 @@ use mathlib.Core.Path.{sym, ◌∙◌}
 use Prim.Native.Nat.{◌-◌}
 use native.Mathlib.Omega.{arith}
 use borrow.Author.Tests.{not-true, not-false}
-use Rattle.lake_step_two.specs.laws.Skips.{terminal-not, terminal-yes}
+use Rattle.lake_step_two.proofs.laws.Skips.{terminal-not, terminal-yes}
 use Rattle.lake_step_two.proofs.add_terminal.Goals as goal
 
 pub returns-then-not-member : goal.returns-then-not-member

@@ -1,6 +1,6 @@
 use Prim.Native.Nat.{◌-◌}
 use native.Mathlib.Omega.{arith}
-use Rattle.lake_step_two.specs.laws.Skips.{choice-done}
+use Rattle.lake_step_two.proofs.laws.Skips.{choice-done}
 use Rattle.lake_step_two.proofs.choice.Goals as goal
 
 pub returns : goal.returns

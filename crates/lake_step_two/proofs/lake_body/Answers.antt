@@ -1,7 +1,7 @@
 use Prim.Native.Nat.{◌-◌}
 use mathlib.Core.Path.{◌∙◌}
 use native.Mathlib.Omega.{arith}
-use Rattle.lake_step_two.specs.laws.Skips.{plain-bare, plain-lake}
+use Rattle.lake_step_two.proofs.laws.Skips.{plain-bare, plain-lake}
 use Rattle.lake_step_two.proofs.lake_body.Goals as goal
 
 pub returns-then-b-eq0 : goal.returns-then-b-eq0

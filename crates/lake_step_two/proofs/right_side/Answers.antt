@@ -1,6 +1,6 @@
 use Prim.Native.Nat.{◌-◌}
 use native.Mathlib.Omega.{arith}
-use Rattle.lake_step_two.specs.laws.Skips.{plain-dot, plain_other}
+use Rattle.lake_step_two.proofs.laws.Skips.{plain-dot, plain_other}
 use Rattle.lake_step_two.proofs.right_side.Goals as goal
 
 pub returns-then-b-eq0 : goal.returns-then-b-eq0

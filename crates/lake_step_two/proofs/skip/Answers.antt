@@ -2,7 +2,7 @@ use mathlib.Core.Path.{◌∙◌}
 use mathlib.Core.Bool.{true, false}
 use Prim.Native.Nat.{◌-◌}
 use native.Mathlib.Omega.{arith}
-use Rattle.lake_step_two.specs.laws.Skips.{skip-none, skip-some}
+use Rattle.lake_step_two.proofs.laws.Skips.{skip-none, skip-some}
 use Rattle.lake_step_two.proofs.skip.Goals as goal
 
 pub returns-then-p-m : goal.returns-then-p-m

@@ -1,6 +1,6 @@
 use Prim.Native.Nat.{◌-◌}
 use native.Mathlib.Omega.{arith}
-use Rattle.lake_step_two.specs.laws.Stepped.{stepped}
+use Rattle.lake_step_two.proofs.laws.Stepped.{stepped}
 use Rattle.lake_step_two.proofs.step_two.Goals as goal
 
 pub returns-then-r-gt64 : goal.returns-then-r-gt64

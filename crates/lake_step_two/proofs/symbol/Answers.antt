@@ -4,8 +4,8 @@ use Prim.Native.Nat.{ℕ, ◌+◌, ◌-◌}
 use lib.Dec.{eqb}
 use Rattle.lake_step_two.specs.steps.Stepped.{PlainMade}
 use Rattle.lake_step_two.specs.steps.Skips.{PlainTo}
-use Rattle.lake_step_one.specs.laws.Next.{next-lt}
-use Rattle.lake_step_two.specs.laws.Stepped.{plain-next}
+use Rattle.lake_step_one.proofs.laws.Next.{next-lt}
+use Rattle.lake_step_two.proofs.laws.Stepped.{plain-next}
 use Rattle.lake_step_two.proofs.symbol.Goals as goal
 
 pub returns : goal.returns

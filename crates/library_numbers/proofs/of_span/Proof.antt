@@ -3,7 +3,7 @@ use native.Mathlib.Omega.{arith}
 use mathlib.Core.Path.{sym, ◌∙◌}
 use lib.ListN.{length}
 use Rattle.read_tokens.specs.Bounds.{node_words}
-use Rattle.match_list.specs.laws.Reading.{sound-short, span-is}
+use Rattle.match_list.proofs.laws.Reading.{sound-short, span-is}
 use Rattle.library_numbers.specs.laws.Parts.{span_none, span-some}
 use borrow.Author.Rules.{rules}
 use Rattle.library_numbers.proofs.of_span.Statement.{statement}

@@ -3,7 +3,7 @@ use mathlib.Core.Path.{refl}
 use native.Mathlib.Omega.{arith}
 use lib.ListN.{length}
 use Rattle.base_facts.specs.laws.Bools.{not-false, not-true}
-use Rattle.match_eval.specs.laws.Memory.{knows-nothing}
+use Rattle.match_eval.proofs.laws.Memory.{knows-nothing}
 use Rattle.match_run.specs.laws.Runs.{need-small}
 use Rattle.match_ask.specs.laws.Asks.{same, same-symbols, within, long, few, other, behind, answered}
 use Rattle.match_keys.specs.laws.Keys.{fresh-none}

@@ -15,8 +15,8 @@ use Rattle.match_meaning.specs.Meaning.{Node, rule, lake, Ask, exp, inside, own,
 use Rattle.match_meaning.specs.Meaning.{sym-fails, seq-fails, seq-fails-later, seq-takes, alt-first, alt-second, star-ends, star-idles, star-goes, plus-fails, plus-takes}
 use Rattle.match_meaning.specs.Meaning.{opt-skips, opt-takes, ahead-fails, ahead-takes, never-takes, never-fails, by-rule, by-own, by-water, by-skip, stopped, at-end, own-none}
 use Rattle.match_meaning.specs.Meaning.{own_is, dry, wet-is, none_of, this-one, later-one, Derives}
-use Rattle.match_meaning.specs.laws.One.{one}
-use Rattle.match_meaning.specs.laws.Shape.{within}
+use Rattle.match_meaning.proofs.laws.One.{one}
+use Rattle.match_meaning.proofs.laws.Shape.{within}
 use Rattle.match_eval.specs.Eval.{nowhere, body_of, rep, ev}
 use Rattle.grammar.specs.Empty.{empty_leaf, has_empty}
 use Rattle.lake_plain.specs.Loops.{Calls}

@@ -18,10 +18,10 @@ use Rattle.grammar_table.specs.laws.Places.{get_d_any}
 use Rattle.base_words.specs.Set.{ones}
 use Rattle.lake_rules.specs.Beginning.{marked, marks_of}
 use Rattle.lake_step_one.specs.Proper.{Sound, SoundAll}
-use Rattle.lake_rules.specs.laws.Marks.{marks-least}
+use Rattle.lake_rules.proofs.laws.Marks.{marks-least}
 use Rattle.lake_plain.specs.Calls.{first_calls, calls_of, reach, loop, ranks_of, of_rank, order_from, order}
-use Rattle.lake_plain.specs.laws.Reaches.{pow_below}
-use Rattle.lake_plain.specs.laws.Exact.{calls-long}
+use Rattle.lake_plain.proofs.laws.Reaches.{pow_below}
+use Rattle.lake_plain.proofs.laws.Exact.{calls-long}
 use Rattle.match_eval.specs.Eval.{nowhere, body_of}
 use Rattle.match_cells.specs.laws.First.{Terse, Markings}
 use Rattle.match_cells.specs.laws.Order.{rank-small}

@@ -19,10 +19,10 @@ use Rattle.base_words.specs.laws.Members.{bit-pow-same}
 use Rattle.base_words.specs.laws.Order.{ones-le, ones-strict, sub-or-l}
 use Rattle.lake_rules.specs.Beginning.{marked, marks_of}
 use Rattle.lake_plain.specs.Calls.{first_calls, calls_of, holds, reach, loop_from, loop, ranks_of, of_rank, order_from, order}
-use Rattle.lake_plain.specs.laws.Ranks.{falls, reach-small}
+use Rattle.lake_plain.proofs.laws.Ranks.{falls, reach-small}
 use Rattle.lake_plain.specs.Loops.{Calls}
-use Rattle.lake_plain.specs.laws.Reaches.{pow_below, Found, found}
-use Rattle.lake_plain.specs.laws.Exact.{up-r, called, called_at}
+use Rattle.lake_plain.proofs.laws.Reaches.{pow_below, Found, found}
+use Rattle.lake_plain.proofs.laws.Exact.{up-r, called, called_at}
 use Rattle.match_eval.specs.Eval.{nowhere, body_of}
 use Rattle.match_cells.specs.laws.First.{In, Ordered}
 

@@ -14,7 +14,7 @@ use Rattle.std.proofs.lemmas.List.{set-get_or}
 use Rattle.base_facts.specs.laws.Bools.{and_parts}
 use Rattle.base_facts.specs.laws.Numbers.{lt-or-ge}
 use Rattle.grammar.specs.Exp.{Exp, sym}
-use Rattle.match_meaning.specs.laws.One.{one}
+use Rattle.match_meaning.proofs.laws.One.{one}
 use Rattle.grammar_table.specs.Table.{symbol_count, symbol_word, words_from}
 use Rattle.grammar_table.specs.Trees.{tree_of, bodies_of}
 use Rattle.match_eval.specs.Eval.{ev}
@@ -23,8 +23,8 @@ use Rattle.match_cells.specs.laws.First.{Markings, Ordered}
 use Rattle.match_cells.specs.laws.Sound.{plainly, Means}
 use Rattle.match_cells.specs.laws.Agrees.{Known, After, Right}
 use Rattle.match_cells.specs.laws.Filled.{Room, row-length, row-right, row-frame, filled-right, filled-behind, filled-length}
-use Rattle.match_eval.specs.laws.Memory.{knows-cells, knows-ready, knows-stored, said-body}
-use Rattle.match_eval.specs.laws.Said.{said_same, said-end}
+use Rattle.match_eval.proofs.laws.Memory.{knows-cells, knows-ready, knows-stored, said-body}
+use Rattle.match_eval.proofs.laws.Said.{said_same, said-end}
 use Rattle.match_cells.specs.laws.Rows.{stored}
 use Rattle.match_eval.specs.steps.Firsts.{byte_at, word_of, Heard, Silent, put_said, preset_of}
 use Rattle.match_eval.specs.steps.Memory.{Ready, Knows, Front}
@@ -34,7 +34,7 @@ use Rattle.match_parts.specs.laws.Lists.{listed-front}
 use Rattle.match_plan.specs.steps.Plan.{opens_of, Recorded, Planned}
 use Rattle.match_plan.specs.laws.Plan.{planned-front}
 use Rattle.lake_plain.specs.Calls.{holds}
-use Rattle.lake_plain.specs.laws.Exact.{up-l, up-r}
+use Rattle.lake_plain.proofs.laws.Exact.{up-l, up-r}
 use Rattle.base_words.specs.laws.Members.{bit-pow-same}
 
 -- a cell at a later place stands further on

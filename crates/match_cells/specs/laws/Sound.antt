@@ -44,7 +44,7 @@ use Rattle.match_meaning.specs.Meaning.{
   by-rule,
   Derives,
 }
-use Rattle.match_meaning.specs.laws.Shape.{within}
+use Rattle.match_meaning.proofs.laws.Shape.{within}
 use Rattle.match_eval.specs.Eval.{nowhere, body_of, stands, leaf_at, cell_at, join_of, seq_of, alt_of, step_of, rep, plus_of, opt_of, ahead_of, never_of}
 
 -- the grammar that a list of plain bodies is

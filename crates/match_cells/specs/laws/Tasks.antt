@@ -5,7 +5,7 @@ use Rattle.std.proofs.Math.Decide.{ℕ_discrete}
 use Rattle.grammar_table.specs.Table.{symbol_count, symbol_word, words_from}
 use Rattle.grammar_table.specs.Trees.{tree_of, bodies_of}
 use Rattle.match_eval.specs.Eval.{ev}
-use Rattle.match_eval.specs.laws.Memory.{knows-stored, said-body}
+use Rattle.match_eval.proofs.laws.Memory.{knows-stored, said-body}
 use Rattle.match_eval.specs.steps.Firsts.{byte_at, preset_of}
 use Rattle.match_eval.specs.steps.Memory.{count_at, parts_at, Knows, Roomy, Front}
 use Rattle.match_parts.specs.steps.Lists.{list_of, AllListed}

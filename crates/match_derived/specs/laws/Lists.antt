@@ -8,13 +8,13 @@ use mathlib.Core.List.{List, [], ◌∷◌, ◌++◌}
 use Rattle.std.proofs.Math.ListN.{length}
 use Rattle.grammar.specs.Exp.{Exp, sym, ter, seq, alt, opt, star, plus, ahead, never}
 use Rattle.match_meaning.specs.Meaning.{Node, nd, rule, lake, Ask, exp, inside, own, wet, some_of, Tries, any-takes, any-fails, lit-takes, lit-fails, cls-takes, cls-fails, sym-takes, sym-fails, seq-fails, seq-fails-later, seq-takes, alt-first, alt-second, star-ends, star-idles, star-goes, plus-fails, plus-takes, opt-skips, opt-takes, ahead-fails, ahead-takes, never-takes, never-fails, by-rule, by-own, by-water, by-skip, stopped, at-end, own-none, own_is, dry, wet-is, none_of, this-one, later-one, Derives}
-use Rattle.match_meaning.specs.laws.Shape.{From, shape, within}
+use Rattle.match_meaning.proofs.laws.Shape.{From, shape, within}
 use Rattle.match_eval.specs.Eval.{body_of, cell_at, ev}
 use Rattle.match_list.specs.Nodes.{rep_n, walk_of, node_if, nodes_of}
 use Rattle.match_cells.specs.laws.Sound.{plainly}
 use Rattle.match_cells.specs.laws.Agrees.{Right, ev-only}
-use Rattle.match_list.specs.laws.NodeSteps.{seq-joins, alt-left, alt-right, opt_none, opt-some, rep-ends, rep-joins, nodes-fails}
-use Rattle.match_list.specs.laws.Cut.{cut, cut-append, cut-none, cut_keeps}
+use Rattle.match_list.proofs.laws.NodeSteps.{seq-joins, alt-left, alt-right, opt_none, opt-some, rep-ends, rep-joins, nodes-fails}
+use Rattle.match_list.proofs.laws.Cut.{cut, cut-append, cut-none, cut_keeps}
 
 one_more : (m : ℕ) → suc m ≡ 0 → ⊥
 one_more m h = omega arith

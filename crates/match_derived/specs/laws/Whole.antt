@@ -7,13 +7,13 @@ use Rattle.std.proofs.Math.Option.{Option, none}
 use Rattle.std.proofs.Math.ListN.{get_or-map}
 use Rattle.grammar.specs.Exp.{Exp, sym}
 use Rattle.match_meaning.specs.Meaning.{Meant, Node, SymbolBody, rule, Derives, plain_body, plain_of}
-use Rattle.match_meaning.specs.laws.Shape.{Climb, shape}
-use Rattle.match_meaning.specs.laws.LakesPlain.{lakes-are-plain}
+use Rattle.match_meaning.proofs.laws.Shape.{Climb, shape}
+use Rattle.match_meaning.proofs.laws.LakesPlain.{lakes-are-plain}
 use Rattle.match_eval.specs.Eval.{nowhere, body_of, ev}
 use Rattle.match_list.specs.Nodes.{levels, list_of, listing_of, words_of}
 use Rattle.match_cells.specs.laws.Sound.{plainly}
 use Rattle.match_cells.specs.laws.Agrees.{Right, ev-sound, ev-only}
-use Rattle.match_list.specs.laws.Cut.{cut, listing-cut, words-cut}
+use Rattle.match_list.proofs.laws.Cut.{cut, listing-cut, words-cut}
 use Rattle.match_derived.specs.laws.Lists.{lists, lists-none}
 
 -- the list holds the plain bodies of the grammar g

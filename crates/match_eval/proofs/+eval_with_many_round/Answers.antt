@@ -6,13 +6,13 @@ use lib.ListN.{length}
 use Rattle.grammar.specs.Exp.{Exp}
 use Rattle.grammar_table.specs.Table.{right_of, node_by, leaf_in}
 use Rattle.match_eval.specs.Eval.{ev, rep}
-use Rattle.match_eval.specs.laws.Within.{ev-within, rep-within}
-use Rattle.match_eval.specs.laws.EvalSteps.{seq-left, seq-right, seq-both, alt-left, alt-right, plus-ends, plus-takes, opt-fails, opt-takes, ahead-fails, ahead-takes, never-takes}
-use Rattle.match_eval.specs.laws.EvalSteps.{never-fails, rep-ends, rep-none, rep-more}
+use Rattle.match_eval.proofs.laws.Within.{ev-within, rep-within}
+use Rattle.match_eval.proofs.laws.EvalSteps.{seq-left, seq-right, seq-both, alt-left, alt-right, plus-ends, plus-takes, opt-fails, opt-takes, ahead-fails, ahead-takes, never-takes}
+use Rattle.match_eval.proofs.laws.EvalSteps.{never-fails, rep-ends, rep-none, rep-more}
 use Rattle.grammar_table.specs.Trees.{tree_of, below}
 use Rattle.grammar_table.specs.laws.Trees.{node-never, below-le}
-use Rattle.match_eval.specs.laws.Evaluated.{zero-tree, node-ev}
-use Rattle.match_eval.specs.laws.Memory.{known-ends, said-right, knows-from}
+use Rattle.match_eval.proofs.laws.Evaluated.{zero-tree, node-ev}
+use Rattle.match_eval.proofs.laws.Memory.{known-ends, said-right, knows-from}
 use Prim.Native.Nat.{ℕ, suc, ◌+◌, ◌-◌, ◌≤◌}
 use Rattle.match_eval.proofs.+eval_with_many_round.Goals as goal
 use Rattle.match_eval.proofs.+eval_with_many_round.Goals.{many-then-w-eq0, many-else-w-eq0}

@@ -1,5 +1,5 @@
 use native.Mathlib.Omega.{arith}
-use Rattle.match_eval.specs.laws.EvalSteps.{any-takes, any-fails}
+use Rattle.match_eval.proofs.laws.EvalSteps.{any-takes, any-fails}
 use Rattle.match_eval.proofs.any_at.Goals as goal
 
 pub returns-then-p-s : goal.returns-then-p-s

@@ -5,7 +5,7 @@ use native.Mathlib.Omega.{arith}
 use lib.ListN.{get_or}
 use borrow.Author.Tests.{eq-eqb, ne_eqb}
 use Rattle.grammar_table.specs.Table.{marks_from}
-use Rattle.match_eval.specs.laws.EvalSteps.{class-ends, class-takes, class-fails}
+use Rattle.match_eval.proofs.laws.EvalSteps.{class-ends, class-takes, class-fails}
 use Rattle.grammar_table.specs.laws.Leaves.{marks-at}
 use Rattle.match_eval.proofs.class_at.Goals as goal
 

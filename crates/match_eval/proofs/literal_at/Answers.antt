@@ -3,8 +3,8 @@ use mathlib.Core.Path.{◌≡◌, refl, sym, ap, ◌∙◌}
 use native.Mathlib.Omega.{arith}
 use lib.ListN.{length}
 use Rattle.grammar_table.specs.Table.{words_from}
-use Rattle.match_eval.specs.laws.EvalSteps.{literal-takes, literal-fails}
-use Rattle.match_eval.specs.laws.Leaves.{lit-ends, lit-differs, lit-goes, lit-done}
+use Rattle.match_eval.proofs.laws.EvalSteps.{literal-takes, literal-fails}
+use Rattle.match_eval.proofs.laws.Leaves.{lit-ends, lit-differs, lit-goes, lit-done}
 use Rattle.grammar_table.specs.laws.Leaves.{words-length}
 use Rattle.match_eval.proofs.literal_at.Goals as goal
 

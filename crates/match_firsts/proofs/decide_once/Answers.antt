@@ -3,7 +3,7 @@ use mathlib.Core.Path.{sym, subst}
 use mathlib.Core.List.{List}
 use Prim.Native.Nat.{ℕ}
 use Rattle.match_eval.specs.steps.Memory.{Ready}
-use Rattle.match_eval.specs.laws.Words.{ready-seen}
+use Rattle.match_eval.proofs.laws.Words.{ready-seen}
 use Rattle.match_firsts.proofs.decide_once.Goals as goal
 
 pub overflow_add-b : goal.overflow_add-b

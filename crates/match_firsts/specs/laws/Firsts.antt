@@ -14,8 +14,8 @@ use Rattle.grammar_table.specs.laws.Trees.{node_at, node-never}
 use Rattle.grammar_table.specs.laws.Places.{get_d_any}
 use Rattle.grammar_table.specs.laws.Leaves.{marks-at, words-length}
 use Rattle.match_eval.specs.Eval.{join_of, seq_of, alt_of, opt_of, ahead_of, never_of, ev, leaf_at}
-use Rattle.match_eval.specs.laws.EvalSteps.{any-takes, literal-takes, literal-fails, class-takes, class-fails, cell-is, rep-ends, plus-ends}
-use Rattle.match_eval.specs.laws.Leaves.{lit-ends, lit-differs, lit-goes, lit-done}
+use Rattle.match_eval.proofs.laws.EvalSteps.{any-takes, literal-takes, literal-fails, class-takes, class-fails, cell-is, rep-ends, plus-ends}
+use Rattle.match_eval.proofs.laws.Leaves.{lit-ends, lit-differs, lit-goes, lit-done}
 use Rattle.match_firsts.specs.steps.Firm.{Firm}
 use Rattle.match_eval.specs.steps.Firsts.{byte_at, word_of, LeafSure, Sure, Guards}
 

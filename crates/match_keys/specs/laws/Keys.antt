@@ -10,7 +10,7 @@ use Rattle.grammar_table.specs.Trees.{tree_of, below}
 use Rattle.grammar_table.specs.laws.Trees.{node_at}
 use Rattle.match_eval.specs.steps.Firsts.{parts}
 use Rattle.match_eval.specs.steps.Memory.{count_at, keys_at, parts_at, entries_at, Key, Found, Fresh}
-use Rattle.match_eval.specs.laws.Memory.{zeros, alike-none}
+use Rattle.match_eval.proofs.laws.Memory.{zeros, alike-none}
 
 -- ── the same words, the same tree ──
 nodes-same : (k l r m u : ℕ) (leaf : ℕ → Leaf) (f g : ℕ → Exp ℕ) → (k ≤ 1 → l ≡ m) → (2 ≤ k → f l ≡ g m) → (2 ≤ k → k ≤ 3 → f r ≡ g u) → node_by k l r leaf f ≡ node_by k m u leaf g

@@ -16,7 +16,7 @@ use Rattle.grammar_table.specs.laws.Lists.{up-length, up_at}
 use Rattle.base_words.specs.Set.{member_of}
 use Rattle.lake_step_one.specs.Intermediate.{water_name, water_in}
 use Rattle.lake_plain.specs.Plain.{nonterminals_in, terminals_in, alternatives}
-use Rattle.lake_step_one.specs.laws.Water.{index_at, index-none}
+use Rattle.lake_step_one.proofs.laws.Water.{index_at, index-none}
 use Rattle.match_eval.specs.Eval.{leaf_at, cell_at, ev}
 use Rattle.grammar_table.specs.Trees.{tree_of}
 use Rattle.match_lake.specs.Asking.{none_matches, own_takes, way_number, way_in, symbol_fails, terminal_fails}

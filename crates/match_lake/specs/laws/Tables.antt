@@ -18,7 +18,7 @@ use Rattle.lake_step_one.specs.Intermediate.{water_in, bodies_by, intermediate}
 use Rattle.lake_step_one.specs.Intermediate.{intermediate_by}
 use Rattle.lake_step_one.specs.Proper.{Sound, SoundAll, Proper}
 use Rattle.grammar_table.specs.laws.Parts.{root-le}
-use Rattle.lake_step_one.specs.laws.Held.{rights-long, expressions-are}
+use Rattle.lake_step_one.proofs.laws.Held.{rights-long, expressions-are}
 use Rattle.lake_calls.specs.laws.Rights.{root-at, right_is}
 use Rattle.match_lake.specs.Asking.{way_in}
 

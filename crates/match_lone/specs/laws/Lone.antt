@@ -7,9 +7,9 @@ use Rattle.grammar_table.specs.Table.{symbol_word, expression_count}
 use Rattle.grammar_table.specs.Trees.{tree_of}
 use Rattle.match_eval.specs.Eval.{ev}
 use Rattle.match_eval.specs.steps.Firsts.{said_of}
-use Rattle.match_eval.specs.laws.Memory.{said-right}
+use Rattle.match_eval.proofs.laws.Memory.{said-right}
 use Rattle.match_list.specs.Nodes.{walk_of}
-use Rattle.match_list.specs.laws.NodeSteps.{alt-left as List-left, alt-right as List-right}
+use Rattle.match_list.proofs.laws.NodeSteps.{alt-left as List-left, alt-right as List-right}
 use Rattle.match_desk.specs.steps.Desk.{parent_of, mark_of, Desk}
 use Rattle.match_desk.specs.steps.Parts.{shape, Made}
 use Rattle.match_desk.specs.laws.Parts.{shaped}

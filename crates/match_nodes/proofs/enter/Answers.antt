@@ -2,7 +2,7 @@ use native.Mathlib.Omega.{arith}
 use Prim.Native.Nat.{◌+◌}
 use mathlib.Core.Path.{refl, sym, ◌∙◌}
 use lib.Seq.{get_or-set_other}
-use Rattle.match_eval.specs.laws.Within.{cell-within}
+use Rattle.match_eval.proofs.laws.Within.{cell-within}
 use Rattle.match_nodes.specs.laws.Turns.{symbol-in, passed, entered}
 use Rattle.match_nodes.proofs.enter.Goals as goal
 

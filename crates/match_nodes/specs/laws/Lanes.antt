@@ -11,8 +11,8 @@ use Rattle.match_meaning.specs.Meaning.{Node, nd}
 use Rattle.match_eval.specs.Eval.{cell_at, ev}
 use Rattle.match_eval.specs.steps.Firsts.{byte_at}
 use Rattle.match_eval.specs.steps.Memory.{Knows}
-use Rattle.match_eval.specs.laws.Memory.{knows-from}
-use Rattle.match_eval.specs.laws.Within.{ev-within}
+use Rattle.match_eval.proofs.laws.Memory.{knows-from}
+use Rattle.match_eval.proofs.laws.Within.{ev-within}
 use Rattle.match_list.specs.Nodes.{walk_of}
 use Rattle.match_desk.specs.steps.Desk.{mark_of, Desk}
 use Rattle.match_walks.specs.steps.Tasks.{Task, walk, again, under, takes, walked, nodes, after, listed, AllAble, to_do, Step}

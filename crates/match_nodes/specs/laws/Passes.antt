@@ -9,8 +9,8 @@ use Rattle.read_tokens.specs.Bounds.{depth_bound}
 use Rattle.match_meaning.specs.Meaning.{Node}
 use Rattle.match_list.specs.Nodes.{Listing, all, deep, full, listing_of, put_node, written, words_of}
 use Rattle.match_nodes.specs.steps.Passes.{big, Out, out, put_if, note, run, number_of, decode}
-use Rattle.match_list.specs.laws.Cut.{listing-deep, listing_full, listing-next, IsAll, high}
-use Rattle.match_list.specs.laws.Words.{if-all, words-refused}
+use Rattle.match_list.proofs.laws.Cut.{listing-deep, listing_full, listing-next, IsAll, high}
+use Rattle.match_list.proofs.laws.Words.{if-all, words-refused}
 
 -- ── the flag ──
 pub put-off : (w : ℕ) (ws : List ℕ) (k : ℕ) (n : Node) → w ≡ 0 → ws ≡ put_if w ws k n

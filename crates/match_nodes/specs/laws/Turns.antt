@@ -11,15 +11,15 @@ use Rattle.read_tokens.specs.Bounds.{depth_bound}
 use Rattle.grammar.specs.Exp.{Exp, sym}
 use Rattle.grammar_table.specs.Table.{symbol_word, symbol_count, expression_count}
 use Rattle.match_meaning.specs.Meaning.{Node, nd}
-use Rattle.match_meaning.specs.laws.One.{one}
+use Rattle.match_meaning.proofs.laws.One.{one}
 use Rattle.match_eval.specs.Eval.{body_of, cell_at, ev}
 use Rattle.match_list.specs.Nodes.{walk_of, nodes_of, levels, list_of}
 use Rattle.match_nodes.specs.steps.Passes.{big, Out, out, note, run}
 use Rattle.match_cells.specs.laws.Sound.{plainly, sym-is}
 use Rattle.match_cells.specs.laws.Agrees.{ev-sound}
-use Rattle.match_eval.specs.laws.EvalSteps.{cell-past}
-use Rattle.match_eval.specs.laws.Within.{cell-within}
-use Rattle.match_list.specs.laws.NodeSteps.{nodes-more, nodes-fails}
+use Rattle.match_eval.proofs.laws.EvalSteps.{cell-past}
+use Rattle.match_eval.proofs.laws.Within.{cell-within}
+use Rattle.match_list.proofs.laws.NodeSteps.{nodes-more, nodes-fails}
 use Rattle.match_nodes.specs.laws.Passes.{run_none, note-deep}
 use Rattle.grammar_table.specs.Trees.{tree_of, bodies_of}
 use Rattle.match_cells.specs.laws.Rows.{bodies-length, body_at}

@@ -5,8 +5,8 @@ use lib.Dec.{eqb}
 use mathlib.Core.List.{List}
 use lib.ListN.{get_or}
 use Rattle.match_eval.specs.Eval.{ev}
-use Rattle.match_eval.specs.laws.Within.{ev-within}
-use Rattle.match_eval.specs.laws.Memory.{knows-from}
+use Rattle.match_eval.proofs.laws.Within.{ev-within}
+use Rattle.match_eval.proofs.laws.Memory.{knows-from}
 use Rattle.grammar_table.specs.Trees.{tree_of}
 use Rattle.match_parts.specs.steps.Lists.{taken_by, run_of, list_of}
 use Rattle.match_parts.specs.laws.Lists.{choice-takes, choice-goes-on, choice-ends, sequence-fails, sequence-goes-on, sequence-ends}

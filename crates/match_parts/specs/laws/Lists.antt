@@ -9,7 +9,7 @@ use Rattle.std.proofs.Math.Numerals.{add-one}
 use Rattle.grammar_table.specs.Table.{op_of, left_of, right_of, node_by, leaf_in}
 use Rattle.grammar_table.specs.Trees.{tree_of, below}
 use Rattle.match_eval.specs.Eval.{join_of, seq_of, alt_of, ev}
-use Rattle.match_eval.specs.laws.Evaluated.{node-ev}
+use Rattle.match_eval.proofs.laws.Evaluated.{node-ev}
 use Rattle.match_eval.specs.steps.Memory.{count_at, parts_at, Front}
 use Rattle.match_parts.specs.steps.Lists.{choice_at, join_by, taken_by, run_of, list_of, Listed, Above, AllListed}
 

@@ -1,5 +1,5 @@
 use native.Mathlib.Omega.{arith}
-use Rattle.match_eval.specs.laws.Said.{said-small}
+use Rattle.match_eval.proofs.laws.Said.{said-small}
 use Rattle.match_plan.proofs.put_row.Goals as goal
 
 pub put-requires : goal.put-requires

@@ -11,8 +11,8 @@ use Rattle.grammar_table.specs.Trees.{tree_of}
 use Rattle.match_eval.specs.Eval.{ev}
 use Rattle.match_eval.specs.steps.Firsts.{byte_at, said_of, word_of}
 use Rattle.match_eval.specs.steps.Memory.{count_at, keys_at, parts_at, Key, Knows, Front}
-use Rattle.match_eval.specs.laws.Memory.{said-right}
-use Rattle.match_eval.specs.laws.Said.{said-inside, said_same}
+use Rattle.match_eval.proofs.laws.Memory.{said-right}
+use Rattle.match_eval.proofs.laws.Said.{said-inside, said_same}
 use Rattle.match_plan.specs.steps.Plan.{opens_of, Takes, open_count, task_count, taker_count, taker_at, Recorded, Planned}
 use Rattle.match_plan.specs.steps.Checked.{Cell, Opens, Task, Taker}
 

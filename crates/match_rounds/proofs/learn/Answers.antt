@@ -1,5 +1,5 @@
 use native.Mathlib.Omega.{arith}
-use Rattle.match_eval.specs.laws.Memory.{said-right}
+use Rattle.match_eval.proofs.laws.Memory.{said-right}
 use Rattle.match_rounds.proofs.learn.Goals as goal
 
 pub learn_byte-requires : goal.learn_byte-requires

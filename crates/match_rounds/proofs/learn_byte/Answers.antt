@@ -4,7 +4,7 @@ use Prim.Native.Nat.{ℕ, ◌+◌}
 use mathlib.Core.Path.{sym, subst}
 use mathlib.Core.List.{List}
 use Rattle.match_eval.specs.steps.Memory.{Knows}
-use Rattle.match_eval.specs.laws.Memory.{knows-from, rounds-within, rounds-next}
+use Rattle.match_eval.proofs.laws.Memory.{knows-from, rounds-within, rounds-next}
 use Rattle.match_rounds.specs.steps.Noted.{Noted}
 use Rattle.match_rounds.specs.laws.Noted.{learnt, longer-learnt}
 use Rattle.match_rounds.proofs.learn_byte.Goals as goal

@@ -2,8 +2,8 @@ use native.Mathlib.Omega.{arith}
 use Prim.Native.Nat.{ℕ, ◌+◌, ◌-◌}
 use mathlib.Core.Path.{ap, ◌∙◌}
 use Rattle.grammar_table.specs.Trees.{tree_of}
-use Rattle.match_eval.specs.laws.Within.{ev-within}
-use Rattle.match_eval.specs.laws.Memory.{knows-from, rounds-within, rounds-next}
+use Rattle.match_eval.proofs.laws.Within.{ev-within}
+use Rattle.match_eval.proofs.laws.Memory.{knows-from, rounds-within, rounds-next}
 use Rattle.match_rounds.specs.laws.Noted.{learnt}
 use Rattle.match_rounds.proofs.learn_first.Goals as goal
 

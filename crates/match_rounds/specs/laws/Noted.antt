@@ -9,8 +9,8 @@ use Rattle.match_eval.specs.Eval.{ev, rep}
 use Rattle.grammar_table.specs.Trees.{tree_of}
 use Rattle.match_eval.specs.steps.Firsts.{said_of}
 use Rattle.match_eval.specs.steps.Memory.{count_at, keys_at, entries_at, rounds_of, Key, About, first_of, past_of, end_of, Knows, Front}
-use Rattle.match_eval.specs.laws.Said.{said_same}
-use Rattle.match_eval.specs.laws.Memory.{wider-same, words_same, heard-back, rounds-next}
+use Rattle.match_eval.proofs.laws.Said.{said_same}
+use Rattle.match_eval.proofs.laws.Memory.{wider-same, words_same, heard-back, rounds-next}
 use Rattle.match_rounds.specs.steps.Noted.{Noted, runs_at, Longer}
 
 -- an entry is made

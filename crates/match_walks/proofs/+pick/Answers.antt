@@ -1,7 +1,7 @@
 use native.Mathlib.Omega.{arith}
 use mathlib.Core.Path.{refl, sym}
 use Rattle.match_eval.specs.steps.Firsts.{byte_at}
-use Rattle.match_eval.specs.laws.Memory.{knows-from, said-right}
+use Rattle.match_eval.proofs.laws.Memory.{knows-from, said-right}
 use Rattle.match_walks.specs.laws.Picks.{pick-fails, pick_first, pick_second}
 use Rattle.match_walks.proofs.+pick.Goals as goal
 

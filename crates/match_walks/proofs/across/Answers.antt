@@ -1,6 +1,6 @@
 use native.Mathlib.Omega.{arith}
 use Rattle.match_walks.specs.laws.Ups.{walk-silent}
-use Rattle.match_eval.specs.laws.Memory.{knows-from}
+use Rattle.match_eval.proofs.laws.Memory.{knows-from}
 use Rattle.match_walks.proofs.across.Goals as goal
 
 pub round-a-requires : goal.round-a-requires

@@ -1,7 +1,7 @@
 use native.Mathlib.Omega.{arith}
 use mathlib.Core.Path.{refl}
 use mathlib.Core.Logic.{inl, inr}
-use Rattle.match_eval.specs.laws.Memory.{knows-from}
+use Rattle.match_eval.proofs.laws.Memory.{knows-from}
 use Rattle.match_walks.proofs.further.Goals as goal
 
 pub round-a-requires : goal.round-a-requires

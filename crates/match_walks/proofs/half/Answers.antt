@@ -2,7 +2,7 @@ use native.Mathlib.Omega.{arith}
 use mathlib.Core.Path.{refl, sym}
 use mathlib.Core.Logic.{inl, inr}
 use Rattle.match_eval.specs.steps.Firsts.{byte_at}
-use Rattle.match_eval.specs.laws.Memory.{knows-from, said-right}
+use Rattle.match_eval.proofs.laws.Memory.{knows-from, said-right}
 use Rattle.match_walks.specs.laws.Picks.{choose-first, choose-left, choose-right}
 use Rattle.match_walks.proofs.half.Goals as goal
 

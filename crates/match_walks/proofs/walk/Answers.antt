@@ -2,7 +2,7 @@ use native.Mathlib.Omega.{arith}
 use mathlib.Core.Path.{sym, ◌∙◌}
 use Rattle.match_desk.specs.laws.Learns.{silent-any, silent-other}
 use Rattle.match_walks.specs.laws.Ups.{walk-symbol, walk-seq, walk-choice, walk-skip, walk-take, walk_ends, walk_more, walk-plus}
-use Rattle.match_eval.specs.laws.Memory.{knows-from}
+use Rattle.match_eval.proofs.laws.Memory.{knows-from}
 use Rattle.match_walks.proofs.walk.Goals as goal
 
 pub skip-requires : goal.skip-requires

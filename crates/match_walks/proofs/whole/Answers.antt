@@ -1,6 +1,6 @@
 use native.Mathlib.Omega.{arith}
 use Rattle.match_walks.specs.laws.Picks.{pick-fails, pick-whole}
-use Rattle.match_eval.specs.laws.Memory.{knows-from}
+use Rattle.match_eval.proofs.laws.Memory.{knows-from}
 use Rattle.match_walks.proofs.whole.Goals as goal
 
 pub part_at-v-requires : goal.part_at-v-requires

@@ -7,8 +7,8 @@ use Rattle.grammar.specs.Exp.{Exp, alt}
 use Rattle.match_meaning.specs.Meaning.{Node}
 use Rattle.match_eval.specs.Eval.{ev}
 use Rattle.match_list.specs.Nodes.{walk_of}
-use Rattle.match_eval.specs.laws.EvalSteps.{alt-left, alt-right}
-use Rattle.match_list.specs.laws.NodeSteps.{alt-left as List-left, alt-right as List-right}
+use Rattle.match_eval.proofs.laws.EvalSteps.{alt-left, alt-right}
+use Rattle.match_list.proofs.laws.NodeSteps.{alt-left as List-left, alt-right as List-right}
 use Rattle.grammar_table.specs.Trees.{tree_of}
 use Rattle.match_desk.specs.steps.Parts.{shape, Made}
 use Rattle.match_desk.specs.laws.Parts.{shaped}

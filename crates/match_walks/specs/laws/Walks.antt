@@ -12,16 +12,16 @@ use Rattle.grammar.specs.Exp.{Exp, sym, ter, seq, alt, opt, star, plus, ahead, n
 use Rattle.grammar_table.specs.Table.{leaf_in}
 use Rattle.match_eval.specs.Eval.{leaf_at, cell_at, seq_of, rep, plus_of, ahead_of, never_of, ev}
 use Rattle.match_list.specs.Nodes.{rep_n, walk_of}
-use Rattle.match_eval.specs.laws.Within.{ev-within}
-use Rattle.match_eval.specs.laws.EvalSteps.{seq-left, seq-right, seq-both, plus-fails, plus-takes, opt-fails, opt-takes, rep-ends, cell-past}
-use Rattle.match_list.specs.laws.NodeSteps.{seq-both as list-both, opt_none as list-none, opt-some as list-some, ahead_none, never-none, rep-ends as list-ends}
+use Rattle.match_eval.proofs.laws.Within.{ev-within}
+use Rattle.match_eval.proofs.laws.EvalSteps.{seq-left, seq-right, seq-both, plus-fails, plus-takes, opt-fails, opt-takes, rep-ends, cell-past}
+use Rattle.match_list.proofs.laws.NodeSteps.{seq-both as list-both, opt_none as list-none, opt-some as list-some, ahead_none, never-none, rep-ends as list-ends}
 use Rattle.grammar_table.specs.Trees.{tree_of}
 use Rattle.match_walks.specs.steps.Tasks.{walk, again, enter, under, walked, takes, nodes, after, rank, cost, cost_of, Step}
 use Rattle.match_desk.specs.steps.Desk.{Silent}
 use Rattle.match_desk.specs.steps.Parts.{shape, Made}
 use Rattle.match_desk.specs.laws.Parts.{shaped}
 use Rattle.match_walks.specs.steps.Picks.{Chosen}
-use Rattle.match_list.specs.laws.Rounds.{rounds-step, nodes-step}
+use Rattle.match_list.proofs.laws.Rounds.{rounds-step, nodes-step}
 use Rattle.match_walks.specs.laws.Steps.{cost-one, cost-less, cost-two, cost-rounds, cost-again, step-none, step-one, step-two, step_then}
 
 rank_less : (x y d : ℕ) → y < x → rank y d < rank x d

@@ -22,8 +22,8 @@ use Rattle.grammar.specs.Refusal.{Refusal, refusal, refuse_if, refuse_at, ◌▸
 use Rattle.read_syntax.specs.Machine.{Judged, fine, syntax, wide, judge, start}
 use Rattle.read_syntax.specs.Reader.{ok, rules_p}
 use Rattle.read_syntax.specs.Reading.{offence, second, unruled, lefts_in, too_many, rules_read, rules_from, rules_of, refuses_text}
-use Rattle.read_syntax.specs.laws.Bounds.{Judges, judged}
-use Rattle.read_syntax.specs.laws.Reads.{reads-back, cost-enough}
+use Rattle.read_syntax.proofs.laws.Bounds.{Judges, judged}
+use Rattle.read_syntax.proofs.laws.Reads.{reads-back, cost-enough}
 use Rattle.read_syntax.specs.declared.syntax.Found.{Found}
 use Rattle.read_syntax.specs.steps.Found.{found}
 use Rattle.prepare.specs.steps.Scanned.{scanned}

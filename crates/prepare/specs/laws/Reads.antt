@@ -29,7 +29,7 @@ use Rattle.lake_plain.specs.Plain.{too_large}
 use Rattle.lake_plain.specs.Calls.{loop, looping, calls_of, first_calls}
 use Rattle.lake_rules.specs.Beginning.{marked, marks_of}
 use Rattle.lake_calls.specs.steps.Place.{placed}
-use Rattle.lake_plain.specs.laws.Reaches.{Found, found as loop-found}
+use Rattle.lake_plain.proofs.laws.Reaches.{Found, found as loop-found}
 use Rattle.lake_step_two.specs.steps.Stepped.{plain_of}
 use Rattle.prepare.specs.declared.Counted.{Counted}
 use Rattle.prepare.specs.declared.Prepared.{Prepared as Worth}

@@ -24,7 +24,7 @@ use Rattle.read_grammar.specs.laws.Symbols.{uses, leaves, tells-uses, tells-leav
 use Rattle.read_grammar.specs.laws.Whole.{all-names}
 use Rattle.grammar.specs.Numbers.{terminal_in}
 use Rattle.lake_step_one.specs.Proper.{Sound as SoundExp, SoundAll, Proper}
-use Rattle.lake_step_one.specs.laws.Proper.{proper-of}
+use Rattle.lake_step_one.proofs.laws.Proper.{proper-of}
 use Rattle.prepare.specs.laws.Short.{terminals-adds, to-tokens}
 use Rattle.prepare.specs.laws.Full.{Full, all-full, full-leaves}
 use Rattle.prepare.specs.laws.There.{In, adds-has, uses-among}

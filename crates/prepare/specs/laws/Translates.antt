@@ -12,11 +12,11 @@ use Rattle.lake_rules.specs.Analysis.{analysis}
 use Rattle.lake_step_one.specs.Proper.{middle}
 use Rattle.grammar_table.specs.laws.Parts.{total}
 use Rattle.lake_step_one.specs.steps.Made.{with_bodies}
-use Rattle.lake_step_one.specs.laws.Held.{names-are}
-use Rattle.lake_step_one.specs.laws.Next.{middle-long}
+use Rattle.lake_step_one.proofs.laws.Held.{names-are}
+use Rattle.lake_step_one.proofs.laws.Next.{middle-long}
 use Rattle.lake_step_two.specs.steps.Stepped.{SteppedTwo, plain_of}
-use Rattle.lake_step_two.specs.laws.Once.{once-numbered}
-use Rattle.lake_step_two.specs.laws.Refused.{refused, let_through, refused-early}
+use Rattle.lake_step_two.proofs.laws.Once.{once-numbered}
+use Rattle.lake_step_two.proofs.laws.Refused.{refused, let_through, refused-early}
 use Rattle.prepare.specs.laws.Short.{short}
 use Rattle.prepare.specs.laws.Rights.{proper}
 use Rattle.prepare.specs.laws.Terminals.{none-empty}

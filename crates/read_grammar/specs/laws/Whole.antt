@@ -26,7 +26,7 @@ use Rattle.grammar_table.specs.laws.Lists.{is_up}
 use Rattle.read_syntax.specs.Machine.{start}
 use Rattle.read_syntax.specs.Reader.{is_arrow, ok, rules_p}
 use Rattle.read_syntax.specs.Reading.{second, unruled, lacks, lefts_in, left_by, before}
-use Rattle.read_syntax.specs.laws.Reads.{cost_r, reads-back}
+use Rattle.read_syntax.proofs.laws.Reads.{cost_r, reads-back}
 use Rattle.grammar_table.specs.steps.Rows.{cap, Noted}
 use Rattle.grammar_table.specs.laws.Caps.{cap-low, cap-high}
 use Rattle.grammar_table.specs.laws.Rows.{also, adds, All, all-at, in-append}

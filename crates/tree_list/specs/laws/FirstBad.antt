@@ -7,7 +7,7 @@ use Rattle.base_facts.specs.laws.Options.{some-none}
 use Rattle.base_facts.specs.laws.Numbers.{lt-or-ge}
 use Rattle.read_tokens.specs.Bounds.{node_words}
 use Rattle.match_list.specs.Nodes.{room_of, nodes_at}
-use Rattle.match_list.specs.laws.Words.{room_fits}
+use Rattle.match_list.proofs.laws.Words.{room_fits}
 use Rattle.tree_list.specs.Tree.{IsTree, FirstBad}
 use Rattle.tree_list.specs.Preorder.{bad_from, whole, bad_node}
 use Rattle.tree_list.specs.laws.NodeWords.{nodes-long, nodes-front, nodes-agree}

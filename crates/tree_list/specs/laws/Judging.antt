@@ -7,7 +7,7 @@ use Rattle.std.proofs.Math.Option.{Option, none, some}
 use Rattle.read_tokens.specs.Bounds.{node_words}
 use Rattle.match_meaning.specs.Meaning.{nd}
 use Rattle.match_list.specs.Nodes.{room_of, node_at, nodes_at}
-use Rattle.match_list.specs.laws.Words.{room_fits}
+use Rattle.match_list.proofs.laws.Words.{room_fits}
 use Rattle.tree_list.specs.declared.Node.{Node as Handed}
 use Rattle.tree_list.specs.Preorder.{gap_at, admits, gaps_behind, bad_from, whole, or_else, cut_off, bad_node}
 use Rattle.tree_list.specs.Handing.{in_fields}

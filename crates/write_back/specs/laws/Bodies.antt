@@ -12,9 +12,9 @@ use Rattle.read_syntax.specs.Machine.{over}
 use Rattle.lake_step_one.specs.Proper.{Sound, SoundAll}
 use Rattle.lake_plain.specs.Plain.{rules_by}
 use Rattle.grammar_table.specs.laws.Rows.{All}
-use Rattle.write_rules.specs.laws.Trip.{FineExpr, FineRules}
-use Rattle.write_rules.specs.laws.Kept.{yield, yields}
-use Rattle.write_rules.specs.laws.Within.{Narrow}
+use Rattle.write_rules.proofs.laws.Trip.{FineExpr, FineRules}
+use Rattle.write_rules.proofs.laws.Kept.{yield, yields}
+use Rattle.write_rules.proofs.laws.Within.{Narrow}
 use Rattle.write_text.specs.laws.Fit.{FitName, FitLeaf, join}
 
 narrow-join : (m : Mode) (l r : List Tok) → Narrow m l → Narrow m r → Narrow m (l ++ r)

@@ -19,8 +19,8 @@ use Rattle.lake_step_one.specs.Intermediate.{intermediate_by, bodies_by}
 use Rattle.lake_rules.specs.Analysis.{Analysis, lake_alt}
 use Rattle.lake_plain.specs.Plain.{nonterminals_in, terminals_in, alternatives, right_or, plain_by, plain_from, rules_by}
 use Rattle.grammar_table.specs.laws.Rows.{All}
-use Rattle.write_rules.specs.laws.Pairs.{Levels, conc, written}
-use Rattle.write_rules.specs.laws.Depth.{peak, deep_c, deep_s, deep_p, deep_f, deep_q, peak-c, shallow}
+use Rattle.write_rules.proofs.laws.Pairs.{Levels, conc, written}
+use Rattle.write_rules.proofs.laws.Depth.{peak, deep_c, deep_s, deep_p, deep_f, deep_q, peak-c, shallow}
 use Rattle.write_text.specs.laws.Fit.{FitName, join}
 
 -- ── rules and their right sides ──

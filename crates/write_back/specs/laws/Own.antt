@@ -22,11 +22,11 @@ use Rattle.read_grammar.specs.steps.Promises.{Sound}
 use Rattle.read_grammar.specs.steps.Lay.{gathered}
 use Rattle.read_grammar.specs.laws.Symbols.{uses, lefts-gathered, tells-lefts, tells-uses}
 use Rattle.write_rules.specs.Writing.{text}
-use Rattle.write_rules.specs.laws.Pairs.{written}
-use Rattle.write_rules.specs.laws.Trip.{text-written}
-use Rattle.write_rules.specs.laws.Kept.{no_deeper}
-use Rattle.write_rules.specs.laws.Depth.{peak}
-use Rattle.write_rules.specs.laws.Within.{within-iff}
+use Rattle.write_rules.proofs.laws.Pairs.{written}
+use Rattle.write_rules.proofs.laws.Trip.{text-written}
+use Rattle.write_rules.proofs.laws.Kept.{no_deeper}
+use Rattle.write_rules.proofs.laws.Depth.{peak}
+use Rattle.write_rules.proofs.laws.Within.{within-iff}
 use Rattle.write_text.specs.laws.Fit.{is-grammar, fine-rules, none_over, narrow-rules}
 use Rattle.write_back.specs.laws.Readable.{Distinct, Unreserved, Ruled, Readable}
 use Rattle.write_back.specs.laws.Chain.{second-says, unruled-says, of-gathered}

@@ -7,8 +7,8 @@ use Rattle.read_tokens.specs.Tokens.{toks}
 use Rattle.grammar.specs.Exp.{Rule}
 use Rattle.read_syntax.specs.Grammar.{GrammarOf}
 use Rattle.write_rules.specs.Writing.{text}
-use Rattle.write_rules.specs.laws.Trip.{FineRules, text-written}
-use Rattle.write_rules.specs.laws.Needed.{pairs, needed, dropped}
+use Rattle.write_rules.proofs.laws.Trip.{FineRules, text-written}
+use Rattle.write_rules.proofs.laws.Needed.{pairs, needed, dropped}
 
 module _ (m : Mode) (rs : List Rule) (fine : FineRules m rs) where
   -- no text of these rules has fewer pairs than the written one

@@ -29,8 +29,8 @@ use Rattle.grammar_table.specs.laws.Rows.{All}
 use Rattle.read_grammar.specs.steps.Promises.{Sound}
 use Rattle.prepare.specs.laws.Dot.{dot-in}
 use Rattle.write_rules.specs.Writing.{text}
-use Rattle.write_rules.specs.laws.Terminals.{FineSymbol}
-use Rattle.write_rules.specs.laws.Renamed.{name-plain}
+use Rattle.write_rules.proofs.laws.Terminals.{FineSymbol}
+use Rattle.write_rules.proofs.laws.Renamed.{name-plain}
 use Rattle.write_text.specs.laws.Fit.{FitName, FitLeaf, names-all, fit-names, fit-name}
 use Rattle.write_text.specs.laws.Own.{lefts-long}
 use Rattle.write_text.specs.laws.Plain.{plain_names, plain-sound, bodies-long}

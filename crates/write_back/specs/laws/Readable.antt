@@ -9,11 +9,11 @@ use Rattle.grammar.specs.Numbers.{left_sides, uses_of, symbols_of, terminals_of,
 use Rattle.read_syntax.specs.Reading.{reserved}
 use Rattle.grammar_table.specs.laws.Rows.{All}
 use Rattle.write_rules.specs.Writing.{text}
-use Rattle.write_rules.specs.laws.Trip.{FineRules}
-use Rattle.write_rules.specs.laws.Pairs.{written}
-use Rattle.write_rules.specs.laws.Kept.{yields}
-use Rattle.write_rules.specs.laws.Depth.{peak}
-use Rattle.write_rules.specs.laws.Within.{Narrow}
+use Rattle.write_rules.proofs.laws.Trip.{FineRules}
+use Rattle.write_rules.proofs.laws.Pairs.{written}
+use Rattle.write_rules.proofs.laws.Kept.{yields}
+use Rattle.write_rules.proofs.laws.Depth.{peak}
+use Rattle.write_rules.proofs.laws.Within.{Narrow}
 
 -- none of the symbols is seen before, or twice
 abbrev pub Distinct : List Symbol → List Symbol → Type 0

@@ -16,18 +16,18 @@ use Rattle.grammar.specs.Refusal.{refuse_if, refuse_at, ◌▸◌}
 use Rattle.read_syntax.specs.Machine.{start, Judged, fine as free, judge}
 use Rattle.read_syntax.specs.Reader.{ok, rules_p}
 use Rattle.read_syntax.specs.Reading.{offence, second, unruled, lefts_in, too_many, rules_read, rules_from, rules_of, refuses_text}
-use Rattle.read_syntax.specs.laws.Bounds.{over_at, judged, one_answer}
-use Rattle.read_syntax.specs.laws.Reads.{reads-back, cost-enough}
+use Rattle.read_syntax.proofs.laws.Bounds.{over_at, judged, one_answer}
+use Rattle.read_syntax.proofs.laws.Reads.{reads-back, cost-enough}
 use Rattle.grammar_table.specs.laws.Rows.{All}
 use Rattle.read_grammar.specs.steps.Promises.{Sound}
 use Rattle.read_grammar.specs.steps.Lay.{gathered}
 use Rattle.read_grammar.specs.laws.Symbols.{uses, lefts-gathered, tells-lefts, tells-uses}
 use Rattle.write_rules.specs.Writing.{text}
-use Rattle.write_rules.specs.laws.Pairs.{rules, tokens-rules, trees-rules}
-use Rattle.write_rules.specs.laws.Trip.{text-tokens}
-use Rattle.write_rules.specs.laws.Kept.{bones, yields, bones-r}
-use Rattle.write_rules.specs.laws.Depth.{peak}
-use Rattle.write_rules.specs.laws.Within.{Narrow, within-iff, bones-narrow}
+use Rattle.write_rules.proofs.laws.Pairs.{rules, tokens-rules, trees-rules}
+use Rattle.write_rules.proofs.laws.Trip.{text-tokens}
+use Rattle.write_rules.proofs.laws.Kept.{bones, yields, bones-r}
+use Rattle.write_rules.proofs.laws.Depth.{peak}
+use Rattle.write_rules.proofs.laws.Within.{Narrow, within-iff, bones-narrow}
 use Rattle.write_back.specs.laws.Readable.{Distinct, Unreserved, Ruled, Readable}
 use Rattle.write_back.specs.laws.Chain.{second_none, unruled-none, all-gathered}
 

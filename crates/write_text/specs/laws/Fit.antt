@@ -15,15 +15,15 @@ use Rattle.grammar.specs.Trees.{trees}
 use Rattle.grammar.specs.Numbers.{is_lake, left_sides, uses_of, only_lakes, loose_lakes, symbols_of, leaves_of, terminals_of, numbered}
 use Rattle.read_syntax.specs.Machine.{over}
 use Rattle.read_syntax.specs.Grammar.{GrammarOf}
-use Rattle.read_syntax.specs.laws.Bounds.{over_at, Judges, judged}
+use Rattle.read_syntax.proofs.laws.Bounds.{over_at, Judges, judged}
 use Rattle.grammar_table.specs.laws.Rows.{All, all-at}
 use Rattle.read_grammar.specs.steps.Promises.{Sound}
-use Rattle.write_rules.specs.laws.Terminals.{FineLeaf, FineSymbol}
-use Rattle.write_rules.specs.laws.Trip.{FineExpr, FineRules}
-use Rattle.write_rules.specs.laws.Fine.{fine}
-use Rattle.write_rules.specs.laws.TextBytes.{fine-bytes}
-use Rattle.write_rules.specs.laws.Kept.{bones, yield, yields, bones-r}
-use Rattle.write_rules.specs.laws.Within.{Narrow, within-iff, narrow-bones, narrow-split}
+use Rattle.write_rules.proofs.laws.Terminals.{FineLeaf, FineSymbol}
+use Rattle.write_rules.proofs.laws.Trip.{FineExpr, FineRules}
+use Rattle.write_rules.proofs.laws.Fine.{fine}
+use Rattle.write_rules.proofs.laws.TextBytes.{fine-bytes}
+use Rattle.write_rules.proofs.laws.Kept.{bones, yield, yields, bones-r}
+use Rattle.write_rules.proofs.laws.Within.{Narrow, within-iff, narrow-bones, narrow-split}
 use Rattle.lake_calls.specs.laws.Trees.{leaf-at}
 use Rattle.grammar.specs.Numbers.{terminal_in}
 use Rattle.write_leaves.specs.steps.Printed.{low_leaf}

@@ -26,10 +26,10 @@ use Rattle.lake_plain.specs.Plain.{rules_by, plain_rules}
 use Rattle.lake_step_two.specs.steps.Stepped.{plain_of}
 use Rattle.read_grammar.specs.steps.Promises.{Sound}
 use Rattle.write_rules.specs.Writing.{text}
-use Rattle.write_rules.specs.laws.Terminals.{FineLeaf}
-use Rattle.write_rules.specs.laws.Lengths.{Short, Brief, Bounded, BoundedAll, not-too-long}
-use Rattle.write_rules.specs.laws.Within.{bounded}
-use Rattle.lake_step_one.specs.laws.Held.{names-are, expressions-are}
+use Rattle.write_rules.proofs.laws.Terminals.{FineLeaf}
+use Rattle.write_rules.proofs.laws.Lengths.{Short, Brief, Bounded, BoundedAll, not-too-long}
+use Rattle.write_rules.proofs.laws.Within.{bounded}
+use Rattle.lake_step_one.proofs.laws.Held.{names-are, expressions-are}
 use Rattle.write_text.specs.laws.Fit.{FitName, FitLeaf, fit-name, fit-leaf, fine-rules, narrow-rules}
 use Rattle.write_text.specs.laws.Own.{lefts-long}
 use Rattle.write_text.specs.laws.Plain.{plain_names, plain-sound, bodies-long}

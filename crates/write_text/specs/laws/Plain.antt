@@ -21,11 +21,11 @@ use Rattle.lake_step_one.specs.Proper.{SoundAll}
 use Rattle.lake_step_one.specs.Intermediate.{water_in, bodies_by, intermediate}
 use Rattle.grammar_table.specs.laws.Parts.{present-some}
 use Rattle.lake_step_one.specs.steps.Made.{with_bodies}
-use Rattle.lake_step_one.specs.laws.Next.{bodies-long as middle-bodies}
+use Rattle.lake_step_one.proofs.laws.Next.{bodies-long as middle-bodies}
 use Rattle.lake_plain.specs.Plain.{plain_bodies, rules_by, plain_rules}
 use Rattle.lake_step_two.specs.steps.Stepped.{plain_of}
-use Rattle.lake_step_two.specs.laws.Bodies.{plain-long}
-use Rattle.lake_step_two.specs.laws.Once.{once-numbered}
+use Rattle.lake_step_two.proofs.laws.Bodies.{plain-long}
+use Rattle.lake_step_two.proofs.laws.Once.{once-numbered}
 use Rattle.lake_step_two.specs.laws.Proper.{plain-proper}
 use Rattle.read_grammar.specs.steps.Promises.{Sound}
 use Rattle.prepare.specs.laws.Dot.{dot-in}

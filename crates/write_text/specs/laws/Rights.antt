@@ -8,7 +8,7 @@ use Rattle.grammar_table.specs.Table.{body_in, symbol_count}
 use Rattle.grammar_table.specs.Holds.{Holds, present}
 use Rattle.grammar.specs.Numbers.{terminal_in}
 use Rattle.lake_step_one.specs.Proper.{SoundAll}
-use Rattle.lake_step_one.specs.laws.Held.{rights-long}
+use Rattle.lake_step_one.proofs.laws.Held.{rights-long}
 use Rattle.lake_calls.specs.laws.Rights.{right_is}
 use Rattle.write_text.specs.steps.Texts.{rights_in}
 

@@ -4,7 +4,7 @@ use mathlib.Core.Bool.{false}
 use native.Mathlib.Omega.{arith}
 use lib.ListN.{get_or, length-set}
 use lib.Seq.{ext_get_or}
-use Rattle.base_rounds.specs.laws.Fill.{fill_more}
+use Rattle.base_rounds.proofs.laws.Fill.{fill_more}
 use Rattle.lake_calls.proofs.loops.copy.Goals as goal
 
 pub loop-i-init : goal.loop-i-init

@@ -7,7 +7,7 @@ use Rattle.grammar_table.specs.Table.{symbol_word}
 use Rattle.grammar.specs.Empty.{has_empty}
 use Rattle.lake_rules.specs.Beginning.{marked}
 use Rattle.grammar_table.specs.Trees.{tree_of}
-use Rattle.base_rounds.specs.laws.Fill.{fill_more}
+use Rattle.base_rounds.proofs.laws.Fill.{fill_more}
 use Rattle.grammar_table.specs.laws.Places.{is-up_to}
 use Rattle.lake_calls.specs.steps.Firsts.{Firsts}
 use Rattle.lake_calls.proofs.loops.mark_round.Goals as goal

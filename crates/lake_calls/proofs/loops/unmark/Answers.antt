@@ -3,7 +3,7 @@ use mathlib.Core.Path.{refl}
 use mathlib.Core.Bool.{false}
 use native.Mathlib.Omega.{arith}
 use lib.ListN.{length, length-set}
-use Rattle.base_rounds.specs.laws.Fill.{fill_more}
+use Rattle.base_rounds.proofs.laws.Fill.{fill_more}
 use Rattle.lake_sets.specs.laws.Fills.{is-replicate}
 use Rattle.lake_calls.proofs.loops.unmark.Goals as goal
 

@@ -2,7 +2,7 @@ use native.Mathlib.Omega.{arith}
 use mathlib.Core.Path.{refl, sym, ap, subst, ◌∙◌}
 use Prim.Native.Nat.{ℕ, ◌-◌}
 use Rattle.match_eval.specs.steps.Firsts.{said_of, preset_of}
-use Rattle.match_eval.specs.laws.Said.{said-small}
+use Rattle.match_eval.proofs.laws.Said.{said-small}
 use Rattle.match_cells.specs.steps.Runs.{Open}
 use Rattle.match_cells.specs.laws.Preset.{preset-puts, preset-skips, preset-ends, open_none, open_said, open-with}
 use Rattle.match_cells.proofs.filling.preset.Goals as goal

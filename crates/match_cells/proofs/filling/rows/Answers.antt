@@ -5,7 +5,7 @@ use lib.ListN.{length}
 use Rattle.grammar_table.specs.Table.{words_from, symbol_count}
 use Rattle.grammar_table.specs.Trees.{bodies_of}
 use Rattle.match_eval.specs.steps.Memory.{Knows}
-use Rattle.match_eval.specs.laws.Memory.{knows-from}
+use Rattle.match_eval.proofs.laws.Memory.{knows-from}
 use Rattle.match_cells.specs.laws.Preset.{by-more, by_end, fillable-next}
 use Rattle.match_cells.specs.laws.Tasks.{by-record, by-memory, record-row, memory-row}
 use Rattle.match_cells.proofs.filling.rows.Goals as goal

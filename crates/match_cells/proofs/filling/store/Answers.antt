@@ -6,9 +6,9 @@ use native.Mathlib.Nat.{mul-le-mul}
 use Rattle.grammar_table.specs.Trees.{tree_of}
 use Rattle.match_eval.specs.Eval.{ev}
 use Rattle.match_eval.specs.steps.Memory.{Knows}
-use Rattle.match_eval.specs.laws.Within.{ev-within}
+use Rattle.match_eval.proofs.laws.Within.{ev-within}
 use Rattle.match_cells.specs.laws.Rows.{stored}
-use Rattle.match_eval.specs.laws.Memory.{knows-from, knows-stored, said-body}
+use Rattle.match_eval.proofs.laws.Memory.{knows-from, knows-stored, said-body}
 use Rattle.match_cells.proofs.filling.store.Goals as goal
 
 pub body-x-requires : goal.body-x-requires

@@ -5,8 +5,8 @@ use mathlib.Core.Path.{refl, sym, ap, subst, ◌∙◌}
 use lib.ListN.{length, length-set}
 use Rattle.grammar_table.specs.Table.{symbol_word}
 use Rattle.grammar_table.specs.Trees.{tree_of}
-use Rattle.match_eval.specs.laws.Within.{ev-within}
-use Rattle.match_eval.specs.laws.Memory.{knows-from}
+use Rattle.match_eval.proofs.laws.Within.{ev-within}
+use Rattle.match_eval.proofs.laws.Memory.{knows-from}
 use Rattle.match_cells.specs.laws.Tasks.{body-found, part-found, stored-knows, stored_row, tasks-start, tasks-past, tasks-end}
 use Rattle.match_cells.proofs.tasks.tasks.Goals as goal
 

@@ -2,7 +2,7 @@ use mathlib.Core.Path.{ap, ◌∙◌}
 use Prim.Native.Nat.{ℕ, ◌+◌, ◌*◌, ◌/◌, ◌^◌}
 use lib.Bits.{and_mask}
 use Rattle.base_words.specs.Set.{bit}
-use Rattle.match_eval.specs.laws.Said.{two-bits}
+use Rattle.match_eval.proofs.laws.Said.{two-bits}
 use Rattle.match_eval.proofs.memory.bits_at.Goals as goal
 
 pub returns : goal.returns

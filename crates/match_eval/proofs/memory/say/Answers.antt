@@ -1,5 +1,5 @@
 use mathlib.Core.Path.{sym, ◌∙◌}
-use Rattle.match_eval.specs.laws.Said.{spoken, spoken-none}
+use Rattle.match_eval.proofs.laws.Said.{spoken, spoken-none}
 use Rattle.match_eval.proofs.memory.say.Goals as goal
 
 pub returns-then-w-eq0 : goal.returns-then-w-eq0

@@ -1,5 +1,5 @@
 use native.Mathlib.Omega.{arith}
-use Rattle.read_syntax.specs.laws.Automaton.{deep_one}
+use Rattle.read_syntax.proofs.laws.Automaton.{deep_one}
 use Rattle.read_syntax.proofs.syntax.deepness.Goals as goal
 
 pub returns : goal.returns

@@ -1,6 +1,6 @@
 use mathlib.Core.Path.{sym}
 use native.Mathlib.Omega.{arith}
-use Rattle.read_syntax.specs.laws.Automaton.{last, not_last, not-closed}
+use Rattle.read_syntax.proofs.laws.Automaton.{last, not_last, not-closed}
 use Rattle.read_syntax.proofs.syntax.finished.Goals as goal
 
 pub returns-then-c-ge4 : goal.returns-then-c-ge4

@@ -7,9 +7,9 @@ use Rattle.read_tokens.specs.Tokens.{token_at, lexemes}
 use Rattle.read_tokens.specs.laws.Forward.{lexemes_at}
 use Rattle.read_syntax.specs.steps.Numbers.{state_of, next_of, deep}
 use Rattle.read_syntax.specs.steps.Found.{found}
-use Rattle.read_syntax.specs.laws.Automaton.{walk_is, next_le, moved-le, kind-small}
+use Rattle.read_syntax.proofs.laws.Automaton.{walk_is, next_le, moved-le, kind-small}
 use Rattle.read_tokens.specs.laws.Here.{here}
-use Rattle.read_syntax.specs.laws.Turns.{end-well, end-badly, class-below, dead, over-wide, walks-on, stays-flat}
+use Rattle.read_syntax.proofs.laws.Turns.{end-well, end-badly, class-below, dead, over-wide, walks-on, stays-flat}
 use Rattle.read_syntax.proofs.syntax.offending.Goals as goal
 
 pub loop-mode-init : goal.loop-mode-init

@@ -1,5 +1,5 @@
 use native.Mathlib.Omega.{arith}
-use Rattle.read_syntax.specs.laws.Automaton.{moved-arrow, moved_open, moved-close, moved-else}
+use Rattle.read_syntax.proofs.laws.Automaton.{moved-arrow, moved_open, moved-close, moved-else}
 use Rattle.read_syntax.proofs.syntax.open_after.Goals as goal
 
 pub returns-then-k-eq4 : goal.returns-then-k-eq4
