@@ -5,7 +5,7 @@
    - a slice is a pointer and a length; the pointer is never NULL, also for length 0, and aligned to its element (1, 4 or 8 bytes);
    - `cells`, `nodes`, `room`, `records` and `out` overlap neither each other nor what is read;
    - of every record that is lent `present` is 0 or 1 already, as in one of zeros;
-   - 460 KiB of stack are free (enough on the worst grammars; gurkenmond.wasm has 4 MiB of its own).
+   - 360 KiB of stack are free (enough on the worst grammars; gurkenmond.wasm has 4 MiB of its own).
    No proof covers either: the compiler's back end, the change of target for aarch64 and wasm32, the wrappers. They are tested.
 
    No call allocates, keeps anything, reads a clock or a file, or fails in another way; calls from several threads at once are fine.

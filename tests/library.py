@@ -34,7 +34,7 @@ HERE = os.path.join(TOP, "tests", "library")
 OTHER = {"x86_64": "aarch64", "aarch64": "x86_64"}[platform.machine()]  # the machine that is emulated
 RANDOM_COUNT, RANDOM_SEED = 10000, 12
 NODE_QUESTIONS, NAME_QUESTIONS, RECORD_QUESTIONS = 1000, 1000, 1000
-STACK_KIB = 460  # what the header asks for, and the harness gives its threads
+STACK_KIB = 360  # what the header asks for, and the harness gives its threads
 WRAPPER_COUNT = 300
 # the commands that the tests call, and Debian's packages that have them
 PACKAGES = {"gcc": ["gcc", "libc6-dev"], "node": ["nodejs"], "chromium": ["chromium"], f"qemu-{OTHER}": ["qemu-user"],

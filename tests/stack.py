@@ -15,7 +15,7 @@ import tempfile
 from matcher import Grammar, plain_text
 from programs import TOP, Programs
 
-STACK_KIB = 704
+STACK_KIB = 640
 
 
 def nest(levels):

@@ -161,6 +161,36 @@ def head_of(block):
     return lines[:k], m.group(2), typed, "\n".join(lines[k2:])
 
 
+def pruned(text):
+    """The file without the names of its `use` lines that nothing below them says."""
+    lines = text.split("\n")
+    body = "\n".join(re.sub(r"--.*", "", l) for l in lines if not l.startswith("use "))
+    words = set(re.split(r"[\s(){}\[\],;]+", body))
+    words |= {part for w in words for part in w.split(".")}
+
+    def said(name):
+        name = name.split(" as ")[-1].strip()
+        if name == "[]":
+            return "[]" in body
+        if "◌" in name:
+            return all(part in body for part in name.split("◌") if part)
+        return name in words
+
+    out = []
+    for line in lines:
+        m = re.match(r"use (\S+)\.\{([^}]*)\}$", line)
+        if m:
+            names = [n.strip() for n in m.group(2).split(",") if said(n.strip())]
+            if names:
+                out.append(f"use {m.group(1)}.{{{', '.join(names)}}}")
+            continue
+        m = re.match(r"use \S+ as (\S+)$", line)
+        if m and m.group(1) not in words:
+            continue
+        out.append(line)
+    return "\n".join(out)
+
+
 def turn(path, crate, table):
     with open(path, encoding="utf-8") as f:
         text = f.read()
@@ -227,7 +257,7 @@ def turn(path, crate, table):
                 said.append(f"{name}: its form")
                 kept.append(block)
                 continue
-            if d.group(4).strip() in FOUND:
+            if d.group(4).strip() in FOUND and not d.group(1):
                 continue
             if old not in names.needs:
                 if old not in names.settled:
@@ -256,10 +286,10 @@ def turn(path, crate, table):
     head = [c for c in comments if "meets its contract" not in c]
     if answers or kept:
         with open(os.path.join(folder, "Answers.antt"), "w", encoding="utf-8") as f:
-            f.write("\n".join(head + rattle + needed + [f"use {own}.Goals as goal", "", body, ""]))
+            f.write(pruned("\n".join(head + rattle + needed + [f"use {own}.Goals as goal", "", body, ""])))
     if invariants:
         with open(os.path.join(folder, "Invariants.antt"), "w", encoding="utf-8") as f:
-            f.write("\n".join(rattle + [f"use {own}.Given as goal", "", "\n\n".join(invariants), ""]))
+            f.write(pruned("\n".join(rattle + [f"use {own}.Given as goal", "", "\n\n".join(invariants), ""])))
     os.remove(path)
     return said
 
@@ -316,7 +346,7 @@ def turn_cycle(path, crate, tables):
                 said.append(f"{name}: its form")
                 kept.append(block)
                 continue
-            if d.group(4).strip() in FOUND:
+            if d.group(4).strip() in FOUND and not d.group(1):
                 continue
             if old not in names.needs:
                 if old not in names.settled:
@@ -333,9 +363,9 @@ def turn_cycle(path, crate, tables):
         said += names.lost
     own = f"Rattle.{crate}.proofs.{inner}"
     with open(os.path.join(folder, "Answers.antt"), "w", encoding="utf-8") as f:
-        f.write("\n".join(uses + [f"use {own}.Goals as goal", "", "\n\n".join(kept + answers), ""]))
+        f.write(pruned("\n".join(uses + [f"use {own}.Goals as goal", "", "\n\n".join(kept + answers), ""])))
     with open(os.path.join(folder, "Invariants.antt"), "w", encoding="utf-8") as f:
-        f.write("\n".join(uses + [f"use {own}.Given as goal", "", "\n\n".join(invariants), ""]))
+        f.write(pruned("\n".join(uses + [f"use {own}.Given as goal", "", "\n\n".join(invariants), ""])))
     os.remove(path)
     return said
 

@@ -1,13 +1,12 @@
 // The cells of one place by the record of the byte that stands there (01, Meaning of a match): what is decided is copied, open symbols' bodies are evaluated in
-// their order, then rounds are remembered. All evaluations are one loop over tasks, so that there is one place of code for them. A symbol whose body repeats
-// the part of the first key is not evaluated by itself: the rounds that are remembered for the key tell what it takes.
-ghost use Rattle.std.specs.Prelude.{ℕ, suc, ◌+◌, ◌-◌, ◌*◌, ◌<◌, ◌≤◌, ◌≡◌, List, get_or, length};
+// their order, then rounds are remembered. All evaluations are one loop over tasks, so that there is one place of code for them.
+ghost use Rattle.std.specs.Prelude.{ℕ, ◌+◌, ◌*◌, ◌<◌, ◌≤◌, ◌≡◌, List, get_or, length};
 ghost use Rattle.grammar_table.specs.Table.{words_from, symbol_count};
 ghost use Rattle.grammar_table.specs.Trees.{bodies_of};
 ghost use Rattle.match_eval.specs.steps.Firsts.{byte_at};
 ghost use Rattle.match_eval.specs.steps.Memory.{count_at, Knows, Front};
 ghost use Rattle.match_parts.specs.steps.Lists.{AllListed};
-ghost use Rattle.match_plan.specs.steps.Plan.{Repeats, told_list, Recorded};
+ghost use Rattle.match_plan.specs.steps.Plan.{Recorded};
 ghost use Rattle.match_cells.specs.Cells.{row_of};
 ghost use Rattle.match_cells.specs.steps.Runs.{copy_of};
 
@@ -15,7 +14,7 @@ use base_words::{put, word};
 use grammar_table::Table;
 use match_eval::memory::{Memory, PARTS_AT};
 use match_parts::{Ask, Lists};
-use match_plan::{FIRST_TASK, KEYS, Plan, TASKS, TOLD};
+use match_plan::{FIRST_TASK, KEYS, Plan, TASKS};
 use match_rounds::{First, Takers};
 
 // The cells of n symbols from i on become the words of a record at o.
@@ -30,8 +29,7 @@ fn copy_row(cells: &mut [u32], plan: &Plan, o: usize, n: usize, i: usize)
     }
 }
 
-// The tasks of a place p, over n symbols: from i on m open symbols, whose cells are stored, then keys, whose rounds are remembered; k in all. And 1 + the
-// symbol that the first key tells, 0 for none.
+// The tasks of a place p, over n symbols: from i on m open symbols, whose cells are stored, then keys, whose rounds are remembered; k in all.
 #[derive(Clone, Copy)]
 struct Job {
     n: usize,
@@ -39,18 +37,6 @@ struct Job {
     m: usize,
     k: usize,
     p: usize,
-    told: usize,
-}
-
-// How many tasks are done when a symbol has been told; 0 where none is.
-fn turn(m: usize, told: usize) -> usize
-    requires { m < 4294967296 }
-    ensures { (told ≡ 0 → result ≡ 0) × ((told ≡ 0 → ⊥) → result ≡ m + 1) }
-{
-    if told == 0 {
-        return 0;
-    }
-    m + 1
 }
 
 // All of them, one after the other.
@@ -66,11 +52,9 @@ fn tasks(
     requires { ((job.n ≡ symbol_count t.now) × (job.n ≤ 64) × (job.i < 8589934592) × (job.k < 4294967296) × (job.m ≤ job.k)
         × (length s.now ≤ 65535) × (job.p ≤ length s.now)) × ((j : ℕ) → j < job.m → get_or plan.now (job.i + j) 0 < job.n)
         × ((j : ℕ) → job.m ≤ j → j < job.k → (64 ≤ get_or plan.now (job.i + j) 0) × (get_or plan.now (job.i + j) 0 < 64 + get_or mem.old count_at 0))
-        × ((r : ℕ) → job.told ≡ suc r → (job.m < job.k) × Repeats t.now mem.old job.n r (get_or plan.now (job.i + job.m) 0 - 64))
         × AllListed t.now mem.old job.n lists.now × Knows t.now s.now cells.old job.n mem.old (job.p + 1) job.p }
     ensures { (cells.new
-        ≡ row_of (bodies_of t.now) s.now job.p (told_list job.told)
-        (row_of (bodies_of t.now) s.now job.p (words_from plan.now job.i job.m) cells.old))
+        ≡ row_of (bodies_of t.now) s.now job.p (words_from plan.now job.i job.m) cells.old)
         × Knows t.now s.now cells.new job.n mem.new job.p job.p
         × Front mem.old mem.new }
 {
@@ -78,8 +62,6 @@ fn tasks(
     let m = job.m;
     let k = job.k;
     let p = job.p;
-    let told = job.told;
-    let last = turn(m, told);
     let mut j: usize = 0;
     while j < k {
         let w = word(plan, job.i + j);
@@ -90,11 +72,7 @@ fn tasks(
             put(cells, p * n + w, v);
         } else {
             let y = word(mem, PARTS_AT + (w - KEYS));
-            let c = match_rounds::rounds_first(t, s, cells, mem, n, First { y: y, p: p, a: v });
-            match_rounds::remember_first(mem, y, p, c);
-            if j == last {
-                put(cells, p * n + (told - 1), c + 1);
-            }
+            match_rounds::learn_first(t, s, cells, mem, n, First { y: y, p: p, a: v });
         }
     }
 }
@@ -134,7 +112,6 @@ pub fn place_by(
     copy_row(cells, plan, at.o, n, p * n);
     let m = word(plan, at.o + n);
     let k = word(plan, at.o + n + TASKS);
-    let told = word(plan, at.o + n + TOLD);
     let i = at.o + n + FIRST_TASK;
     tasks(
         t,
@@ -149,7 +126,6 @@ pub fn place_by(
             m: m,
             k: k,
             p: p,
-            told: told,
         },
     );
     let d = word(plan, i + k);

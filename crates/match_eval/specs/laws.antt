@@ -7,4 +7,3 @@ pub mod Frame
 pub mod Memory
 pub mod Said
 pub mod Words
-pub mod Named

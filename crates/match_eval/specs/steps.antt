@@ -1,4 +1,3 @@
 -- Contracts in the shape of the code.
 pub mod Firsts
 pub mod Memory
-pub mod Named

@@ -3,5 +3,3 @@ pub mod Forests
 pub mod Turns
 pub mod Passes
 pub mod Lanes
-pub mod Trails
-pub mod Writes

@@ -1,7 +1,4 @@
 -- What one function of the code does to words: contracts shaped like the code. Laws tie them to the definitions.
 pub mod Passes
-pub mod Trails
-pub mod Notes
 pub mod Turns
 pub mod Lanes
-pub mod Writes

@@ -1,31 +1,24 @@
-// The node list of a match (01, Meaning of a match): a walk over the cells, down the expressions and up their parents. A walk notes nodes in words of its
-// own, the trail, and is gone to its end before a lent word is written, so that a refusal leaves them all as they were. What the trail does not hold is walked
-// again.
+// The node list of a match (01, Meaning of a match): a walk over the cells in two passes, down the expressions and up their parents.
 #![tactic(auto)]
 
-ghost use Rattle.std.specs.Prelude.{ℕ, ◌+◌, ◌*◌, ◌/◌, ◌≤◌, ◌<◌, ◌≡◌, true, false, [], ◌∷◌, ◌++◌, length};
+ghost use Rattle.std.specs.Prelude.{ℕ, ◌+◌, ◌*◌, ◌/◌, ◌≤◌, ◌<◌, ◌≡◌, ◌∷◌, ◌++◌, length};
 ghost use Rattle.grammar_table.specs.Table.{expression_count};
 ghost use Rattle.grammar_table.specs.Trees.{bodies_of};
 ghost use Rattle.match_meaning.specs.Meaning.{nd};
 ghost use Rattle.match_eval.specs.Eval.{cell_at};
 ghost use Rattle.match_eval.specs.steps.Memory.{Knows};
-ghost use Rattle.match_list.specs.Nodes.{list_of, listing_of, written, words_of, room_of};
-ghost use Rattle.match_list.specs.laws.Cut.{IsAll};
+ghost use Rattle.match_list.specs.Nodes.{list_of, listing_of, words_of, room_of};
 ghost use Rattle.match_desk.specs.steps.Desk.{Desk};
 ghost use Rattle.match_walks.specs.steps.Tasks.{enter as entering, after, listed, AllAble};
 ghost use Rattle.match_walks.specs.steps.Waits.{going, waiting, tasks_of, climb};
 ghost use Rattle.match_lone.specs.steps.Lanes.{Laid, Behind};
 ghost use Rattle.match_nodes.specs.steps.Passes.{out, note as noted, run, decode};
-ghost use Rattle.match_nodes.specs.steps.Trails.{Grows};
-ghost use Rattle.match_nodes.specs.steps.Turns.{Ready, said, Left, State, Turned, Went};
+ghost use Rattle.match_nodes.specs.steps.Turns.{Ready, said, Left, State, Turned};
 ghost use Rattle.match_nodes.specs.steps.Lanes.{Laned, Strides};
 
 use grammar_table::Table;
 use match_eval::memory::Memory;
 use match_walks::{DONE, ENTER, OVER, Stand, WALK, rise, walk};
-use trail::{Chunk, Trail};
-
-mod trail;
 
 // All: how many nodes. Deep, Full: the number of the first node that is too deep, that has no room.
 #[derive(Clone, Copy)]
@@ -44,13 +37,13 @@ const NO_ROOM: usize = 9223372036854775808;
 // No expression: where the start symbol is used.
 const NOWHERE: usize = 2047;
 
-// What a pass keeps: how many symbols, how many nodes there is room for, how many words of the desk's lanes are laid, and the count of nodes at which it stops.
+// What a pass keeps: how many symbols, how many nodes there is room for, how many words of the desk's lanes are laid, and whether it writes.
 #[derive(Clone, Copy)]
 struct Setting {
     n: usize,
     room: usize,
     lanes: usize,
-    limit: usize,
+    write: usize,
 }
 
 // A pass under way.
@@ -78,18 +71,20 @@ struct Reached {
 }
 
 // One node: its number, or the refusal. "11 and 12: the first node in list order that offends, then 11".
-fn note(trail: &mut Trail, room: usize, at: usize, r: usize, p: usize, d: usize) -> usize
-    requires { (at < 4611686018427387904) × (r < 64) × (p ≤ 65535) }
-    ensures { ((q : ℕ) → result ≡ noted room at (nd r p q d)) × (result < 4611686018427387904 → result ≤ at + 1)
-        × (result < 4611686018427387904 → (q : ℕ) → Grows trail.old trail.new (nd r p q d ∷ [])) }
+fn note(nodes: &mut [u32], g: Setting, at: usize, r: usize, p: usize, q: usize, d: usize) -> usize
+    requires { (at < 4611686018427387904) × (r < 4294967296) × (p < 4294967296) × (q < 4294967296) × (d < 4294967296) }
+    ensures { out nodes.new result ≡ noted g.room g.write (out nodes.old at) (nd r p q d) }
 {
     if DEEPEST < d {
         return at + REFUSED;
     }
-    if room <= at {
+    if g.room <= at {
         return NO_ROOM;
     }
-    trail::keep(trail, r, p, d);
+    if g.write == 0 {
+        return at + 1;
+    }
+    match_list::put_node(nodes, at, r, p, q, d);
     at + 1
 }
 
@@ -98,7 +93,7 @@ fn enter(
     t: &[u32],
     s: &[u8],
     cells: &[u32],
-    trail: &mut Trail,
+    nodes: &mut [u32],
     g: Setting,
     desk: &mut [u32],
     e: Entry,
@@ -107,18 +102,19 @@ fn enter(
         × (e.level ≤ 256) × (e.x < 4294967296) × (e.place ≤ length s.now) × (cell_at s.now cells.now g.n e.symbol e.place ≡ 0 → ⊥)
         × AllAble t.now s.now cells.now g.n (going t.now desk.old e.level e.x ++ waiting t.now desk.old e.level)
         (after t.now s.now cells.now g.n (entering e.symbol e.level) e.place) }
-    ensures { Turned t.now s.now cells.now g.n g.room (out trail.old e.at) (out trail.new result.at)
+    ensures { Turned t.now s.now cells.now g.n g.room g.write (out nodes.old e.at)
+        (out nodes.new result.at)
         (entering e.symbol e.level
         ∷ (going t.now desk.old e.level e.x ++ waiting t.now desk.old e.level))
         e.place 0 desk.new result.mode result.level result.x result.place
-        × Behind desk.old desk.new × (result.at < 4611686018427387904 → result.at ≤ e.at + 1) }
+        × Behind desk.old desk.new }
 {
     let r = e.symbol;
     let d = e.level;
     let p = e.place;
     let c = match_eval::cell_at(s, cells, g.n, r, p);
     let b = grammar_table::records::body(t, r);
-    let v = note(trail, g.room, e.at, r, p, d);
+    let v = note(nodes, g, e.at, r, p, p + (c - 1), d);
     let holds = base_words::word(desk, b);
     if holds == 0 {
         return Stand {
@@ -171,7 +167,7 @@ fn by_byte(
     s: &[u8],
     cells: &[u32],
     mem: &Memory,
-    trail: &mut Trail,
+    nodes: &mut [u32],
     desk: &[u32],
     tour: Tour,
 ) -> Reached
@@ -179,9 +175,8 @@ fn by_byte(
         × (tour.stand.at < 4611686018427387904) × (tour.stand.level ≤ 256) × (tour.stand.x ≤ expression_count t.now)
         × (tour.stand.place ≤ length s.now) × Knows t.now s.now cells.now tour.setting.n mem.now 0 0
         × Laid t.now mem.now desk.now tour.setting.lanes }
-    ensures { Laned t.now s.now cells.now tour.setting.n tour.setting.room
-        (out trail.old tour.stand.at) (out trail.new result.at) tour.stand.x tour.stand.level tour.stand.place result.place
-        × (result.at < 4611686018427387904 → result.at ≤ tour.stand.at + 1) }
+    ensures { Laned t.now s.now cells.now tour.setting.n tour.setting.room tour.setting.write
+        (out nodes.old tour.stand.at) (out nodes.new result.at) tour.stand.x tour.stand.level tour.stand.place result.place }
 {
     let g = tour.setting;
     let st = tour.stand;
@@ -200,30 +195,29 @@ fn by_byte(
             at: st.at,
         };
     }
-    let v = note(trail, g.room, st.at, r, p, st.level);
+    let v = note(nodes, g, st.at, r, p, p + 1, st.level);
     Reached {
         place: p + 1,
         at: v,
     }
 }
 
-// Such rounds one after the other, as many as there are, or up to the limit.
+// Such rounds one after the other, as many as there are.
 fn stride(
     t: &Table,
     s: &[u8],
     cells: &[u32],
     mem: &Memory,
-    trail: &mut Trail,
+    nodes: &mut [u32],
     desk: &[u32],
     tour: Tour,
 ) -> Reached
     requires { Ready t.now s.now cells.now tour.setting.n × Desk t.now desk.now (expression_count t.now)
-        × (tour.stand.at < tour.setting.limit) × (tour.stand.level ≤ 256) × (tour.stand.x ≤ expression_count t.now)
+        × (tour.stand.at < 4611686018427387904) × (tour.stand.level ≤ 256) × (tour.stand.x ≤ expression_count t.now)
         × (tour.stand.place ≤ length s.now) × Knows t.now s.now cells.now tour.setting.n mem.now 0 0
-        × Laid t.now mem.now desk.now tour.setting.lanes × (tour.setting.limit ≤ 4611686018427387904) }
-    ensures { Laned t.now s.now cells.now tour.setting.n tour.setting.room
-        (out trail.old tour.stand.at) (out trail.new result.at) tour.stand.x tour.stand.level tour.stand.place result.place
-        × (result.at < 4611686018427387904 → result.at ≤ tour.setting.limit) }
+        × Laid t.now mem.now desk.now tour.setting.lanes }
+    ensures { Laned t.now s.now cells.now tour.setting.n tour.setting.room tour.setting.write
+        (out nodes.old tour.stand.at) (out nodes.new result.at) tour.stand.x tour.stand.level tour.stand.place result.place }
 {
     let g = tour.setting;
     let first = tour.stand;
@@ -241,13 +235,13 @@ fn stride(
             setting: g,
             stand: st,
         };
-        let l = by_byte(t, s, cells, mem, trail, desk, now);
+        let l = by_byte(t, s, cells, mem, nodes, desk, now);
         if l.place == q {
             return l;
         }
         q = l.place;
         at = l.at;
-        if g.limit <= at {
+        if REFUSED <= at {
             return Reached { place: q, at: at };
         }
     }
@@ -260,21 +254,20 @@ fn lane(
     s: &[u8],
     cells: &[u32],
     mem: &Memory,
-    trail: &mut Trail,
+    nodes: &mut [u32],
     desk: &[u32],
     tour: Tour,
 ) -> Reached
     requires { Ready t.now s.now cells.now tour.setting.n × Desk t.now desk.now (expression_count t.now)
-        × (tour.stand.at < tour.setting.limit) × (tour.stand.level ≤ 256) × (tour.stand.x < 4294967296)
+        × (tour.stand.at < 4611686018427387904) × (tour.stand.level ≤ 256) × (tour.stand.x < 4294967296)
         × (tour.stand.place ≤ length s.now) × Knows t.now s.now cells.now tour.setting.n mem.now 0 0
-        × Laid t.now mem.now desk.now tour.setting.lanes × (tour.setting.limit ≤ 4611686018427387904) }
-    ensures { Strides t.now s.now cells.now tour.setting.n tour.setting.room desk.now
-        (out trail.old tour.stand.at) (out trail.new result.at) tour.stand.x tour.stand.level tour.stand.place result.place
-        × (result.at < 4611686018427387904 → result.at ≤ tour.setting.limit) }
+        × Laid t.now mem.now desk.now tour.setting.lanes }
+    ensures { Strides t.now s.now cells.now tour.setting.n tour.setting.room tour.setting.write desk.now
+        (out nodes.old tour.stand.at) (out nodes.new result.at) tour.stand.x tour.stand.level tour.stand.place result.place }
 {
     let st = tour.stand;
     if match_lone::repeats(t, desk, st.x) {
-        return stride(t, s, cells, mem, trail, desk, tour);
+        return stride(t, s, cells, mem, nodes, desk, tour);
     }
     Reached {
         place: st.place,
@@ -288,19 +281,18 @@ fn turn(
     s: &[u8],
     cells: &[u32],
     mem: &Memory,
-    trail: &mut Trail,
+    nodes: &mut [u32],
     desk: &mut [u32],
     tour: Tour,
 ) -> Stand
-    requires { Ready t.now s.now cells.now tour.setting.n × (tour.stand.at < tour.setting.limit) × (0 < tour.stand.mode)
+    requires { Ready t.now s.now cells.now tour.setting.n × (tour.stand.at < 4611686018427387904) × (0 < tour.stand.mode)
         × State t.now s.now cells.now tour.setting.n desk.old tour.stand.mode tour.stand.level tour.stand.x tour.stand.place
-        × Knows t.now s.now cells.now tour.setting.n mem.now 0 0 × Laid t.now mem.now desk.old tour.setting.lanes
-        × (tour.setting.limit ≤ 4611686018427387904) }
-    ensures { Turned t.now s.now cells.now tour.setting.n tour.setting.room
-        (out trail.old tour.stand.at) (out trail.new result.at)
+        × Knows t.now s.now cells.now tour.setting.n mem.now 0 0 × Laid t.now mem.now desk.old tour.setting.lanes }
+    ensures { Turned t.now s.now cells.now tour.setting.n tour.setting.room tour.setting.write
+        (out nodes.old tour.stand.at) (out nodes.new result.at)
         (tasks_of t.now desk.old tour.stand.mode tour.stand.level tour.stand.x) tour.stand.place
         (climb tour.stand.mode tour.stand.level tour.stand.x) desk.new result.mode result.level result.x result.place
-        × Behind desk.old desk.new × (result.at < 4611686018427387904 → result.at ≤ tour.setting.limit) }
+        × Behind desk.old desk.new }
 {
     let g = tour.setting;
     let st = tour.stand;
@@ -319,7 +311,7 @@ fn turn(
         if m.x != st.x {
             return up;
         }
-        let l = lane(t, s, cells, mem, trail, desk, tour);
+        let l = lane(t, s, cells, mem, nodes, desk, tour);
         if l.place == st.place {
             return up;
         }
@@ -337,7 +329,7 @@ fn turn(
             t,
             s,
             cells,
-            trail,
+            nodes,
             g,
             desk,
             Entry {
@@ -358,27 +350,24 @@ fn turn(
     }
 }
 
-// The turns from a stand on, to the end or up to the limit: how the pass stands then, with the count of nodes or, above 2^62, the refusal.
+// The turns from a stand on: the count of all nodes or, above 2^62, the refusal.
 fn go_on(
     t: &Table,
     s: &[u8],
     cells: &[u32],
     mem: &Memory,
-    trail: &mut Trail,
+    nodes: &mut [u32],
     desk: &mut [u32],
     tour: Tour,
-) -> Stand
-    requires { Ready t.now s.now cells.now tour.setting.n × (tour.stand.at < tour.setting.limit)
+) -> usize
+    requires { Ready t.now s.now cells.now tour.setting.n × (tour.stand.at < 4611686018427387904)
         × State t.now s.now cells.now tour.setting.n desk.old tour.stand.mode tour.stand.level tour.stand.x tour.stand.place
-        × Knows t.now s.now cells.now tour.setting.n mem.now 0 0 × Laid t.now mem.now desk.old tour.setting.lanes
-        × (tour.setting.limit ≤ 4611686018427387904) }
-    ensures { Went t.now s.now cells.now tour.setting.n tour.setting.room
-        (out trail.old tour.stand.at) (out trail.new result.at)
+        × Knows t.now s.now cells.now tour.setting.n mem.now 0 0 × Laid t.now mem.now desk.old tour.setting.lanes }
+    ensures { (out nodes.new result
+        ≡ run tour.setting.room tour.setting.write (out nodes.old tour.stand.at)
         (listed t.now s.now cells.now tour.setting.n
-        (tasks_of t.now desk.old tour.stand.mode tour.stand.level tour.stand.x) tour.stand.place)
-        desk.new result.mode result.level result.x result.place
-        × Behind desk.old desk.new × (result.at < tour.setting.limit → result.mode ≡ 0)
-        × (result.at < 4611686018427387904 → result.at ≤ tour.setting.limit) }
+        (tasks_of t.now desk.old tour.stand.mode tour.stand.level tour.stand.x) tour.stand.place))
+        × Desk t.now desk.new (expression_count t.now) × Behind desk.old desk.new }
 {
     let g = tour.setting;
     let first = tour.stand;
@@ -399,60 +388,44 @@ fn go_on(
             setting: g,
             stand: st,
         };
-        let next = turn(t, s, cells, mem, trail, desk, now);
+        let next = turn(t, s, cells, mem, nodes, desk, now);
         at = next.at;
+        if REFUSED <= at {
+            return at;
+        }
         mode = next.mode;
         d = next.level;
         x = next.x;
         p = next.place;
-        if g.limit <= at {
-            return Stand {
-                mode: mode,
-                level: d,
-                x: x,
-                place: p,
-                at: at,
-            };
-        }
     }
-    Stand {
-        mode: mode,
-        level: d,
-        x: x,
-        place: p,
-        at: at,
-    }
+    at
 }
 
-// How a pass stands before its first turn: the start symbol is entered, if it matches.
-fn start(
+// One pass, from the start symbol on. With flag 0 it only looks.
+fn pass(
     t: &Table,
     s: &[u8],
     cells: &[u32],
-    trail: &mut Trail,
+    mem: &Memory,
+    nodes: &mut [u32],
     g: Setting,
     desk: &mut [u32],
-) -> Stand
-    requires { Ready t.now s.now cells.now g.n × Desk t.now desk.old (expression_count t.now) }
-    ensures { Went t.now s.now cells.now g.n g.room (out trail.old 0) (out trail.new result.at)
-        (list_of (bodies_of t.now) s.now cells.now) desk.new result.mode result.level result.x result.place
-        × Behind desk.old desk.new × (result.at < 4611686018427387904 → result.at ≤ 1) }
+) -> usize
+    requires { Ready t.now s.now cells.now g.n × Desk t.now desk.old (expression_count t.now)
+        × Knows t.now s.now cells.now g.n mem.now 0 0 × Laid t.now mem.now desk.old g.lanes }
+    ensures { (out nodes.new result
+        ≡ run g.room g.write (out nodes.old 0) (list_of (bodies_of t.now) s.now cells.now))
+        × Desk t.now desk.new (expression_count t.now) × Behind desk.old desk.new }
 {
     let c = match_eval::cell_at(s, cells, g.n, 0, 0);
     if c == 0 {
-        return Stand {
-            mode: OVER,
-            level: 0,
-            x: 0,
-            place: 0,
-            at: 0,
-        };
+        return 0;
     }
-    enter(
+    let first = enter(
         t,
         s,
         cells,
-        trail,
+        nodes,
         g,
         desk,
         Entry {
@@ -462,7 +435,15 @@ fn start(
             place: 0,
             at: 0,
         },
-    )
+    );
+    if REFUSED <= first.at {
+        return first.at;
+    }
+    let tour = Tour {
+        setting: g,
+        stand: first,
+    };
+    go_on(t, s, cells, mem, nodes, desk, tour)
 }
 
 // A pass's number as an answer.
@@ -478,111 +459,6 @@ fn answer(room: usize, v: usize) -> Listed
     Listed::Full(room)
 }
 
-// The nodes of a list that a trail cannot hold, known to have room: a pass anew, one trail behind the other.
-fn write_long(
-    t: &Table,
-    s: &[u8],
-    cells: &[u32],
-    mem: &Memory,
-    g: Setting,
-    desk: &mut [u32; match_desk::WORDS],
-    nodes: &mut [u32],
-)
-    requires { Ready t.now s.now cells.now g.n × Knows t.now s.now cells.now g.n mem.now 0 0
-        × Desk t.now desk.old (expression_count t.now) × Laid t.now mem.now desk.old g.lanes × (g.room < 4611686018427387904)
-        × (g.limit ≡ 24000) × IsAll (listing_of g.room 0 (list_of (bodies_of t.now) s.now cells.now)) }
-    ensures { nodes.new ≡ written nodes.old 0 (list_of (bodies_of t.now) s.now cells.now) }
-{
-    let n = g.n;
-    let mut trail: Trail = [0; trail::BYTES];
-    trail::clear(&mut trail);
-    let first = start(t, s, cells, &mut trail, g, desk);
-    let k = first.at;
-    trail::write(s, cells, n, &trail, nodes, Chunk { from: 0, count: k });
-    trail::clear(&mut trail);
-    let mut mode = first.mode;
-    let mut level = first.level;
-    let mut x = first.x;
-    let mut place = first.place;
-    let mut from = k;
-    while 0 < mode {
-        let here = Stand {
-            mode: mode,
-            level: level,
-            x: x,
-            place: place,
-            at: 0,
-        };
-        let tour = Tour {
-            setting: g,
-            stand: here,
-        };
-        let next = go_on(t, s, cells, mem, &mut trail, desk, tour);
-        let more = next.at;
-        mode = next.mode;
-        level = next.level;
-        x = next.x;
-        place = next.place;
-        let chunk = Chunk {
-            from: from,
-            count: more,
-        };
-        trail::write(s, cells, n, &trail, nodes, chunk);
-        trail::clear(&mut trail);
-        from += more;
-    }
-}
-
-// What a pass ends with, and whether its trail has all nodes.
-#[derive(Clone, Copy)]
-struct Passed {
-    v: usize,
-    whole: bool,
-}
-
-// One pass, from the start symbol on; if its trail has all nodes, they are written.
-fn list_short(
-    t: &Table,
-    s: &[u8],
-    cells: &[u32],
-    mem: &Memory,
-    g: Setting,
-    desk: &mut [u32; match_desk::WORDS],
-    nodes: &mut [u32],
-) -> Passed
-    requires { Ready t.now s.now cells.now g.n × Knows t.now s.now cells.now g.n mem.now 0 0
-        × Desk t.now desk.old (expression_count t.now) × Laid t.now mem.now desk.old g.lanes × (g.room < 4611686018427387904)
-        × (g.limit ≡ 4611686018427387904) }
-    ensures { (result.v ≡ run g.room 0 (list_of (bodies_of t.now) s.now cells.now))
-        × Desk t.now desk.new (expression_count t.now) × Behind desk.old desk.new
-        × (result.whole ≡ true → (result.v < 4611686018427387904)
-        × (nodes.new ≡ written nodes.old 0 (list_of (bodies_of t.now) s.now cells.now)))
-        × (result.whole ≡ false → nodes.new ≡ nodes.old) }
-{
-    let mut trail: Trail = [0; trail::BYTES];
-    trail::clear(&mut trail);
-    let first = start(t, s, cells, &mut trail, g, desk);
-    let a = first.at;
-    if REFUSED <= a {
-        return Passed { v: a, whole: false };
-    }
-    let tour = Tour {
-        setting: g,
-        stand: first,
-    };
-    let end = go_on(t, s, cells, mem, &mut trail, desk, tour);
-    let v = end.at;
-    if REFUSED <= v {
-        return Passed { v: v, whole: false };
-    }
-    let u = trail::used(&trail);
-    if trail::BYTES < u + trail::MOST {
-        return Passed { v: v, whole: false };
-    }
-    trail::write(s, cells, g.n, &trail, nodes, Chunk { from: 0, count: v });
-    Passed { v: v, whole: true }
-}
-
 // The nodes of the start symbol at 0 into the lent words, all or none. What filling the cells left in the memory is not evaluated again.
 pub fn list(t: &Table, s: &[u8], cells: &[u32], mem: &Memory, n: usize, nodes: &mut [u32]) -> Listed
     requires { Ready t.now s.now cells.now n × Knows t.now s.now cells.now n mem.now 0 0 }
@@ -594,26 +470,22 @@ pub fn list(t: &Table, s: &[u8], cells: &[u32], mem: &Memory, n: usize, nodes: &
     let mut desk: [u32; match_desk::WORDS] = [0; match_desk::WORDS];
     match_desk::learn_all(t, &mut desk);
     let lanes = match_lone::lay_all(t, mem, &mut desk);
-    let first = Setting {
+    let look_only = Setting {
         n: n,
         room: room,
         lanes: lanes,
-        limit: REFUSED,
+        write: 0,
     };
-    let l = list_short(t, s, cells, mem, first, &mut desk, nodes);
-    let v = l.v;
-    if l.whole {
-        return Listed::All(v);
-    }
+    let v = pass(t, s, cells, mem, nodes, look_only, &mut desk);
     if REFUSED <= v {
         return answer(room, v);
     }
-    let again = Setting {
+    let writing = Setting {
         n: n,
         room: room,
         lanes: lanes,
-        limit: trail::NODES,
+        write: 1,
     };
-    write_long(t, s, cells, mem, again, &mut desk, nodes);
-    Listed::All(v)
+    let i = pass(t, s, cells, mem, nodes, writing, &mut desk);
+    answer(room, i)
 }

@@ -1,12 +1,12 @@
 // Rounds that are remembered: at each place that is done, entries for each key (01, Meaning of a match). What the words of the memory are: match_eval.
 #![tactic(auto)]
 
-ghost use Rattle.std.specs.Prelude.{ℕ, ◌+◌, ◌<◌, ◌≤◌, ◌≡◌, List, get_or, length};
+ghost use Rattle.std.specs.Prelude.{ℕ, ◌+◌, ◌<◌, ◌≤◌, ◌≡◌, get_or, length};
 ghost use Rattle.grammar_table.specs.Trees.{tree_of};
 ghost use Rattle.match_eval.specs.Eval.{ev};
 ghost use Rattle.match_eval.specs.steps.Firsts.{byte_at};
 ghost use Rattle.match_plan.specs.steps.Plan.{Takes};
-ghost use Rattle.match_eval.specs.steps.Memory.{Knows, Front, About, end_of, rounds_of};
+ghost use Rattle.match_eval.specs.steps.Memory.{Knows, Front, About, end_of};
 ghost use Rattle.match_rounds.specs.steps.Noted.{Noted, GoesOn};
 
 use base_words::{put, word};
@@ -116,45 +116,7 @@ pub struct First {
     pub a: usize,
 }
 
-// The bytes that rounds of a part take, the first of which is known.
-pub fn rounds_first(
-    t: &Table,
-    s: &[u8],
-    cells: &[u32],
-    mem: &Memory,
-    n: usize,
-    first: First,
-) -> usize
-    requires { ((n ≤ 64) × (first.y < 4294967296) × (length s.now ≤ 65535) × (first.p ≤ length s.now)
-        × (first.a ≡ ev s.now cells.now n (tree_of t.now first.y) first.p))
-        × Knows t.now s.now cells.now n mem.now 0 first.p }
-    ensures { result ≡ rounds_of t.now s.now cells.now n first.y first.p }
-{
-    if first.a <= 1 {
-        return 0;
-    }
-    let c = match_eval::many_at(t, s, cells, mem, n, first.y, first.p + (first.a - 1));
-    first.a - 1 + c
-}
-
-// Rounds of part y, if it has a key, are remembered: c bytes from p on. Where there are none, nothing need be. By which cells they were reckoned does not
-// matter, if they are the rounds by those for which the memory is right.
-pub fn remember_first(mem: &mut Memory, y: usize, p: usize, c: usize)
-    requires { p + c ≤ 65535 }
-    ensures { ((t s cs : List ℕ) (n : ℕ) → Knows t s cs n mem.old p p → c ≡ rounds_of t s cs n y p → Knows t s cs n mem.new p p)
-        × Front mem.old mem.new }
-{
-    let k = key(mem, y);
-    if k == 0 {
-        return;
-    }
-    if c == 0 {
-        return;
-    }
-    remember(mem, k, p, c);
-}
-
-// The rounds of a part, if it has a key, whose first is known.
+// The rounds of a part, if it has a key, whose first is known. Where there is none, nothing need be remembered.
 pub fn learn_first(t: &Table, s: &[u8], cells: &[u32], mem: &mut Memory, n: usize, first: First)
     requires { ((n ≤ 64) × (first.y < 4294967296) × (length s.now ≤ 65535) × (first.p ≤ length s.now)
         × (first.a ≡ ev s.now cells.now n (tree_of t.now first.y) first.p))
@@ -162,10 +124,15 @@ pub fn learn_first(t: &Table, s: &[u8], cells: &[u32], mem: &mut Memory, n: usiz
     ensures { Knows t.now s.now cells.now n mem.new first.p first.p
         × Front mem.old mem.new }
 {
-    let y = first.y;
-    let p = first.p;
-    let c = rounds_first(t, s, cells, mem, n, first);
-    remember_first(mem, y, p, c);
+    let k = key(mem, first.y);
+    if k == 0 {
+        return;
+    }
+    if first.a <= 1 {
+        return;
+    }
+    let c = match_eval::many_at(t, s, cells, mem, n, first.y, first.p + (first.a - 1));
+    remember(mem, k, first.p, first.a - 1 + c);
 }
 
 // The rounds of part y from p on, where the byte decides nothing.

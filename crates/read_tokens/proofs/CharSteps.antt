@@ -1,18 +1,18 @@
 -- The ways through a character, each as an equation. Assumes nothing.
 use Prim.Native.Nat.{ℕ, zero, suc, ◌+◌, ◌-◌, ◌*◌, ◌≤◌, ◌<◌}
-use mathlib.Core.Path.{◌≡◌, refl, sym, ap, ◌∙◌, subst}
-use mathlib.Core.Bool.{Bool, true, false, false≢true, cond, ◌&&◌}
+use mathlib.Core.Path.{◌≡◌, refl, sym, ap, ◌∙◌}
+use mathlib.Core.Bool.{true, false}
 use mathlib.Core.List.{List, [], ◌∷◌}
 use native.Mathlib.Omega.{arith}
 use native.Mathlib.Nat.{add-zero}
-use lib.Dec.{eqb, leb}
-use lib.ListN.{length, drop, get_or, get_or-eq_default, drop_of_length-le}
+use lib.Dec.{leb}
+use lib.ListN.{length, drop, get_or, drop_of_length-le}
 use lib.Seq.{get_or-drop, drop-cons}
 use native.Mathlib.Numerals.{add-one}
 use borrow.Author.Tests.{eq-eqb, ne_eqb, le-leb, lt-leb, leb-true}
 use Rattle.base_facts.specs.laws.Bools.{and_parts}
 use Rattle.read_tokens.specs.Bounds.{first_octal}
-use Rattle.read_tokens.specs.Chars.{Char, got, octal, octals, letters, four, char}
+use Rattle.read_tokens.specs.Chars.{got, octal, octals, letters, four, char}
 
 pub octal-low : (d : ℕ) → octal d ≡ true → 48 ≤ d
 octal-low d e = leb-true 48 d (and_parts (leb 48 d) (leb d 55) e).0

@@ -5,7 +5,7 @@ use mathlib.Core.Bool.{Bool, true, false, not, ◌||◌}
 use mathlib.Core.List.{List, [], ◌∷◌}
 use native.Mathlib.Omega.{arith}
 use native.Mathlib.Numerals.{add-one}
-use lib.Dec.{eqb, leb}
+use lib.Dec.{eqb}
 use lib.ListN.{length, drop, get_or, set, replicate, drop_of_length-le, length-drop, length-replicate}
 use lib.Seq.{drop-cons, drop-drop}
 use borrow.Author.Tests.{eq-eqb, ne_eqb, le-leb, lt-leb, eqb-true}
@@ -14,8 +14,8 @@ use Rattle.read_tokens.specs.declared.Mode.TheVariants.{Lake, Plain}
 use Rattle.read_tokens.specs.declared.classes.Item as declared
 use Rattle.read_tokens.specs.Token as spec
 use Rattle.read_tokens.specs.Token.{leaf, class}
-use Rattle.read_tokens.specs.Chars.{char, Range, range, Item, item, ranged, dashed, started, listed, Body, shut, broken, also, by_width, shut_by, body}
-use Rattle.read_tokens.specs.Tokens.{tok, bad_at, some_true, class_marks, class_token, class_by, bracket}
+use Rattle.read_tokens.specs.Chars.{char, Range, range, Item, item, ranged, dashed, started, listed, Body, shut, broken, also, by_width, body}
+use Rattle.read_tokens.specs.Tokens.{bad_at, some_true, class_marks, class_token, class_by, bracket}
 use Rattle.read_tokens.specs.laws.Tests.{by-test}
 use Rattle.read_tokens.specs.laws.Marks.{paint, paint_all, turn_all, painted, painted-turned, paints-length}
 use Rattle.read_tokens.specs.laws.Classes.{marks-length}

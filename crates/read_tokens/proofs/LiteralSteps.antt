@@ -1,13 +1,11 @@
 -- One turn of the loop over a literal. Assumes nothing.
 use Prim.Native.Nat.{ℕ, zero, suc, ◌+◌, ◌≤◌, ◌<◌}
 use mathlib.Core.Path.{◌≡◌, refl, sym, ap, ◌∙◌}
-use mathlib.Core.List.{List, [], ◌∷◌, map}
+use mathlib.Core.List.{List, [], ◌∷◌}
 use native.Mathlib.Omega.{arith}
 use native.Mathlib.Numerals.{add-one}
-use lib.Dec.{eqb}
 use lib.ListN.{length, drop, get_or, drop_of_length-le, length-map}
 use borrow.Author.Tests.{eq-eqb, ne_eqb}
-use Rattle.read_tokens.specs.declared.Token.{Token}
 use Rattle.read_tokens.specs.declared.chars.Char as declared
 use Rattle.read_tokens.specs.declared.chars.Count.{Count}
 use Rattle.read_tokens.specs.Chars.{char, Range, single, Body, shut, broken, also, by_width, body}

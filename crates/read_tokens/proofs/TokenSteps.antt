@@ -1,8 +1,7 @@
 -- The ways through blanks, names, lakes and a token's kind, each as an equation. Assumes nothing.
-use Prim.Native.Nat.{ℕ, zero, suc, ◌+◌, ◌-◌, ◌≤◌, ◌<◌}
-use mathlib.Core.Path.{◌≡◌, refl, sym, ap, ◌∙◌, subst}
-use mathlib.Core.Bool.{Bool, true, false, cond, ◌||◌}
-use mathlib.Core.Option.{none, some}
+use Prim.Native.Nat.{ℕ, suc, ◌+◌, ◌-◌, ◌≤◌, ◌<◌}
+use mathlib.Core.Path.{◌≡◌, refl, sym, ap, ◌∙◌}
+use mathlib.Core.Bool.{Bool, true, false, cond}
 use mathlib.Core.List.{List, [], ◌∷◌}
 use native.Mathlib.Omega.{arith}
 use native.Mathlib.Numerals.{add-one}
@@ -19,7 +18,6 @@ use Rattle.read_tokens.specs.Token.{lake, symbol, arrow}
 use Rattle.read_tokens.specs.Tokens.{tok, bad_at, blank_by, skip, name_byte, name_span, lake_by, angle, by_kind, token_from, token_at}
 use Rattle.read_tokens.specs.steps.Code.{kind_of, coded, made, named, laked}
 use Rattle.read_tokens.proofs.CharSteps.{suffix, first-at, get_d-inside}
-use Rattle.read_tokens.proofs.LiteralSteps.{bad-is}
 
 -- ── blanks ──
 pub skip-end : (m : Bool) (s : List ℕ) (i : ℕ) → length s ≤ i → skip m i (drop i s) ≡ i

@@ -1,7 +1,7 @@
 -- The kind of each byte of a grammar text, by ranges (01, Notation: "one table of 256 entries gives the kind of each byte").
 -- 0 no token begins with it; 1 blank; 2 name start; 3 digit; 4 `#`; 5 `(`; 6 `)`; 7 `/`; 8 `&` `!`; 9 `?` `*` `+`; 10 `.`; 11 quote; 12 `[`; 13 `<`.
 -- Assumes nothing: these are definitions.
-use Rattle.std.specs.Prelude.{ℕ, Bool, true, false, cond, ◌&&◌, List, [], ◌∷◌, leb}
+use Rattle.std.specs.Prelude.{ℕ, cond, ◌&&◌, List, [], ◌∷◌, leb}
 
 -- lo to hi, both included, and the kind of each byte between
 pub record Range : Type 0 where

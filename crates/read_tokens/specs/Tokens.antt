@@ -5,9 +5,9 @@ use Rattle.std.proofs.Math.Option.{Option, none, some}
 use Rattle.read_tokens.specs.Kinds.{kind_at}
 use Rattle.read_tokens.specs.declared.Mode.{Mode}
 use Rattle.read_tokens.specs.declared.Mode.TheVariants.{Lake, Plain}
-use Rattle.read_tokens.specs.Token.{Symbol, Leaf, Prefix, Suffix, Tok, Token, Lexeme, name, lake, any, literal, class, amp, bang, query}
+use Rattle.read_tokens.specs.Token.{Prefix, Suffix, Tok, Token, Lexeme, name, lake, any, literal, class, amp, bang, query}
 use Rattle.read_tokens.specs.Token.{asterisk, cross, symbol, leaf, pre, suf, arrow, slash, opens, closes, bad}
-use Rattle.read_tokens.specs.Chars.{Range, Item, Body, shut, broken, single, listed, body}
+use Rattle.read_tokens.specs.Chars.{Range, Body, shut, broken, single, listed, body}
 
 abbrev pub tok : Tok → ℕ → ℕ → Token
 tok t i n = record { is = some t; start = i; next = n }

@@ -1,4 +1,3 @@
-use borrow.Author.Rules.{rules}
 use Rattle.base_lines.specs.laws.Lines.{behind-end, behind-other}
 use Rattle.base_lines.proofs.place_behind.Goals as goal
 

@@ -2,7 +2,6 @@ use Prim.Native.Nat.{suc, ◌-◌, ◌≤◌}
 use mathlib.Core.Path.{refl}
 use native.Mathlib.Omega.{arith}
 use borrow.Author.Rules.{rules}
-use Rattle.base_lines.specs.steps.Behind.{Counted}
 use Rattle.base_lines.specs.laws.Counting.{counting-begins, counting-small, counting-goes-on, counting-ends}
 use Rattle.base_lines.proofs.place_of.Goals as goal
 

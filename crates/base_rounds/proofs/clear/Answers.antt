@@ -1,14 +1,13 @@
+use mathlib.Core.List.{[]}
 use Rattle.base_words.specs.Set.{empty}
 use Rattle.base_rounds.specs.laws.Sys.{empties}
 use lib.ListN.{length-replicate, get_or-replicate}
 use Rattle.base_rounds.specs.laws.Fill.{fill_more}
-use mathlib.Core.Path.{◌≡◌, refl, sym, ap, ◌∙◌}
-use mathlib.Core.List.{List, [], ◌∷◌}
-use Prim.Native.Nat.{ℕ, ◌≤◌, ◌<◌, ◌-◌}
+use mathlib.Core.Path.{refl, sym, ◌∙◌}
+use Prim.Native.Nat.{◌-◌}
 use native.Mathlib.Omega.{arith}
-use lib.ListN.{length, get_or, set, length-set}
+use lib.ListN.{length, length-set}
 use lib.Seq.{ext_get_or}
-use borrow.Author.Rules.{rules}
 use Rattle.base_rounds.proofs.clear.Goals as goal
 
 pub loop-i-init : goal.loop-i-init

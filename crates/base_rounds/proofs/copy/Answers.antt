@@ -1,11 +1,10 @@
+use mathlib.Core.List.{[]}
 use Rattle.base_rounds.specs.laws.Fill.{fill_more}
-use mathlib.Core.Path.{◌≡◌, refl, sym, ap, ◌∙◌}
-use mathlib.Core.List.{List, [], ◌∷◌}
-use Prim.Native.Nat.{ℕ, ◌≤◌, ◌<◌, ◌-◌}
+use mathlib.Core.Path.{refl}
+use Prim.Native.Nat.{◌-◌}
 use native.Mathlib.Omega.{arith}
-use lib.ListN.{length, get_or, set, length-set}
+use lib.ListN.{get_or, length-set}
 use lib.Seq.{ext_get_or}
-use borrow.Author.Rules.{rules}
 use Rattle.base_rounds.proofs.copy.Goals as goal
 
 pub loop-i-init : goal.loop-i-init

@@ -1,11 +1,7 @@
-use Rattle.base_rounds.specs.laws.Fill.{fill_more}
-use mathlib.Core.Path.{◌≡◌, refl, sym, ap, ◌∙◌}
-use mathlib.Core.List.{List, [], ◌∷◌}
+use mathlib.Core.List.{[]}
+use mathlib.Core.Path.{◌≡◌}
 use Prim.Native.Nat.{ℕ, ◌≤◌, ◌<◌, ◌-◌}
-use native.Mathlib.Omega.{arith}
-use lib.ListN.{length, get_or, set, length-set}
-use lib.Seq.{ext_get_or}
-use borrow.Author.Rules.{rules}
+use lib.ListN.{length, get_or}
 use Rattle.base_rounds.proofs.copy.Given as goal
 
 abbrev pub invariant-loop-i : goal.invariant-loop-i

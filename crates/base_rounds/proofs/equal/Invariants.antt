@@ -1,13 +1,7 @@
-use borrow.Author.Tests.{not-true, not-false}
-use borrow.Author.Count.{below_more}
-use Rattle.base_words.specs.steps.Decides.{decides-true, decides-false}
-use mathlib.Core.Path.{◌≡◌, refl, sym, ap, ◌∙◌}
-use mathlib.Core.List.{List, [], ◌∷◌}
+use mathlib.Core.List.{[]}
+use mathlib.Core.Path.{◌≡◌}
 use Prim.Native.Nat.{ℕ, ◌≤◌, ◌<◌, ◌-◌}
-use native.Mathlib.Omega.{arith}
-use lib.ListN.{length, get_or, set, length-set}
-use lib.Seq.{ext_get_or}
-use borrow.Author.Rules.{rules}
+use lib.ListN.{length, get_or}
 use Rattle.base_rounds.proofs.equal.Given as goal
 
 abbrev pub invariant-loop-i : goal.invariant-loop-i

@@ -1,14 +1,12 @@
+use mathlib.Core.List.{[]}
 use Rattle.base_words.specs.Set.{union_of}
-use Rattle.base_rounds.specs.laws.Sys.{edge}
 use borrow.Author.Rules.{scaled_Fits}
 use Rattle.base_rounds.specs.laws.Sys.{pushed, pushed_more}
-use mathlib.Core.Path.{◌≡◌, refl, sym, ap, ◌∙◌}
-use mathlib.Core.List.{List, [], ◌∷◌}
-use Prim.Native.Nat.{ℕ, ◌≤◌, ◌<◌, ◌-◌}
+use mathlib.Core.Path.{◌≡◌, sym, ap, ◌∙◌}
+use mathlib.Core.List.{List}
+use Prim.Native.Nat.{ℕ, ◌-◌}
 use native.Mathlib.Omega.{arith}
 use lib.ListN.{length, get_or, set, length-set}
-use lib.Seq.{ext_get_or}
-use borrow.Author.Rules.{rules}
 use Rattle.base_rounds.proofs.push.Goals as goal
 
 pub offset_bounds-new-d : goal.offset_bounds-new-d

@@ -1,14 +1,7 @@
-use Rattle.base_words.specs.Set.{union_of}
-use Rattle.base_rounds.specs.laws.Sys.{edge}
-use borrow.Author.Rules.{scaled_Fits}
-use Rattle.base_rounds.specs.laws.Sys.{pushed, pushed_more}
-use mathlib.Core.Path.{◌≡◌, refl, sym, ap, ◌∙◌}
-use mathlib.Core.List.{List, [], ◌∷◌}
-use Prim.Native.Nat.{ℕ, ◌≤◌, ◌<◌, ◌-◌}
-use native.Mathlib.Omega.{arith}
-use lib.ListN.{length, get_or, set, length-set}
-use lib.Seq.{ext_get_or}
-use borrow.Author.Rules.{rules}
+use Rattle.base_rounds.specs.laws.Sys.{pushed}
+use mathlib.Core.Path.{◌≡◌}
+use Prim.Native.Nat.{◌≤◌, ◌-◌}
+use lib.ListN.{length}
 use Rattle.base_rounds.proofs.push.Given as goal
 
 abbrev pub invariant-loop-e : goal.invariant-loop-e

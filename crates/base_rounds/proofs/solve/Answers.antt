@@ -1,12 +1,7 @@
-use mathlib.Core.Path.{◌≡◌, refl, sym, ap, ◌∙◌}
-use mathlib.Core.List.{List, []}
-use Prim.Native.Nat.{ℕ, suc, ◌+◌, ◌≤◌, ◌<◌, ◌-◌, ◌*◌}
+use mathlib.Core.Path.{ap, ◌∙◌}
+use Prim.Native.Nat.{◌+◌, ◌-◌}
 use native.Mathlib.Omega.{arith}
-use lib.ListN.{length, get_or}
-use Rattle.base_rounds.specs.laws.Cells.{Every}
-use Rattle.base_rounds.specs.laws.Pair.{Set2}
-use Rattle.base_rounds.specs.laws.Sys.{empties, round_of, round_at, Moved, round-next, moved-next, few}
-use borrow.Author.Rules.{rules}
+use Rattle.base_rounds.specs.laws.Sys.{empties, round-next, moved-next, few}
 use Rattle.base_rounds.proofs.solve.Goals as goal
 
 pub loop-k-init : goal.loop-k-init

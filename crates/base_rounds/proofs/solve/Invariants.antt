@@ -1,12 +1,7 @@
-use mathlib.Core.Path.{◌≡◌, refl, sym, ap, ◌∙◌}
-use mathlib.Core.List.{List, []}
-use Prim.Native.Nat.{ℕ, suc, ◌+◌, ◌≤◌, ◌<◌, ◌-◌, ◌*◌}
-use native.Mathlib.Omega.{arith}
-use lib.ListN.{length, get_or}
-use Rattle.base_rounds.specs.laws.Cells.{Every}
-use Rattle.base_rounds.specs.laws.Pair.{Set2}
-use Rattle.base_rounds.specs.laws.Sys.{empties, round_of, round_at, Moved, round-next, moved-next, few}
-use borrow.Author.Rules.{rules}
+use mathlib.Core.Path.{◌≡◌}
+use Prim.Native.Nat.{◌-◌, ◌*◌}
+use lib.ListN.{length}
+use Rattle.base_rounds.specs.laws.Sys.{round_at, Moved}
 use Rattle.base_rounds.proofs.solve.Given as goal
 
 abbrev pub invariant-loop-k : goal.invariant-loop-k

@@ -1,11 +1,10 @@
-use mathlib.Core.Path.{◌≡◌, sym, ap, ◌∙◌}
+use mathlib.Core.Path.{sym, ap, ◌∙◌}
 use mathlib.Core.List.{List}
 use Prim.Native.Nat.{ℕ}
 use lib.ListN.{length}
 use native.Mathlib.Omega.{arith}
 use borrow.Author.Tests.{not-true, not-false}
 use Rattle.base_rounds.specs.laws.Sys.{shaped-at, pushed}
-use borrow.Author.Rules.{rules}
 use Rattle.base_rounds.proofs.step.Goals as goal
 
 pub push-requires : goal.push-requires

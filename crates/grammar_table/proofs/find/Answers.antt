@@ -1,9 +1,7 @@
-use Prim.Native.Nat.{ℕ, ◌+◌, ◌-◌, ◌*◌, ◌≤◌}
+use Prim.Native.Nat.{ℕ, ◌+◌, ◌-◌, ◌*◌}
 use mathlib.Core.Path.{◌≡◌, sym, ap, ◌∙◌}
 use native.Mathlib.Omega.{arith}
-use Rattle.grammar_table.specs.steps.Rows.{seek}
 use Rattle.grammar_table.specs.laws.Seeks.{seek-whole, seek_hit, seek-on, seek-end, left-on}
-use borrow.Author.Rules.{rules}
 use Rattle.grammar_table.proofs.find.Goals as goal
 
 pub loop-i-init : goal.loop-i-init

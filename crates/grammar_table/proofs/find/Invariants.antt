@@ -1,9 +1,6 @@
-use Prim.Native.Nat.{ℕ, ◌+◌, ◌-◌, ◌*◌, ◌≤◌}
-use mathlib.Core.Path.{◌≡◌, sym, ap, ◌∙◌}
-use native.Mathlib.Omega.{arith}
+use Prim.Native.Nat.{◌+◌, ◌-◌, ◌*◌, ◌≤◌}
+use mathlib.Core.Path.{◌≡◌}
 use Rattle.grammar_table.specs.steps.Rows.{seek}
-use Rattle.grammar_table.specs.laws.Seeks.{seek-whole, seek_hit, seek-on, seek-end, left-on}
-use borrow.Author.Rules.{rules}
 use Rattle.grammar_table.proofs.find.Given as goal
 
 abbrev pub invariant-loop-i : goal.invariant-loop-i

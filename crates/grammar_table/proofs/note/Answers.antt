@@ -3,7 +3,6 @@ use native.Mathlib.Omega.{arith}
 use native.Mathlib.Nat.{mul-suc}
 use Rattle.grammar_table.specs.laws.Caps.{cap-le}
 use Rattle.grammar_table.specs.laws.Seeks.{mul-le, noted-known, noted-added, noted-over}
-use borrow.Author.Rules.{rules}
 use Rattle.grammar_table.proofs.note.Goals as goal
 
 pub find-r-requires : goal.find-r-requires

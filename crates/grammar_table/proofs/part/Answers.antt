@@ -1,6 +1,5 @@
 use native.Mathlib.Omega.{arith}
 use Rattle.grammar_table.specs.laws.Trees.{below_in, below_out}
-use borrow.Author.Rules.{rules}
 use Rattle.grammar_table.proofs.part.Goals as goal
 
 pub returns-then-i-e : goal.returns-then-i-e

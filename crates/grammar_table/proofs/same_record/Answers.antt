@@ -1,7 +1,6 @@
 use Prim.Native.Nat.{◌-◌}
 use mathlib.Core.Path.{sym, ◌∙◌}
 use Rattle.grammar_table.specs.laws.Compared.{row_first, row-rest}
-use borrow.Author.Rules.{rules}
 use Rattle.grammar_table.proofs.same_record.Goals as goal
 
 pub returns-then-x-y : goal.returns-then-x-y

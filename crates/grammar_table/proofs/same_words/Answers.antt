@@ -1,10 +1,6 @@
-use Prim.Native.Nat.{◌+◌, ◌-◌, ◌*◌, ◌≤◌, ◌<◌}
-use mathlib.Core.Path.{◌≡◌, refl, sym, ap, ◌∙◌}
-use native.Mathlib.Omega.{arith}
-use Rattle.grammar.specs.Same.{same_bytes}
-use Rattle.grammar_table.specs.Table.{words_from}
-use Rattle.grammar_table.proofs.Steps.{rest, rest-whole, rest-on, rest-not, rest_end}
-use borrow.Author.Rules.{rules}
+use Prim.Native.Nat.{◌-◌}
+use mathlib.Core.Path.{sym, ◌∙◌}
+use Rattle.grammar_table.proofs.Steps.{rest-whole, rest-on, rest-not, rest_end}
 use Rattle.grammar_table.proofs.same_words.Goals as goal
 
 pub loop-k-init : goal.loop-k-init

@@ -1,10 +1,8 @@
-use Prim.Native.Nat.{◌+◌, ◌-◌, ◌*◌, ◌≤◌, ◌<◌}
-use mathlib.Core.Path.{◌≡◌, refl, sym, ap, ◌∙◌}
-use native.Mathlib.Omega.{arith}
+use Prim.Native.Nat.{◌-◌}
+use mathlib.Core.Path.{◌≡◌}
 use Rattle.grammar.specs.Same.{same_bytes}
 use Rattle.grammar_table.specs.Table.{words_from}
-use Rattle.grammar_table.proofs.Steps.{rest, rest-whole, rest-on, rest-not, rest_end}
-use borrow.Author.Rules.{rules}
+use Rattle.grammar_table.proofs.Steps.{rest}
 use Rattle.grammar_table.proofs.same_words.Given as goal
 
 abbrev pub invariant-loop-k : goal.invariant-loop-k

@@ -1,12 +1,10 @@
-use Prim.Native.Nat.{ℕ, ◌+◌, ◌-◌, ◌*◌, ◌≤◌, ◌<◌}
-use mathlib.Core.Path.{◌≡◌, refl, sym, ap, ◌∙◌}
-use native.Mathlib.Omega.{arith}
+use Prim.Native.Nat.{ℕ, ◌+◌, ◌-◌}
+use mathlib.Core.Path.{sym, ap, ◌∙◌}
 use mathlib.Core.List.{List}
 use lib.ListN.{length}
 use lib.Seq.{sets, length-sets}
 use Rattle.grammar_table.specs.Table.{words_from}
 use Rattle.grammar_table.proofs.Steps.{stores-whole, stores-on, stores-end}
-use borrow.Author.Rules.{rules}
 use Rattle.grammar_table.proofs.store.Goals as goal
 
 pub loop-k-init : goal.loop-k-init

@@ -1,12 +1,7 @@
-use Prim.Native.Nat.{ℕ, ◌+◌, ◌-◌, ◌*◌, ◌≤◌, ◌<◌}
-use mathlib.Core.Path.{◌≡◌, refl, sym, ap, ◌∙◌}
-use native.Mathlib.Omega.{arith}
-use mathlib.Core.List.{List}
-use lib.ListN.{length}
-use lib.Seq.{sets, length-sets}
+use Prim.Native.Nat.{◌+◌, ◌-◌}
+use mathlib.Core.Path.{◌≡◌}
+use lib.Seq.{sets}
 use Rattle.grammar_table.specs.Table.{words_from}
-use Rattle.grammar_table.proofs.Steps.{stores-whole, stores-on, stores-end}
-use borrow.Author.Rules.{rules}
 use Rattle.grammar_table.proofs.store.Given as goal
 
 abbrev pub invariant-loop-k : goal.invariant-loop-k

@@ -1,13 +1,10 @@
 use lib.ListN.{drop}
-use mathlib.Core.Path.{◌≡◌, refl, sym, ap, ap₂, ◌∙◌, subst}
-use mathlib.Core.List.{List, [], ◌∷◌, ◌++◌}
-use Prim.Native.Nat.{ℕ, ◌+◌, ◌*◌, ◌-◌, ◌^◌, ◌≤◌, ◌<◌}
-use mathlib.Core.Bool.{Bool, true, false}
+use mathlib.Core.Path.{◌≡◌, sym, ◌∙◌}
+use Prim.Native.Nat.{◌-◌}
 use native.Mathlib.Omega.{arith}
-use lib.ListN.{length, get_or, set, take}
+use lib.ListN.{length, take}
 use lib.Seq.{length-take-le, take_at}
-use Rattle.lake_analysis.specs.laws.Joined.{joined, parted-as, sets_of}
-use borrow.Author.Rules.{rules}
+use Rattle.lake_analysis.specs.laws.Joined.{parted-as}
 use Rattle.lake_analysis.proofs.analyse_front.Goals as goal
 
 pub slice_bounds-analyse-end-2 : goal.slice_bounds-analyse-end-2

@@ -1,13 +1,9 @@
 use Rattle.lake_sets.specs.steps.Analysed.{Analysed}
 use Rattle.lake_rules.specs.Analysis.{analysis}
-use mathlib.Core.Path.{◌≡◌, refl, sym, ap, ap₂, ◌∙◌, subst}
-use mathlib.Core.List.{List, [], ◌∷◌, ◌++◌}
-use Prim.Native.Nat.{ℕ, ◌+◌, ◌*◌, ◌-◌, ◌^◌, ◌≤◌, ◌<◌}
-use mathlib.Core.Bool.{Bool, true, false}
+use mathlib.Core.Path.{subst}
+use Prim.Native.Nat.{ℕ, ◌-◌}
 use native.Mathlib.Omega.{arith}
-use lib.ListN.{length, get_or, set, take}
-use Rattle.lake_analysis.specs.laws.Joined.{joined, parted-as, sets_of}
-use borrow.Author.Rules.{rules}
+use lib.ListN.{get_or, take}
 use Rattle.lake_analysis.proofs.analyse_table.Goals as goal
 
 pub returns-then-r-gt64 : goal.returns-then-r-gt64

@@ -1,12 +1,9 @@
-use mathlib.Core.Path.{◌≡◌, refl, sym, ap, ap₂, ◌∙◌, subst}
-use mathlib.Core.List.{List, [], ◌∷◌, ◌++◌}
-use Prim.Native.Nat.{ℕ, ◌+◌, ◌*◌, ◌-◌, ◌^◌, ◌≤◌, ◌<◌}
-use mathlib.Core.Bool.{Bool, true, false, cond, not, ◌&&◌, ◌||◌}
+use mathlib.Core.Path.{◌≡◌, ap, ◌∙◌}
+use Prim.Native.Nat.{ℕ, ◌+◌, ◌-◌, ◌^◌}
+use mathlib.Core.Bool.{cond}
 use native.Mathlib.Omega.{arith}
-use lib.ListN.{length, get_or, set, take}
-use Rattle.lake_analysis.specs.steps.Lent.{lake_in, hit_in, blocked_in, skip_in, skips_in}
-use Rattle.lake_analysis.specs.laws.Skip.{blocked-next, blocked-none, skips-next, skips-none, skips-lt, room, skip-law}
-use borrow.Author.Rules.{rules}
+use Rattle.lake_analysis.specs.steps.Lent.{skip_in, skips_in}
+use Rattle.lake_analysis.specs.laws.Skip.{skips-next, skips-none, skips-lt, skip-law}
 use Rattle.lake_analysis.proofs.cannot_skip.Goals as goal
 
 pub returns-then-r-gt64 : goal.returns-then-r-gt64

@@ -1,12 +1,6 @@
-use mathlib.Core.Path.{◌≡◌, refl, sym, ap, ap₂, ◌∙◌, subst}
-use mathlib.Core.List.{List, [], ◌∷◌, ◌++◌}
-use Prim.Native.Nat.{ℕ, ◌+◌, ◌*◌, ◌-◌, ◌^◌, ◌≤◌, ◌<◌}
-use mathlib.Core.Bool.{Bool, true, false, cond, not, ◌&&◌, ◌||◌}
-use native.Mathlib.Omega.{arith}
-use lib.ListN.{length, get_or, set, take}
-use Rattle.lake_analysis.specs.steps.Lent.{lake_in, hit_in, blocked_in, skip_in, skips_in}
-use Rattle.lake_analysis.specs.laws.Skip.{blocked-next, blocked-none, skips-next, skips-none, skips-lt, room, skip-law}
-use borrow.Author.Rules.{rules}
+use mathlib.Core.Path.{◌≡◌}
+use Prim.Native.Nat.{◌-◌, ◌≤◌}
+use Rattle.lake_analysis.specs.steps.Lent.{skips_in}
 use Rattle.lake_analysis.proofs.cannot_skip.Given as goal
 
 abbrev pub invariant-loop-n : goal.invariant-loop-n

@@ -1,10 +1,8 @@
-use mathlib.Core.Path.{◌≡◌, refl, sym, ap, ap₂, ◌∙◌, subst}
-use mathlib.Core.List.{List, [], ◌∷◌, ◌++◌}
-use Prim.Native.Nat.{ℕ, ◌+◌, ◌*◌, ◌-◌, ◌^◌, ◌≤◌, ◌<◌}
-use mathlib.Core.Bool.{Bool, true, false, cond, not, ◌&&◌, ◌||◌}
+use mathlib.Core.Path.{◌≡◌, ap}
+use Prim.Native.Nat.{ℕ, ◌+◌, ◌-◌}
+use mathlib.Core.Bool.{true, false}
 use native.Mathlib.Omega.{arith}
-use Rattle.lake_analysis.specs.laws.Skip.{blocked-next, blocked-none, skips-next, skips-none, skips-lt, room, skip-law}
-use borrow.Author.Rules.{rules}
+use Rattle.lake_analysis.specs.laws.Skip.{room}
 use Rattle.lake_analysis.proofs.noted.Goals as goal
 
 pub overflow_add-result : goal.overflow_add-result

@@ -1,13 +1,12 @@
-use Rattle.lake_rules.specs.Flows.{edge, Gift, gift, when, given, succeed_gifts, alt_gifts}
+use mathlib.Core.List.{[]}
+use Rattle.lake_rules.specs.Flows.{edge}
 use Rattle.lake_sets.specs.steps.Steps.{Grown, kept}
-use mathlib.Core.Path.{◌≡◌, refl, sym, ap, ap₂, ◌∙◌, subst}
-use mathlib.Core.List.{List, [], ◌∷◌, ◌++◌}
-use Prim.Native.Nat.{ℕ, ◌+◌, ◌*◌, ◌-◌, ◌^◌, ◌≤◌, ◌<◌}
+use mathlib.Core.Path.{sym, subst}
+use mathlib.Core.List.{List, ◌∷◌}
+use Prim.Native.Nat.{ℕ, ◌+◌, ◌-◌}
 use native.Mathlib.Omega.{arith}
-use lib.ListN.{length, get_or, set, take, replicate, length-set, length-append, length-replicate}
+use lib.ListN.{set}
 use Rattle.lake_sets.specs.laws.Edges.{grown-one, grown-none}
-use Rattle.lake_rules.specs.laws.Over.{over_none, over-next}
-use borrow.Author.Rules.{rules}
 use Rattle.lake_sets.proofs.add.Goals as goal
 
 pub returns-then-to-n : goal.returns-then-to-n

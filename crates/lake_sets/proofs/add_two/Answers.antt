@@ -1,13 +1,11 @@
-use mathlib.Core.Path.{◌≡◌, refl, sym, ap, ap₂, ◌∙◌, subst}
-use mathlib.Core.List.{List, [], ◌∷◌, ◌++◌}
-use Prim.Native.Nat.{ℕ, ◌+◌, ◌*◌, ◌-◌, ◌^◌, ◌≤◌, ◌<◌}
+use mathlib.Core.List.{[]}
+use mathlib.Core.List.{◌∷◌}
+use Prim.Native.Nat.{◌-◌, ◌≤◌}
 use native.Mathlib.Omega.{arith}
-use lib.ListN.{length, get_or, set, take, replicate, length-set, length-append, length-replicate}
-use Rattle.lake_rules.specs.Flows.{edge, Gift, gift, when, given, succeed_gifts, alt_gifts}
-use Rattle.lake_sets.specs.steps.Steps.{pair_at, root_in, kept, edges_by, handed, succeed_given, alt_given, Fine}
+use lib.ListN.{length}
+use Rattle.lake_rules.specs.Flows.{edge}
+use Rattle.lake_sets.specs.steps.Steps.{kept}
 use Rattle.lake_sets.specs.laws.Edges.{grown-two, kept-long}
-use Rattle.lake_rules.specs.laws.Over.{over_none, over-next}
-use borrow.Author.Rules.{rules}
 use Rattle.lake_sets.proofs.add_two.Goals as goal
 
 pub add-requires : goal.add-requires

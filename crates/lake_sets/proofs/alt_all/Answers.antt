@@ -1,15 +1,10 @@
 use mathlib.Core.Path.{◌≡◌, ap, ◌∙◌}
-use mathlib.Core.List.{List}
-use Prim.Native.Nat.{ℕ, ◌≤◌}
-use mathlib.Core.Bool.{Bool, true, false}
 use native.Mathlib.Omega.{arith}
 use lib.ListN.{length, length-replicate}
 use Rattle.base_words.specs.Set.{empty}
-use Rattle.lake_rules.specs.Flows.{Gift, given}
-use Rattle.lake_sets.specs.steps.Steps.{handed, succeed_given, alt_given}
-use Rattle.lake_sets.specs.laws.Edges.{handed-inside, given-long, flowed}
+use Rattle.lake_sets.specs.steps.Steps.{alt_given}
+use Rattle.lake_sets.specs.laws.Edges.{given-long}
 use Rattle.base_rounds.specs.laws.Sys.{empties}
-use borrow.Author.Rules.{rules}
 use Rattle.lake_sets.proofs.alt_all.Goals as goal
 
 pub flow-requires : goal.flow-requires

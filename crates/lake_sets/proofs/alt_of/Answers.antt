@@ -1,12 +1,7 @@
-use mathlib.Core.Path.{◌≡◌, refl, sym, ap, ap₂, ◌∙◌}
-use Prim.Native.Nat.{ℕ, ◌+◌, ◌-◌, ◌≤◌}
-use native.Mathlib.Omega.{arith}
-use mathlib.Core.List.{List, []}
-use mathlib.Core.Bool.{Bool, true, false, cond}
-use lib.ListN.{length, get_or}
-use Rattle.lake_sets.specs.steps.Steps.{pair_at, root_in}
+use Prim.Native.Nat.{◌-◌}
+use mathlib.Core.Bool.{true, false}
+use Rattle.lake_sets.specs.steps.Steps.{root_in}
 use Rattle.lake_sets.specs.laws.Alts.{alt-none, alt-some}
-use borrow.Author.Rules.{rules}
 use Rattle.lake_sets.proofs.alt_of.Goals as goal
 
 pub returns-then-b-eq0 : goal.returns-then-b-eq0

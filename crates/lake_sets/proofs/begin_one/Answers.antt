@@ -1,17 +1,14 @@
+use mathlib.Core.List.{[]}
 use Rattle.grammar.specs.Parts.{Part}
 use Rattle.lake_sets.specs.steps.Steps.{Small}
-use mathlib.Core.Path.{◌≡◌, refl, sym, ap, ap₂, ◌∙◌, subst}
-use mathlib.Core.List.{List, [], ◌∷◌}
-use Prim.Native.Nat.{ℕ, ◌+◌, ◌*◌, ◌-◌, ◌^◌, ◌≤◌, ◌<◌}
-use mathlib.Core.Bool.{Bool, true, false, cond, ◌&&◌, ◌||◌}
-use native.Mathlib.Omega.{arith}
-use lib.ListN.{length, get_or, set, replicate, length-set, get_or-eq_default, length-replicate}
-use Rattle.grammar_table.specs.Table.{part_by, part_in, up_to}
-use Rattle.lake_rules.specs.Beginning.{Beginning, nothing, begin, marked, begin_by}
-use Rattle.lake_sets.specs.steps.Steps.{pair_at, root_in, Tame, begins_in, mark_next, marks_in, BegunAll, MarkedAll}
-use Rattle.lake_sets.specs.laws.Begins.{rest, small}
-use Rattle.lake_rules.specs.laws.Begins.{set-any, eps-any, begin-agree, begins-rule, begins-long}
-use borrow.Author.Rules.{rules}
+use mathlib.Core.Path.{◌≡◌, refl, ap, ◌∙◌, subst}
+use Prim.Native.Nat.{◌-◌}
+use mathlib.Core.Bool.{false}
+use lib.ListN.{set, length-set}
+use Rattle.grammar_table.specs.Table.{part_in}
+use Rattle.lake_rules.specs.Beginning.{marked, begin_by}
+use Rattle.lake_sets.specs.steps.Steps.{pair_at}
+use Rattle.lake_rules.specs.laws.Begins.{set-any, eps-any}
 use Rattle.lake_sets.proofs.begin_one.Goals as goal
 
 pub returns : goal.returns

@@ -1,15 +1,14 @@
-use borrow.Author.Rules.{rules}
+use mathlib.Core.List.{[]}
 use Rattle.lake_rules.specs.Beginning.{Beginning}
 use Rattle.lake_sets.specs.steps.Steps.{pair_at}
-use mathlib.Core.Path.{◌≡◌, refl, sym, ap, ap₂, ◌∙◌, subst}
-use mathlib.Core.List.{List, [], ◌∷◌}
-use Prim.Native.Nat.{ℕ, ◌+◌, ◌-◌, ◌^◌, ◌≤◌, ◌<◌}
-use mathlib.Core.Bool.{Bool, true, false, cond, ◌&&◌, ◌||◌}
-use lib.ListN.{length, get_or, set, length-set, get_or-eq_default}
-use Rattle.base_words.specs.Set.{union_of, empty}
-use Rattle.grammar_table.specs.Table.{part_by, part_in, up_to}
-use Rattle.lake_sets.specs.laws.Begins.{rest, small}
-use Rattle.lake_rules.specs.laws.Begins.{set-any, eps-any, begin-agree, begins-rule, begins-long}
+use mathlib.Core.Path.{sym, ap, ap₂, ◌∙◌}
+use mathlib.Core.List.{◌∷◌}
+use Prim.Native.Nat.{ℕ, ◌-◌}
+use mathlib.Core.Bool.{true, false}
+use lib.ListN.{set}
+use Rattle.base_words.specs.Set.{union_of}
+use Rattle.grammar_table.specs.Table.{part_by}
+use Rattle.lake_sets.specs.laws.Begins.{rest}
 use Rattle.lake_sets.proofs.begin_set.Goals as goal
 
 pub returns-in-0 : goal.returns-in-0

@@ -1,7 +1,6 @@
-use mathlib.Core.Bool.{Bool, true, false, cond, ◌&&◌, ◌||◌}
-use mathlib.Core.Path.{◌≡◌, refl, sym, ap, ap₂, ◌∙◌, subst}
-use lib.ListN.{length, get_or, set, length-set, get_or-eq_default}
-use borrow.Author.Rules.{rules}
+use mathlib.Core.Bool.{false}
+use mathlib.Core.Path.{sym}
+use lib.ListN.{get_or-eq_default}
 use Rattle.lake_sets.proofs.flag_at.Goals as goal
 
 pub returns-else-i-s : goal.returns-else-i-s

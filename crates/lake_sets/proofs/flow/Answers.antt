@@ -1,15 +1,9 @@
-use mathlib.Core.Path.{◌≡◌, ap, ◌∙◌}
-use mathlib.Core.List.{List}
-use Prim.Native.Nat.{ℕ, ◌≤◌}
-use mathlib.Core.Bool.{Bool, true, false}
+use mathlib.Core.Path.{ap, ◌∙◌}
+use Prim.Native.Nat.{ℕ}
 use native.Mathlib.Omega.{arith}
-use lib.ListN.{length, length-replicate}
-use Rattle.base_words.specs.Set.{empty}
-use Rattle.lake_rules.specs.Flows.{Gift, given}
-use Rattle.lake_sets.specs.steps.Steps.{handed, succeed_given, alt_given}
-use Rattle.lake_sets.specs.laws.Edges.{handed-inside, given-long, flowed}
-use Rattle.base_rounds.specs.laws.Sys.{empties}
-use borrow.Author.Rules.{rules}
+use lib.ListN.{length}
+use Rattle.lake_sets.specs.steps.Steps.{handed}
+use Rattle.lake_sets.specs.laws.Edges.{handed-inside}
 use Rattle.lake_sets.proofs.flow.Goals as goal
 
 pub along-requires : goal.along-requires

@@ -1,16 +1,13 @@
-use mathlib.Core.Path.{◌≡◌, refl, sym, ap, ap₂, ◌∙◌, subst}
-use mathlib.Core.List.{List, [], ◌∷◌, ◌++◌}
-use Prim.Native.Nat.{ℕ, ◌+◌, ◌*◌, ◌-◌, ◌^◌, ◌≤◌, ◌<◌}
-use mathlib.Core.Bool.{Bool, true, false}
-use native.Mathlib.Omega.{arith}
-use lib.ListN.{length, get_or, set, take, replicate, length-set, length-append, length-replicate}
-use Rattle.grammar_table.specs.Table.{part_by, part_in, up_to}
-use Rattle.grammar.specs.Parts.{Part}
-use Rattle.lake_rules.specs.Flows.{edge, edge_into, Gift, gift, when, given, succeed_gifts, alt_gifts}
-use Rattle.lake_sets.specs.steps.Steps.{pair_at, root_in, kept, edges_by, handed, succeed_given, alt_given, Fine}
+use mathlib.Core.List.{[]}
+use mathlib.Core.Path.{ap}
+use mathlib.Core.List.{◌∷◌}
+use Prim.Native.Nat.{◌-◌}
+use mathlib.Core.Bool.{true, false}
+use lib.ListN.{length, get_or}
+use Rattle.grammar_table.specs.Table.{part_by, part_in}
+use Rattle.lake_rules.specs.Flows.{edge, edge_into, when}
+use Rattle.lake_sets.specs.steps.Steps.{pair_at, root_in, edges_by}
 use Rattle.lake_sets.specs.laws.Edges.{grown-nothing, grown-as, by-terminal, by-occurs, by-back, by-forth, by-choice, by-option, by-repeat, by-repeat1, by-rest}
-use Rattle.lake_rules.specs.laws.Over.{over_none, over-next}
-use borrow.Author.Rules.{rules}
 use Rattle.lake_sets.proofs.hand.Goals as goal
 
 pub returns-in-0 : goal.returns-in-0

@@ -1,17 +1,14 @@
+use mathlib.Core.List.{[]}
 use Rattle.base_rounds.specs.Flow.{Edge}
-use mathlib.Core.Path.{◌≡◌, refl, sym, ap, ap₂, ◌∙◌, subst}
-use mathlib.Core.List.{List, [], ◌∷◌, ◌++◌}
-use Prim.Native.Nat.{ℕ, ◌+◌, ◌*◌, ◌-◌, ◌^◌, ◌≤◌, ◌<◌}
-use mathlib.Core.Bool.{Bool, true, false}
+use mathlib.Core.Path.{◌≡◌, sym, ap, ◌∙◌}
+use mathlib.Core.List.{List, ◌++◌}
+use Prim.Native.Nat.{◌+◌, ◌-◌}
 use native.Mathlib.Omega.{arith}
-use lib.ListN.{length, get_or, set, take, replicate, length-set, length-append, length-replicate}
-use Rattle.grammar_table.specs.Table.{part_by, part_in, up_to}
-use Rattle.lake_rules.specs.Flows.{edge, Gift, gift, when, given, succeed_gifts, alt_gifts}
-use Rattle.lake_sets.specs.steps.Steps.{pair_at, root_in, kept, edges_by, handed, succeed_given, alt_given, Fine}
+use lib.ListN.{length}
+use Rattle.grammar_table.specs.Table.{part_in}
+use Rattle.lake_sets.specs.steps.Steps.{pair_at, root_in, kept, edges_by, handed}
 use Rattle.lake_sets.specs.laws.Edges.{edges-two, kept-long, handed-next}
-use Rattle.lake_rules.specs.laws.Over.{over_none, over-next}
-use Rattle.base_rounds.specs.laws.Sys.{edges, empties}
-use borrow.Author.Rules.{rules}
+use Rattle.lake_rules.specs.laws.Over.{over_none}
 use Rattle.lake_sets.proofs.hand_all.Goals as goal
 
 pub loop-e-init : goal.loop-e-init

@@ -1,13 +1,9 @@
-use mathlib.Core.Path.{◌≡◌, refl, sym, ap, ap₂, ◌∙◌}
-use Prim.Native.Nat.{ℕ, ◌+◌, ◌-◌, ◌≤◌}
-use native.Mathlib.Omega.{arith}
-use mathlib.Core.List.{List, []}
-use mathlib.Core.Bool.{Bool, true, false, cond}
-use lib.ListN.{length, get_or}
+use mathlib.Core.Path.{ap, ap₂, ◌∙◌}
+use Prim.Native.Nat.{ℕ, ◌-◌}
+use mathlib.Core.Bool.{true, false}
 use Rattle.lake_sets.specs.laws.Alts.{use-not, use-is, part-is}
 use Rattle.grammar_table.specs.Table.{part_by, left_of, right_of}
 use Rattle.lake_rules.specs.Analysis.{is_use}
-use borrow.Author.Rules.{rules}
 use Rattle.lake_sets.proofs.is_use.Goals as goal
 
 pub returns-then-op-ne-SYMBOL : goal.returns-then-op-ne-SYMBOL

@@ -1,11 +1,8 @@
-use mathlib.Core.Path.{◌≡◌, refl, sym, ap, ap₂, ◌∙◌}
-use Prim.Native.Nat.{ℕ, ◌+◌, ◌-◌, ◌≤◌}
-use native.Mathlib.Omega.{arith}
-use mathlib.Core.List.{List, []}
+use mathlib.Core.Path.{sym, ap, ◌∙◌}
+use Prim.Native.Nat.{◌-◌}
 use mathlib.Core.Bool.{Bool, true, false, cond}
-use lib.ListN.{length, get_or}
+use lib.ListN.{get_or}
 use Rattle.base_words.specs.Set.{union_of, empty}
-use borrow.Author.Rules.{rules}
 use Rattle.lake_sets.proofs.join_use.Goals as goal
 
 pub returns-then-is_use : goal.returns-then-is_use

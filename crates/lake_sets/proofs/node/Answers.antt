@@ -1,11 +1,8 @@
-use Prim.Native.Nat.{ℕ, ◌+◌, ◌*◌, ◌-◌, ◌^◌, ◌≤◌, ◌<◌}
-use native.Mathlib.Omega.{arith}
-use lib.ListN.{get_or}
+use Prim.Native.Nat.{ℕ, ◌-◌}
 use Rattle.grammar.specs.Parts.{Part}
-use mathlib.Core.Path.{◌≡◌, refl, sym, ap, ap₂, ◌∙◌, subst}
-use Rattle.grammar_table.specs.Table.{expressions_at, expression_words, part_by, part_in, up_to}
-use Prim.Native.Nat.{ℕ, ◌+◌, ◌-◌, ◌^◌, ◌≤◌, ◌<◌}
-use borrow.Author.Rules.{rules}
+use mathlib.Core.Path.{ap₂}
+use Rattle.grammar_table.specs.Table.{part_by, part_in}
+use Prim.Native.Nat.{ℕ, ◌-◌}
 use Rattle.lake_sets.proofs.node.Goals as goal
 
 pub returns : goal.returns

@@ -1,13 +1,8 @@
 use lib.Seq.{length-take-le}
-use mathlib.Core.Path.{◌≡◌, refl, sym, ap, ap₂, ◌∙◌, subst}
-use mathlib.Core.List.{List, [], ◌∷◌, ◌++◌}
-use Prim.Native.Nat.{ℕ, ◌+◌, ◌*◌, ◌-◌, ◌^◌, ◌≤◌, ◌<◌}
-use mathlib.Core.Bool.{Bool, true, false}
-use native.Mathlib.Omega.{arith}
-use lib.ListN.{length, get_or, set, take, replicate, length-set, length-append, length-replicate}
+use mathlib.Core.Path.{sym}
+use Prim.Native.Nat.{◌-◌}
+use lib.ListN.{length}
 use Rattle.lake_sets.specs.laws.Edges.{shaped}
-use Rattle.lake_rules.specs.laws.Over.{over_none, over-next}
-use borrow.Author.Rules.{rules}
 use Rattle.lake_sets.proofs.rounds.Goals as goal
 
 pub slice_bounds-solve-end : goal.slice_bounds-solve-end

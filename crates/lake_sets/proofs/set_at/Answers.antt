@@ -1,11 +1,8 @@
-use mathlib.Core.List.{List, [], ◌∷◌}
-use mathlib.Core.Path.{◌≡◌, refl, sym, ap, ap₂, ◌∙◌, subst}
-use native.Mathlib.Omega.{arith}
-use lib.ListN.{length, get_or, set, length-set, get_or-eq_default}
-use Rattle.base_facts.specs.laws.Numbers.{lt-or-ge}
-use Rattle.base_words.specs.Set.{union_of, empty}
-use Rattle.grammar_table.specs.laws.Places.{get_d_any, is-up_to}
-use borrow.Author.Rules.{rules}
+use mathlib.Core.List.{[]}
+use mathlib.Core.Path.{sym}
+use lib.ListN.{get_or-eq_default}
+use Rattle.base_words.specs.Set.{empty}
+use Rattle.grammar_table.specs.laws.Places.{get_d_any}
 use Rattle.lake_sets.proofs.set_at.Goals as goal
 
 pub returns-then-i-s : goal.returns-then-i-s

@@ -1,17 +1,15 @@
-use mathlib.Core.Path.{◌≡◌, refl, sym, ap, ap₂, ◌∙◌, subst}
-use mathlib.Core.List.{List, [], ◌∷◌, ◌++◌}
-use Prim.Native.Nat.{ℕ, ◌+◌, ◌*◌, ◌-◌, ◌^◌, ◌≤◌, ◌<◌}
-use mathlib.Core.Bool.{Bool, true, false}
+use mathlib.Core.List.{[]}
+use mathlib.Core.Path.{◌≡◌, refl, sym, ap, ap₂, ◌∙◌}
+use mathlib.Core.List.{List}
+use Prim.Native.Nat.{ℕ, ◌-◌}
 use native.Mathlib.Omega.{arith}
-use lib.ListN.{length, get_or, set, take, replicate, length-set, length-append, length-replicate}
-use Rattle.base_words.specs.Set.{union_of, empty}
-use Rattle.grammar_table.specs.Table.{part_by, part_in, up_to}
-use Rattle.lake_rules.specs.Flows.{edge, Gift, gift, when, given, succeed_gifts, alt_gifts}
-use Rattle.lake_sets.specs.steps.Steps.{pair_at, root_in, kept, edges_by, handed, succeed_given, alt_given, Fine}
+use lib.ListN.{length, length-replicate}
+use Rattle.base_words.specs.Set.{empty}
+use Rattle.grammar_table.specs.Table.{part_in}
+use Rattle.lake_rules.specs.Flows.{Gift, given, succeed_gifts}
+use Rattle.lake_sets.specs.steps.Steps.{pair_at, root_in, succeed_given}
 use Rattle.lake_sets.specs.laws.Edges.{given-append, given-none, given-long, none-fine}
 use Rattle.lake_rules.specs.laws.Over.{over_none, over-next}
-use Rattle.base_rounds.specs.laws.Sys.{edges, empties}
-use borrow.Author.Rules.{rules}
 use Rattle.lake_sets.proofs.succeed_base.Goals as goal
 
 pub loop-e-init : goal.loop-e-init

@@ -1,17 +1,8 @@
-use mathlib.Core.Path.{◌≡◌, refl, sym, ap, ap₂, ◌∙◌, subst}
-use mathlib.Core.List.{List, [], ◌∷◌, ◌++◌}
-use Prim.Native.Nat.{ℕ, ◌+◌, ◌*◌, ◌-◌, ◌^◌, ◌≤◌, ◌<◌}
-use mathlib.Core.Bool.{Bool, true, false}
-use native.Mathlib.Omega.{arith}
-use lib.ListN.{length, get_or, set, take, replicate, length-set, length-append, length-replicate}
-use Rattle.base_words.specs.Set.{union_of, empty}
-use Rattle.grammar_table.specs.Table.{part_by, part_in, up_to}
-use Rattle.lake_rules.specs.Flows.{edge, Gift, gift, when, given, succeed_gifts, alt_gifts}
-use Rattle.lake_sets.specs.steps.Steps.{pair_at, root_in, kept, edges_by, handed, succeed_given, alt_given, Fine}
-use Rattle.lake_sets.specs.laws.Edges.{given-append, given-none, given-long, none-fine}
-use Rattle.lake_rules.specs.laws.Over.{over_none, over-next}
-use Rattle.base_rounds.specs.laws.Sys.{edges, empties}
-use borrow.Author.Rules.{rules}
+use mathlib.Core.Path.{◌≡◌}
+use Prim.Native.Nat.{◌-◌, ◌≤◌}
+use lib.ListN.{length}
+use Rattle.lake_rules.specs.Flows.{given}
+use Rattle.lake_sets.specs.steps.Steps.{succeed_given, Fine}
 use Rattle.lake_sets.proofs.succeed_base.Given as goal
 
 abbrev pub invariant-loop-e : goal.invariant-loop-e

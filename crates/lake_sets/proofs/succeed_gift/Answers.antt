@@ -1,17 +1,12 @@
-use mathlib.Core.Path.{◌≡◌, refl, sym, ap, ap₂, ◌∙◌, subst}
-use mathlib.Core.List.{List, [], ◌∷◌, ◌++◌}
-use Prim.Native.Nat.{ℕ, ◌+◌, ◌*◌, ◌-◌, ◌^◌, ◌≤◌, ◌<◌}
-use mathlib.Core.Bool.{Bool, true, false}
-use native.Mathlib.Omega.{arith}
-use lib.ListN.{length, get_or, set, take, replicate, length-set, length-append, length-replicate}
-use Rattle.base_words.specs.Set.{union_of, empty}
-use Rattle.grammar_table.specs.Table.{part_by, part_in, up_to}
-use Rattle.lake_rules.specs.Flows.{edge, Gift, gift, when, given, succeed_gifts, alt_gifts}
-use Rattle.lake_sets.specs.steps.Steps.{pair_at, root_in, kept, edges_by, handed, succeed_given, alt_given, Fine}
+use mathlib.Core.List.{[]}
+use mathlib.Core.Path.{ap, ◌∙◌}
+use mathlib.Core.List.{List, ◌∷◌}
+use Prim.Native.Nat.{ℕ, ◌-◌}
+use Rattle.grammar_table.specs.Table.{part_by, part_in}
+use Rattle.lake_rules.specs.Flows.{gift, succeed_gifts}
+use Rattle.lake_sets.specs.steps.Steps.{pair_at, root_in}
 use Rattle.lake_sets.specs.laws.Edges.{gave-nothing, gave-as, succeed-rest}
-use Rattle.lake_rules.specs.laws.Over.{over_none, over-next}
 use Rattle.lake_sets.specs.laws.Edges.{gives-sequence, gives-repeat, gives-repeat1}
-use borrow.Author.Rules.{rules}
 use Rattle.lake_sets.proofs.succeed_gift.Goals as goal
 
 pub returns-in-2 : goal.returns-in-2

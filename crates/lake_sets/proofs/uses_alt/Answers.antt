@@ -1,12 +1,11 @@
-use mathlib.Core.Path.{◌≡◌, refl, sym, ap, ◌∙◌}
-use Prim.Native.Nat.{ℕ, ◌+◌, ◌-◌, ◌≤◌}
+use mathlib.Core.Path.{◌≡◌, ap, ◌∙◌}
+use Prim.Native.Nat.{◌-◌}
 use native.Mathlib.Omega.{arith}
-use lib.ListN.{length, get_or}
+use lib.ListN.{get_or}
 use Rattle.base_words.specs.Set.{empty}
 use Rattle.grammar_table.specs.Table.{part_in}
 use Rattle.lake_rules.specs.Analysis.{uses_alt}
 use Rattle.lake_sets.specs.laws.Alts.{uses-none, uses-next}
-use borrow.Author.Rules.{rules}
 use Rattle.lake_sets.proofs.uses_alt.Goals as goal
 
 pub loop-e-init : goal.loop-e-init

@@ -1,12 +1,9 @@
-use mathlib.Core.Path.{◌≡◌, refl, sym, ap, ◌∙◌}
-use Prim.Native.Nat.{ℕ, ◌+◌, ◌-◌, ◌≤◌}
-use native.Mathlib.Omega.{arith}
-use lib.ListN.{length, get_or}
+use mathlib.Core.Path.{◌≡◌}
+use Prim.Native.Nat.{◌-◌, ◌≤◌}
+use lib.ListN.{get_or}
 use Rattle.base_words.specs.Set.{empty}
 use Rattle.grammar_table.specs.Table.{part_in}
 use Rattle.lake_rules.specs.Analysis.{uses_alt}
-use Rattle.lake_sets.specs.laws.Alts.{uses-none, uses-next}
-use borrow.Author.Rules.{rules}
 use Rattle.lake_sets.proofs.uses_alt.Given as goal
 
 abbrev pub invariant-loop-e : goal.invariant-loop-e

@@ -1,6 +1,5 @@
 use native.Mathlib.Omega.{arith}
 use Rattle.lake_step_one.specs.laws.Bodies.{plain_body}
-use borrow.Author.Rules.{rules}
 use Rattle.lake_step_one.proofs.body.Goals as goal
 
 pub returns-then-lake : goal.returns-then-lake

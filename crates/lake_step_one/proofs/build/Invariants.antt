@@ -1,16 +1,13 @@
-use mathlib.Core.Path.{◌≡◌, refl, sym, ap, ap₂, ◌∙◌, subst}
-use mathlib.Core.List.{List, [], ◌∷◌, ◌++◌}
-use Prim.Native.Nat.{ℕ, ◌+◌, ◌*◌, ◌-◌, ◌^◌, ◌≤◌, ◌<◌}
-use native.Mathlib.Omega.{arith}
-use lib.ListN.{length, get_or, set, take}
-use Rattle.lake_step_one.specs.steps.Made.{Made, MadeNext, WaterAt, BuiltAll, SteppedOne}
+use mathlib.Core.Path.{◌≡◌}
+use Prim.Native.Nat.{◌*◌, ◌-◌, ◌≤◌, ◌<◌}
+use lib.ListN.{length}
+use Rattle.lake_step_one.specs.steps.Made.{Made}
 use Rattle.grammar.specs.Numbers.{Grammar}
 use Rattle.grammar_table.specs.Holds.{Holds}
 use Rattle.grammar_table.specs.Table.{symbol_count}
 use Rattle.lake_step_one.specs.Intermediate.{water_in}
 use Rattle.grammar.specs.Numbers.{terminal_in}
 use Rattle.lake_step_one.specs.steps.Runs.{BodyAt}
-use borrow.Author.Rules.{rules}
 use Rattle.lake_step_one.proofs.build.Given as goal
 
 abbrev pub invariant-loop-s : goal.invariant-loop-s

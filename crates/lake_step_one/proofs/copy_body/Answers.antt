@@ -1,6 +1,5 @@
 use native.Mathlib.Omega.{arith}
 use Rattle.lake_step_one.specs.laws.Bodies.{body-none, body-some}
-use borrow.Author.Rules.{rules}
 use Rattle.lake_step_one.proofs.copy_body.Goals as goal
 
 pub returns-then-b-eq0 : goal.returns-then-b-eq0

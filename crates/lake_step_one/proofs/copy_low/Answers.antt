@@ -1,11 +1,9 @@
-use Rattle.grammar_table.specs.Table.{expressions_at}
 use Rattle.lake_step_one.specs.laws.Final.{copied_more}
-use mathlib.Core.Path.{◌≡◌, refl, sym, ap, ap₂, ◌∙◌, subst}
-use mathlib.Core.List.{List, [], ◌∷◌, ◌++◌}
-use Prim.Native.Nat.{ℕ, ◌+◌, ◌*◌, ◌-◌, ◌^◌, ◌≤◌, ◌<◌}
+use mathlib.Core.Path.{◌≡◌, refl, ap, ◌∙◌}
+use mathlib.Core.List.{List}
+use Prim.Native.Nat.{ℕ, ◌-◌}
 use native.Mathlib.Omega.{arith}
-use lib.ListN.{length, get_or, set, length-set}
-use borrow.Author.Rules.{rules}
+use lib.ListN.{length, get_or, length-set}
 use Rattle.lake_step_one.proofs.copy_low.Goals as goal
 
 pub loop-i-init : goal.loop-i-init

@@ -1,14 +1,13 @@
-use mathlib.Core.Path.{◌≡◌, refl, sym, ap, ap₂, ◌∙◌, subst}
-use mathlib.Core.List.{List, [], ◌∷◌, ◌++◌}
-use Prim.Native.Nat.{ℕ, ◌+◌, ◌*◌, ◌-◌, ◌^◌, ◌≤◌, ◌<◌}
+use mathlib.Core.List.{[]}
+use mathlib.Core.Path.{◌≡◌, sym, ap, ap₂, ◌∙◌, subst}
+use mathlib.Core.List.{List, ◌∷◌}
+use Prim.Native.Nat.{ℕ, ◌+◌, ◌-◌, ◌<◌}
 use native.Mathlib.Omega.{arith}
-use lib.ListN.{length, get_or, set, take}
-use Rattle.grammar_table.specs.Table.{expressions_at, expression_words, part_by, part_in, table_words}
-use Rattle.grammar.specs.Parts.{Part, parts_of}
-use Rattle.lake_step_one.specs.steps.Runs.{moved, shift, Near, Above, nil, PartsRun, Grew, stored, CopiedOne, CopiedRun}
-use Rattle.lake_step_one.specs.laws.Stores.{grew-one, grew_none, grew-two, grew-as}
-use Rattle.lake_step_one.specs.laws.Shifts.{shift-below, shift-part, front, front-none, front-all, run_more}
-use borrow.Author.Rules.{rules}
+use Rattle.grammar_table.specs.Table.{part_by, part_in}
+use Rattle.grammar.specs.Parts.{Part}
+use Rattle.lake_step_one.specs.steps.Runs.{shift, Above, Grew}
+use Rattle.lake_step_one.specs.laws.Stores.{grew-one}
+use Rattle.lake_step_one.specs.laws.Shifts.{shift-below, shift-part}
 use Rattle.lake_step_one.proofs.copy_one.Goals as goal
 
 pub returns-then-op-lt2 : goal.returns-then-op-lt2

@@ -1,16 +1,11 @@
-use mathlib.Core.Path.{◌≡◌, refl, sym, ap, ap₂, ◌∙◌, subst}
-use mathlib.Core.List.{List, [], ◌∷◌, ◌++◌}
-use Prim.Native.Nat.{ℕ, ◌+◌, ◌*◌, ◌-◌, ◌^◌, ◌≤◌, ◌<◌}
-use native.Mathlib.Omega.{arith}
-use lib.ListN.{length, get_or, set, take}
-use Rattle.grammar_table.specs.Table.{part_by, part_in, table_words}
-use Rattle.grammar.specs.Parts.{Part, parts_of}
+use mathlib.Core.Path.{◌≡◌}
+use Prim.Native.Nat.{ℕ, ◌+◌, ◌-◌, ◌≤◌}
+use lib.ListN.{length}
+use Rattle.grammar_table.specs.Table.{table_words}
 use Rattle.grammar.specs.Exp.{Exp, size}
 use Rattle.read_tokens.specs.Token.{Leaf}
-use Rattle.lake_step_one.specs.steps.Runs.{moved, shift, Near, Above, nil, PartsRun, Grew, stored, CopiedOne, CopiedRun}
-use Rattle.lake_step_one.specs.laws.Stores.{grew-one, grew_none, grew-two, grew-as}
-use Rattle.lake_step_one.specs.laws.Shifts.{shift-below, shift-part, front, front-none, front-all, run_more}
-use borrow.Author.Rules.{rules}
+use Rattle.lake_step_one.specs.steps.Runs.{PartsRun, Grew}
+use Rattle.lake_step_one.specs.laws.Shifts.{front}
 use Rattle.lake_step_one.proofs.copy_run.Given as goal
 
 abbrev pub invariant-loop-j : goal.invariant-loop-j

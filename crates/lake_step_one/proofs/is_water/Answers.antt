@@ -1,12 +1,8 @@
-use mathlib.Core.Path.{◌≡◌, refl, sym, ap, ap₂, ◌∙◌, subst}
-use mathlib.Core.List.{List, [], ◌∷◌, ◌++◌}
-use Prim.Native.Nat.{ℕ, ◌+◌, ◌*◌, ◌-◌, ◌^◌, ◌≤◌, ◌<◌}
-use mathlib.Core.Bool.{Bool, true, false, not, ◌&&◌}
-use lib.ListN.{length, get_or, set, take}
-use lib.Dec.{eqb}
+use mathlib.Core.Path.{sym}
+use Prim.Native.Nat.{◌-◌}
+use mathlib.Core.Bool.{true, false}
 use borrow.Author.Tests.{eq-eqb, ne_eqb, not-true, not-false}
 use Rattle.lake_step_one.specs.laws.Water.{water-is}
-use borrow.Author.Rules.{rules}
 use Rattle.lake_step_one.proofs.is_water.Goals as goal
 
 pub returns-then-k-ne0 : goal.returns-then-k-ne0

@@ -1,8 +1,7 @@
-use Prim.Native.Nat.{ℕ, ◌+◌, ◌-◌}
-use mathlib.Core.Path.{◌≡◌, ◌∙◌}
+use Prim.Native.Nat.{◌-◌}
+use mathlib.Core.Path.{◌∙◌}
 use native.Mathlib.Omega.{arith}
 use Rattle.lake_step_one.specs.laws.Bodies.{lake-none, lake-dry, lake-both}
-use borrow.Author.Rules.{rules}
 use Rattle.lake_step_one.proofs.lake_body.Goals as goal
 
 pub returns-then-own-eq0 : goal.returns-then-own-eq0

@@ -1,8 +1,7 @@
 use Rattle.lake_step_one.specs.laws.Next.{positive}
-use mathlib.Core.Path.{◌≡◌, refl, sym, ap, ap₂, ◌∙◌, subst}
-use Prim.Native.Nat.{ℕ, ◌+◌, ◌*◌, ◌-◌, ◌^◌, ◌≤◌, ◌<◌}
-use Rattle.lake_step_one.specs.steps.Made.{next_by, lake_at, Made}
-use borrow.Author.Rules.{rules}
+use mathlib.Core.Path.{sym, ap}
+use Prim.Native.Nat.{◌-◌}
+use Rattle.lake_step_one.specs.steps.Made.{next_by}
 use Rattle.lake_step_one.proofs.next_from.Goals as goal
 
 pub returns-then-b-eq0 : goal.returns-then-b-eq0

@@ -1,11 +1,6 @@
-use mathlib.Core.Path.{◌≡◌, refl, sym, ap, ap₂, ◌∙◌, subst}
-use mathlib.Core.List.{List, [], ◌∷◌, ◌++◌}
-use Prim.Native.Nat.{ℕ, ◌+◌, ◌*◌, ◌-◌, ◌^◌, ◌≤◌, ◌<◌}
+use Prim.Native.Nat.{◌-◌}
 use native.Mathlib.Omega.{arith}
-use lib.ListN.{length, get_or, set, take}
-use Rattle.lake_step_one.specs.steps.Made.{Made, MadeNext, WaterAt, BuiltAll, SteppedOne}
 use Rattle.lake_step_one.specs.laws.Final.{stepped}
-use borrow.Author.Rules.{rules}
 use Rattle.lake_step_one.proofs.step_one.Goals as goal
 
 pub returns-then-r-gt64 : goal.returns-then-r-gt64

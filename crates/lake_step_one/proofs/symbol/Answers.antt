@@ -1,18 +1,11 @@
 use Rattle.lake_step_one.specs.steps.Runs.{BodyTo}
 use Rattle.lake_step_one.specs.laws.Next.{next-lt}
-use mathlib.Core.Path.{◌≡◌, refl, sym, ap, ap₂, ◌∙◌, subst}
-use mathlib.Core.List.{List, [], ◌∷◌, ◌++◌}
-use Prim.Native.Nat.{ℕ, ◌+◌, ◌*◌, ◌-◌, ◌^◌, ◌≤◌, ◌<◌}
-use mathlib.Core.Bool.{Bool, true, false, not, ◌&&◌}
-use native.Mathlib.Omega.{arith}
-use lib.ListN.{length, get_or, set, take}
-use Rattle.lake_step_one.specs.steps.Made.{next_by, lake_at, Made}
+use mathlib.Core.Path.{sym, ap, subst}
+use Prim.Native.Nat.{ℕ, ◌+◌, ◌-◌}
+use mathlib.Core.Bool.{Bool, not}
+use Rattle.lake_step_one.specs.steps.Made.{Made}
 use Rattle.lake_step_one.specs.laws.Next.{made-next}
-use Rattle.grammar_table.specs.Table.{symbols_at, symbol_words, symbol_word, symbol_count, name_in}
-use Rattle.grammar.specs.Numbers.{Grammar}
-use Rattle.grammar_table.specs.Holds.{Holds}
 use lib.Dec.{eqb}
-use borrow.Author.Rules.{rules}
 use Rattle.lake_step_one.proofs.symbol.Goals as goal
 
 pub returns : goal.returns

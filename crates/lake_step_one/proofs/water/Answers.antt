@@ -1,15 +1,8 @@
-use mathlib.Core.Path.{◌≡◌, refl, sym, ap, ap₂, ◌∙◌, subst}
-use mathlib.Core.List.{List, [], ◌∷◌, ◌++◌}
-use Prim.Native.Nat.{ℕ, ◌+◌, ◌*◌, ◌-◌, ◌^◌, ◌≤◌, ◌<◌}
-use mathlib.Core.Bool.{Bool, true, false, not, ◌&&◌}
+use mathlib.Core.Path.{sym, ◌∙◌}
+use Prim.Native.Nat.{◌-◌}
+use mathlib.Core.Bool.{true, false}
 use native.Mathlib.Omega.{arith}
-use lib.ListN.{length, get_or, set, take}
-use Rattle.lake_step_one.specs.steps.Made.{next_by, lake_at, Made}
-use Rattle.lake_step_one.specs.laws.Water.{five, water_test, water-is, Sought, sought-start, sought-next, sought-found, sought-none}
-use Rattle.grammar_table.specs.Table.{symbol_word, symbol_count, name_in}
-use Rattle.grammar.specs.Numbers.{Grammar}
-use Rattle.grammar_table.specs.Holds.{Holds}
-use borrow.Author.Rules.{rules}
+use Rattle.lake_step_one.specs.laws.Water.{sought-start, sought-next, sought-found, sought-none}
 use Rattle.lake_step_one.proofs.water.Goals as goal
 
 pub loop-s-init : goal.loop-s-init

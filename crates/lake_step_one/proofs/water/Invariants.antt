@@ -1,15 +1,9 @@
-use mathlib.Core.Path.{◌≡◌, refl, sym, ap, ap₂, ◌∙◌, subst}
-use mathlib.Core.List.{List, [], ◌∷◌, ◌++◌}
-use Prim.Native.Nat.{ℕ, ◌+◌, ◌*◌, ◌-◌, ◌^◌, ◌≤◌, ◌<◌}
-use mathlib.Core.Bool.{Bool, true, false, not, ◌&&◌}
-use native.Mathlib.Omega.{arith}
-use lib.ListN.{length, get_or, set, take}
-use Rattle.lake_step_one.specs.steps.Made.{next_by, lake_at, Made}
-use Rattle.lake_step_one.specs.laws.Water.{five, water_test, water-is, Sought, sought-start, sought-next, sought-found, sought-none}
-use Rattle.grammar_table.specs.Table.{symbol_word, symbol_count, name_in}
+use mathlib.Core.Path.{◌≡◌}
+use Prim.Native.Nat.{◌-◌, ◌≤◌, ◌<◌}
+use Rattle.lake_step_one.specs.laws.Water.{Sought}
+use Rattle.grammar_table.specs.Table.{symbol_count}
 use Rattle.grammar.specs.Numbers.{Grammar}
 use Rattle.grammar_table.specs.Holds.{Holds}
-use borrow.Author.Rules.{rules}
 use Rattle.lake_step_one.proofs.water.Given as goal
 
 abbrev pub invariant-loop-s : goal.invariant-loop-s

@@ -1,14 +1,8 @@
-use mathlib.Core.Path.{◌≡◌, refl, sym, ap, ap₂, ◌∙◌, subst}
-use mathlib.Core.List.{List, [], ◌∷◌, ◌++◌}
-use mathlib.Core.Bool.{Bool, true, false, not, ◌&&◌}
-use Prim.Native.Nat.{ℕ, ◌+◌, ◌*◌, ◌-◌, ◌^◌, ◌≤◌, ◌<◌}
+use mathlib.Core.Path.{◌≡◌, refl, subst}
+use Prim.Native.Nat.{ℕ, ◌-◌}
 use native.Mathlib.Omega.{arith}
-use lib.ListN.{length, get_or, set, take}
-use lib.Dec.{eqb}
-use Rattle.lake_step_two.specs.steps.Skips.{each, symbol_in, terminal_of, Adds, Numbered}
-use Rattle.read_tokens.specs.Token.{Leaf}
+use Rattle.lake_step_two.specs.steps.Skips.{each, symbol_in, Adds}
 use Rattle.lake_step_two.specs.laws.Skips.{each_none, each_more}
-use borrow.Author.Rules.{rules}
 use Rattle.lake_step_two.proofs.add_symbols.Goals as goal
 
 pub loop-i-init : goal.loop-i-init

@@ -1,14 +1,8 @@
-use mathlib.Core.Path.{◌≡◌, refl, sym, ap, ap₂, ◌∙◌, subst}
-use mathlib.Core.List.{List, [], ◌∷◌, ◌++◌}
-use mathlib.Core.Bool.{Bool, true, false, not, ◌&&◌}
-use Prim.Native.Nat.{ℕ, ◌+◌, ◌*◌, ◌-◌, ◌^◌, ◌≤◌, ◌<◌}
-use native.Mathlib.Omega.{arith}
-use lib.ListN.{length, get_or, set, take}
-use lib.Dec.{eqb}
-use Rattle.lake_step_two.specs.steps.Skips.{each, symbol_in, terminal_of, Adds, Numbered}
+use mathlib.Core.Path.{◌≡◌}
+use Prim.Native.Nat.{ℕ, ◌+◌, ◌*◌, ◌-◌, ◌≤◌}
+use lib.ListN.{length}
+use Rattle.lake_step_two.specs.steps.Skips.{each, symbol_in, Adds}
 use Rattle.read_tokens.specs.Token.{Leaf}
-use Rattle.lake_step_two.specs.laws.Skips.{each_none, each_more}
-use borrow.Author.Rules.{rules}
 use Rattle.lake_step_two.proofs.add_symbols.Given as goal
 
 abbrev pub invariant-loop-i : goal.invariant-loop-i

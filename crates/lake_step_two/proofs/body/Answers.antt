@@ -1,4 +1,3 @@
-use borrow.Author.Rules.{rules}
 use Rattle.lake_step_two.proofs.body.Goals as goal
 
 pub returns-then-lake : goal.returns-then-lake

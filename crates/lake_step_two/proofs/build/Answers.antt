@@ -1,14 +1,7 @@
-use mathlib.Core.Path.{◌≡◌, refl, sym, ap, ap₂, ◌∙◌, subst}
-use mathlib.Core.List.{List, [], ◌∷◌, ◌++◌}
-use mathlib.Core.Bool.{Bool, true, false, not, ◌&&◌}
-use Prim.Native.Nat.{ℕ, ◌+◌, ◌*◌, ◌-◌, ◌^◌, ◌≤◌, ◌<◌}
+use mathlib.Core.Path.{◌≡◌, refl, subst}
+use Prim.Native.Nat.{ℕ, ◌-◌}
 use native.Mathlib.Omega.{arith}
-use lib.ListN.{length, get_or, set, take}
-use lib.Dec.{eqb}
-use Rattle.lake_step_two.specs.steps.Stepped.{Ready, PlainMade}
-use Rattle.grammar_table.specs.Table.{symbol_count, terminal_count}
-use Rattle.grammar.specs.Numbers.{Grammar}
-use borrow.Author.Rules.{rules}
+use Rattle.lake_step_two.specs.steps.Stepped.{PlainMade}
 use Rattle.lake_step_two.proofs.build.Goals as goal
 
 pub loop-s-init : goal.loop-s-init

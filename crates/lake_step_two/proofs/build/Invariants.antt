@@ -1,14 +1,9 @@
-use mathlib.Core.Path.{◌≡◌, refl, sym, ap, ap₂, ◌∙◌, subst}
-use mathlib.Core.List.{List, [], ◌∷◌, ◌++◌}
-use mathlib.Core.Bool.{Bool, true, false, not, ◌&&◌}
-use Prim.Native.Nat.{ℕ, ◌+◌, ◌*◌, ◌-◌, ◌^◌, ◌≤◌, ◌<◌}
-use native.Mathlib.Omega.{arith}
-use lib.ListN.{length, get_or, set, take}
-use lib.Dec.{eqb}
+use mathlib.Core.Path.{◌≡◌}
+use Prim.Native.Nat.{◌*◌, ◌-◌, ◌≤◌, ◌<◌}
+use lib.ListN.{length}
 use Rattle.lake_step_two.specs.steps.Stepped.{Ready, PlainMade}
 use Rattle.grammar_table.specs.Table.{symbol_count, terminal_count}
 use Rattle.grammar.specs.Numbers.{Grammar}
-use borrow.Author.Rules.{rules}
 use Rattle.lake_step_two.proofs.build.Given as goal
 
 abbrev pub invariant-loop-s : goal.invariant-loop-s

@@ -1,9 +1,7 @@
-use Prim.Native.Nat.{ℕ, ◌+◌, ◌-◌}
-use mathlib.Core.Path.{◌≡◌, ◌∙◌}
-use mathlib.Core.List.{List}
+use Prim.Native.Nat.{◌-◌}
+use mathlib.Core.Path.{◌∙◌}
 use native.Mathlib.Omega.{arith}
 use Rattle.lake_step_two.specs.laws.Skips.{plain-bare, plain-lake}
-use borrow.Author.Rules.{rules}
 use Rattle.lake_step_two.proofs.lake_body.Goals as goal
 
 pub returns-then-b-eq0 : goal.returns-then-b-eq0

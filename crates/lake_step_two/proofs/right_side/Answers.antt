@@ -1,9 +1,6 @@
-use Prim.Native.Nat.{ℕ, ◌+◌, ◌-◌}
-use mathlib.Core.Path.{◌≡◌, ◌∙◌}
-use mathlib.Core.List.{List}
+use Prim.Native.Nat.{◌-◌}
 use native.Mathlib.Omega.{arith}
 use Rattle.lake_step_two.specs.laws.Skips.{plain-dot, plain_other}
-use borrow.Author.Rules.{rules}
 use Rattle.lake_step_two.proofs.right_side.Goals as goal
 
 pub returns-then-b-eq0 : goal.returns-then-b-eq0

@@ -1,17 +1,11 @@
-use mathlib.Core.Path.{◌≡◌, refl, sym, ap, ap₂, ◌∙◌, subst}
-use mathlib.Core.List.{List, [], ◌∷◌, ◌++◌}
-use mathlib.Core.Bool.{Bool, true, false, not, ◌&&◌}
-use Prim.Native.Nat.{ℕ, ◌+◌, ◌*◌, ◌-◌, ◌^◌, ◌≤◌, ◌<◌}
-use native.Mathlib.Omega.{arith}
-use lib.ListN.{length, get_or, set, take}
+use mathlib.Core.Path.{sym, ap, subst}
+use mathlib.Core.Bool.{Bool, not}
+use Prim.Native.Nat.{ℕ, ◌+◌, ◌-◌}
 use lib.Dec.{eqb}
-use Rattle.grammar_table.specs.Table.{symbols_at, symbol_words}
 use Rattle.lake_step_two.specs.steps.Stepped.{PlainMade}
 use Rattle.lake_step_two.specs.steps.Skips.{PlainTo}
-use Rattle.base_words.specs.Set.{empty}
 use Rattle.lake_step_one.specs.laws.Next.{next-lt}
 use Rattle.lake_step_two.specs.laws.Stepped.{plain-next}
-use borrow.Author.Rules.{rules}
 use Rattle.lake_step_two.proofs.symbol.Goals as goal
 
 pub returns : goal.returns

@@ -3,7 +3,7 @@ use Prim.Native.Nat.{ℕ, zero, suc, ◌+◌, ◌-◌, ◌*◌, ◌≤◌, ◌<�
 use Rattle.std.specs.Prelude.{◌≡◌}
 use Rattle.std.proofs.Math.Path.{refl, sym, ap}
 use Rattle.std.proofs.Common.{◌∙◌, subst}
-use mathlib.Core.List.{List, [], ◌∷◌, ◌++◌}
+use mathlib.Core.List.{List, [], ◌∷◌}
 use native.Mathlib.Omega.{arith}
 use Rattle.std.proofs.Math.ListN.{length, get_or, set}
 use Rattle.grammar.specs.Exp.{Exp}
@@ -50,12 +50,6 @@ module _ (t : List ℕ) where
 
     pub row-start : (n : ℕ) (cs : List ℕ) → row_of (bodies_of t) s p (words_from order 0 (n - 0)) cs ≡ row_of (bodies_of t) s p (words_from order 0 n) cs
     row-start n cs = let z : n - 0 ≡ n = omega arith in ap (λ (k : ℕ). row_of (bodies_of t) s p (words_from order 0 k) cs) z
-
-  -- one list of symbols behind the other
-  pub row-append : (s : List ℕ) (p : ℕ) (a b cs : List ℕ) → row_of (bodies_of t) s p (a ++ b) cs ≡ row_of (bodies_of t) s p b (row_of (bodies_of t) s p a cs)
-  unfolding row_of
-  row-append s p [] b cs = refl
-  row-append s p (r ∷ a) b cs = row-append s p a b (set cs (p * length (bodies_of t) + r) (body_takes (bodies_of t) s cs r p))
 
   -- one place
   pub fill_more : (s order cs new : List ℕ) (k : ℕ) → 0 < k → new ≡ row_of (bodies_of t) s (k - 1) order cs → fill_of (bodies_of t) s (k - 1) order new ≡ fill_of (bodies_of t) s k order cs

@@ -1,27 +1,21 @@
 -- The tasks of a place, one after the other as code does them. Assumes nothing.
-use Prim.Native.Nat.{ℕ, zero, suc, ◌+◌, ◌-◌, ◌*◌, ◌≤◌, ◌<◌}
-use Rattle.std.specs.Prelude.{◌≡◌, Bool, true, false, List, [], ◌∷◌, ◌++◌, ◌⊎◌, get_or, length, set}
-use Rattle.std.proofs.Math.Path.{refl, ap, sym as flip}
-use Rattle.std.proofs.Common.{ap₂, ◌∙◌, subst, true≢false, inl, inr, arith}
+use Rattle.std.specs.Prelude.{ℕ, suc, ◌+◌, ◌-◌, ◌*◌, ◌≤◌, ◌<◌, ◌≡◌, refl, Bool, true, false, List, ◌⊎◌, get_or, length, set}
+use Rattle.std.proofs.Common.{ap, ◌∙◌, subst, sym as flip, true≢false, inl, inr, arith}
 use Rattle.std.proofs.Math.Decide.{ℕ_discrete}
-use Rattle.std.proofs.Math.Numerals.{add-one}
-use Rattle.base_facts.specs.laws.Numbers.{lt-or-ge}
-use Rattle.grammar.specs.Exp.{Exp}
 use Rattle.grammar_table.specs.Table.{symbol_count, symbol_word, words_from}
 use Rattle.grammar_table.specs.Trees.{tree_of, bodies_of}
 use Rattle.match_eval.specs.Eval.{ev}
-use Rattle.match_eval.specs.laws.Memory.{knows-from, knows-stored, said-body, rounds-unnamed}
+use Rattle.match_eval.specs.laws.Memory.{knows-stored, said-body}
 use Rattle.match_eval.specs.steps.Firsts.{byte_at, preset_of}
-use Rattle.match_eval.specs.steps.Memory.{count_at, parts_at, rounds_of, Knows, Roomy, Front}
-use Rattle.match_eval.specs.steps.Named.{Named}
+use Rattle.match_eval.specs.steps.Memory.{count_at, parts_at, Knows, Roomy, Front}
 use Rattle.match_parts.specs.steps.Lists.{list_of, AllListed}
 use Rattle.match_parts.specs.laws.Lists.{listed-front}
-use Rattle.match_plan.specs.steps.Plan.{Takes, Repeats, open_count, task_count, told_word, told_list, taker_at, Recorded}
-use Rattle.match_plan.specs.laws.Plan.{take_same, repeats-same}
+use Rattle.match_plan.specs.steps.Plan.{Takes, open_count, task_count, taker_at, Recorded}
+use Rattle.match_plan.specs.laws.Plan.{take_same}
 use Rattle.match_cells.specs.Cells.{body_takes, row_of}
 use Rattle.match_cells.specs.steps.Runs.{record_of, copy_of, set_of, Settable, Fillable, fill_by, FilledBy}
 use Rattle.match_cells.specs.laws.Preset.{row_opens, record-said, record-room, set-copy, set-preset}
-use Rattle.match_cells.specs.laws.Rows.{stored, row_more, row-end, row-append}
+use Rattle.match_cells.specs.laws.Rows.{stored, row_more, row-end}
 
 -- what the list of a task takes is what its symbol's body takes, or its key's part
 module _ (t s cs lists : List ℕ) (n p w at v : ℕ) (e : at ≡ get_or lists w 0) (f : v ≡ list_of t s cs n lists at p) where
@@ -61,64 +55,27 @@ module _ (t s : List ℕ) (p : ℕ) (plan : List ℕ) (i : ℕ) where
       let y : i + m - i ≡ m = omega arith in
       ap (λ (x : ℕ). row_of (bodies_of t) s p (words_from plan x (i + m - x)) cs) z ∙ ap (λ (k : ℕ). row_of (bodies_of t) s p (words_from plan i k) cs) y
 
+  -- behind the open symbols
+  pub tasks-past : (j m : ℕ) (cs : List ℕ) → m ≤ j
+      → row_of (bodies_of t) s p (words_from plan (i + (j + 1)) (i + m - (i + (j + 1)))) cs ≡ row_of (bodies_of t) s p (words_from plan (i + j) (i + m - (i + j))) cs
+  tasks-past j m cs l = flip (row-end t s p plan (i + (j + 1)) (i + m) cs (omega (arith, l))) ∙ row-end t s p plan (i + j) (i + m) cs (omega (arith, l))
+
   pub tasks-end : (j m : ℕ) (cs : List ℕ) → m ≤ j → cs ≡ row_of (bodies_of t) s p (words_from plan (i + j) (i + m - (i + j))) cs
   tasks-end j m cs l = row-end t s p plan (i + j) (i + m) cs (omega (arith, l))
 
--- ── a symbol that is told by the first key: c bytes are what rounds of its part y take ──
-module _ (t s : List ℕ) (n p : ℕ) (q : n ≡ symbol_count t) (h : p ≤ length s) (cs new old mem : List ℕ) (f : Front old mem) (told k y c : ℕ)
-    (given : (r : ℕ) → told ≡ suc r → Repeats t old n r k) (some : told ≡ 0 → ⊥) (e : y ≡ get_or mem (parts_at + k) 0) (g : c ≡ rounds_of t s cs n y p)
-    (put : new ≡ set cs (p * n + (told - 1)) (c + 1)) where
-  there : Repeats t mem n (told - 1) k
-  there = repeats-same t old mem f n (told - 1) k (given (told - 1) (omega (arith, some)))
-
-  takes : c + 1 ≡ ev s cs n (tree_of t (symbol_word t (told - 1) 1)) p
-  unfolding ev
-  takes = add-one c ∙ ap suc (g ∙ ap (λ (x : ℕ). rounds_of t s cs n x p) e) ∙ flip (ap (λ (x : Exp ℕ). ev s cs n x p) there.body)
-
-  pub told-knows : Knows t s cs n mem (p + 1) p → Knows t s new n mem p p
-  told-knows w =
-      knows-from t s new mem n (p + 1) p p p (omega arith) (omega arith)
-      (stored-knows t s n p q h cs new (told - 1) (c + 1) there.symbol takes put mem w)
-
-  pub told-rounds : c ≡ rounds_of t s new n y p
-  told-rounds =
-      g ∙ rounds-unnamed t s cs n p (told - 1) (c + 1) there.symbol y p (subst (λ (x : ℕ). Named (told - 1) (tree_of t x) → ⊥) (flip e) there.unnamed)
-      ∙ ap (λ (x : List ℕ). rounds_of t s x n y p) (flip put)
-
-  pub told-row : (row : List ℕ) → cs ≡ row → new ≡ row_of (bodies_of t) s p (told_list told) row
-  unfolding row_of
-  told-row row d =
-      let z : told ≡ suc (told - 1) = omega (arith, some) in
-      put ∙ stored t s n q cs (told - 1) p (symbol_word t (told - 1) 1) (c + 1) there.symbol refl takes
-      ∙ ap (row_of (bodies_of t) s p ((told - 1) ∷ [])) d ∙ ap (λ (x : ℕ). row_of (bodies_of t) s p (told_list x) row) (flip z)
-
--- where all open symbols have been stored and the one that is told, if there is one
-pub row-left : (t s : List ℕ) (p : ℕ) (cs row : List ℕ) (told m j : ℕ) → ((r : ℕ) → told ≡ suc r → m < j) → (j ≤ m → cs ≡ row)
-    → (m < j → cs ≡ row_of (bodies_of t) s p (told_list told) row) → cs ≡ row_of (bodies_of t) s p (told_list told) row
-unfolding row_of
-row-left t s p cs row zero m j f g h = elim (lt-or-ge m j) [ inl l ↦ h l | inr l ↦ g l ]
-row-left t s p cs row (suc r) m j f g h = h (f r refl)
-
 -- ── a place by its byte's record ──
-pub place-done : (t s mem order plan : List ℕ) (n o p m told : ℕ) (cs mid new : List ℕ) → n ≡ symbol_count t → ((j : ℕ) → j < n → get_or order j 0 < n) → p ≤ length s
-    → Recorded t mem order n plan (byte_at s p) o → m ≡ open_count plan n o → told ≡ told_word plan n o → mid ≡ copy_of plan o (p * n) n cs → Knows t s mid n mem (p + 1) p
-    → new ≡ row_of (bodies_of t) s p (told_list told) (row_of (bodies_of t) s p (words_from plan (o + n + 3) m) mid) → new ≡ row_of (bodies_of t) s p (words_from order 0 n) (copy_of plan o (p * n) n cs)
-place-done t s mem order plan n o p m told cs mid new q f h r e u g w d =
-    d ∙ flip (row-append t s p (words_from plan (o + n + 3) m) (told_list told) mid)
-    ∙ ap₂ (λ (k z : ℕ). row_of (bodies_of t) s p (words_from plan (o + n + 3) k ++ told_list z) mid) e u ∙ ap (λ (l : List ℕ). row_of (bodies_of t) s p l mid) r.opens
+pub place-done : (t s mem order plan : List ℕ) (n o p m : ℕ) (cs mid new : List ℕ) → n ≡ symbol_count t → ((j : ℕ) → j < n → get_or order j 0 < n) → p ≤ length s
+    → Recorded t mem order n plan (byte_at s p) o → m ≡ open_count plan n o → mid ≡ copy_of plan o (p * n) n cs → Knows t s mid n mem (p + 1) p
+    → new ≡ row_of (bodies_of t) s p (words_from plan (o + n + 2) m) mid → new ≡ row_of (bodies_of t) s p (words_from order 0 n) (copy_of plan o (p * n) n cs)
+place-done t s mem order plan n o p m cs mid new q f h r e g w d =
+    d ∙ ap (λ (k : ℕ). row_of (bodies_of t) s p (words_from plan (o + n + 2) k) mid) e ∙ ap (λ (l : List ℕ). row_of (bodies_of t) s p l mid) r.opens
     ∙ row_opens t s mem n p (byte_at s p) refl q h order n 0 mid (λ j l k. f j (omega (arith, k))) w
     ∙ ap (row_of (bodies_of t) s p (words_from order 0 n)) g
 
-pub told-left : (t mem order : List ℕ) (n : ℕ) (plan : List ℕ) (b o m k told : ℕ) → Recorded t mem order n plan b o → m ≡ open_count plan n o → k ≡ task_count plan n o
-    → told ≡ told_word plan n o → (r : ℕ) → told ≡ suc r → (m < k) × Repeats t mem n r (get_or plan (o + n + 3 + m) 0 - 64)
-told-left t mem order n plan b o m k told w e f g r h =
-    let a = w.told r (flip g ∙ h) in
-    (omega (arith, a.0, e, f), subst (λ (z : ℕ). Repeats t mem n r (get_or plan (o + n + 3 + z) 0 - 64)) (flip e) a.1)
-
 pub takers-left : (t old new order : List ℕ) (n : ℕ) (plan : List ℕ) (b o k d : ℕ) → Recorded t old order n plan b o → Front old new → k ≡ task_count plan n o
-    → d ≡ get_or plan (o + n + 3 + k) 0 → (j : ℕ) → j < d → (get_or plan (o + n + 3 + k + 1 + j) 0 < 1025) × Takes new b (get_or plan (o + n + 3 + k + 1 + j) 0)
+    → d ≡ get_or plan (o + n + 2 + k) 0 → (j : ℕ) → j < d → (get_or plan (o + n + 2 + k + 1 + j) 0 < 1025) × Takes new b (get_or plan (o + n + 2 + k + 1 + j) 0)
 takers-left t old new order n plan b o k d r f e =
-    subst (λ (z : ℕ). d ≡ get_or plan (o + n + 3 + z) 0 → (j : ℕ) → j < d → (get_or plan (o + n + 3 + z + 1 + j) 0 < 1025) × Takes new b (get_or plan (o + n + 3 + z + 1 + j) 0))
+    subst (λ (z : ℕ). d ≡ get_or plan (o + n + 2 + z) 0 → (j : ℕ) → j < d → (get_or plan (o + n + 2 + z + 1 + j) 0 < 1025) × Takes new b (get_or plan (o + n + 2 + z + 1 + j) 0))
     (flip e) (λ g j l. let a = r.takes j (omega (arith, l, g)) in (a.0, take_same t old new f b (taker_at plan n o j) a.0 a.1))
 
 -- ── from place to place: n is how many symbols there are, as code counts them ──

@@ -2,10 +2,10 @@
 use Prim.Native.Nat.{ℕ, zero, suc, ◌+◌, ◌-◌, ◌≤◌, ◌<◌}
 use Rattle.std.specs.Prelude.{◌≡◌, ◌⊎◌, Bool, true, false, List, [], ◌++◌, eqb, length, get_or, set, replicate}
 use Rattle.std.proofs.Math.Path.{refl}
-use Rattle.std.proofs.Common.{ap, ap₂, ◌∙◌, subst, sym as flip, inl, inr, arith, eq-or-lt_of_le, length-set, get_or-set_same, get_or-set_other, eqb-true}
+use Rattle.std.proofs.Common.{ap, ◌∙◌, subst, sym as flip, inl, inr, arith, eq-or-lt_of_le, length-set, get_or-set_same, get_or-set_other, eqb-true}
 use Rattle.std.proofs.lemmas.List.{length-replicate}
 use Rattle.std.proofs.lemmas.Bool.{eqb-false}
-use Rattle.grammar.specs.Exp.{Exp, ter, seq, alt, opt, star, plus, ahead, never}
+use Rattle.grammar.specs.Exp.{Exp, seq, alt, opt, star, plus}
 use Rattle.grammar_table.specs.Table.{leaf_in, symbol_word, expression_count}
 use Rattle.grammar_table.specs.Trees.{tree_of}
 use Rattle.match_meaning.specs.Meaning.{Node}

@@ -1,11 +1,9 @@
 use mathlib.Core.Path.{◌≡◌, refl, sym, ap, ◌∙◌}
 use mathlib.Core.List.{List}
-use mathlib.Core.Logic.{⊎_elim}
 use native.Mathlib.Omega.{arith}
 use native.Mathlib.Numerals.{add-one}
 use lib.ListN.{length}
-use Rattle.grammar.specs.Exp.{Exp, ter}
-use Rattle.read_tokens.specs.Token.{any}
+use Rattle.grammar.specs.Exp.{Exp}
 use Rattle.grammar_table.specs.Table.{right_of, node_by, leaf_in}
 use Rattle.match_eval.specs.Eval.{leaf_at, ev, rep}
 use Rattle.match_eval.specs.laws.Within.{ev-within, rep-within}
@@ -15,8 +13,7 @@ use Rattle.grammar_table.specs.Trees.{tree_of, below}
 use Rattle.grammar_table.specs.laws.Trees.{node-never, below-le}
 use Rattle.match_eval.specs.laws.Evaluated.{zero-tree, node-ev}
 use Rattle.match_eval.specs.laws.Memory.{known-ends, said-right, knows-from}
-use borrow.Author.Rules.{rules}
-use Prim.Native.Nat.{ℕ, suc, ◌+◌, ◌-◌, ◌*◌, ◌≤◌, ◌<◌}
+use Prim.Native.Nat.{ℕ, suc, ◌+◌, ◌-◌, ◌≤◌}
 use Rattle.match_eval.proofs.+eval_with_many_round.Goals as goal
 use Rattle.match_eval.proofs.+eval_with_many_round.Goals.{many-then-w-eq0, many-else-w-eq0}
 

@@ -1,22 +1,8 @@
-use mathlib.Core.Path.{◌≡◌, refl, sym, ap, ◌∙◌}
-use mathlib.Core.List.{List}
-use mathlib.Core.Logic.{⊎_elim}
-use native.Mathlib.Omega.{arith}
-use native.Mathlib.Numerals.{add-one}
+use mathlib.Core.Path.{◌≡◌}
 use lib.ListN.{length}
-use Rattle.grammar.specs.Exp.{Exp, ter}
-use Rattle.read_tokens.specs.Token.{any}
-use Rattle.grammar_table.specs.Table.{right_of, node_by, leaf_in}
-use Rattle.match_eval.specs.Eval.{leaf_at, ev, rep}
-use Rattle.match_eval.specs.laws.Within.{ev-within, rep-within}
-use Rattle.match_eval.specs.laws.EvalSteps.{seq-left, seq-right, seq-both, alt-left, alt-right, plus-ends, plus-takes, opt-fails, opt-takes, ahead-fails, ahead-takes, never-takes}
-use Rattle.match_eval.specs.laws.EvalSteps.{never-fails, rep-ends, rep-none, rep-more}
-use Rattle.grammar_table.specs.Trees.{tree_of, below}
-use Rattle.grammar_table.specs.laws.Trees.{node-never, below-le}
-use Rattle.match_eval.specs.laws.Evaluated.{zero-tree, node-ev}
-use Rattle.match_eval.specs.laws.Memory.{known-ends, said-right, knows-from}
-use borrow.Author.Rules.{rules}
-use Prim.Native.Nat.{ℕ, suc, ◌+◌, ◌-◌, ◌*◌, ◌≤◌, ◌<◌}
+use Rattle.match_eval.specs.Eval.{ev, rep}
+use Rattle.grammar_table.specs.Trees.{tree_of}
+use Prim.Native.Nat.{ℕ, ◌+◌, ◌-◌, ◌≤◌}
 use Rattle.match_eval.proofs.+eval_with_many_round.Given as goal
 
 abbrev pub decreases-eval_with : goal.decreases-eval_with

@@ -2,7 +2,6 @@ use native.Mathlib.Omega.{arith}
 use mathlib.Core.Path.{sym}
 use lib.ListN.{get_or-eq_default}
 use Rattle.grammar_table.specs.laws.Places.{get_d_any}
-use borrow.Author.Rules.{rules}
 use Rattle.match_eval.proofs.byte_at.Goals as goal
 
 pub overflow_cast-b : goal.overflow_cast-b

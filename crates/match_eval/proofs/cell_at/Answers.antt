@@ -2,7 +2,6 @@ use Prim.Native.Nat.{◌≤◌, ◌*◌}
 use native.Mathlib.Omega.{arith}
 use native.Mathlib.Nat.{mul-le-mul}
 use Rattle.match_eval.specs.laws.EvalSteps.{cell-past, cell-over, cell-is}
-use borrow.Author.Rules.{rules}
 use Rattle.match_eval.proofs.cell_at.Goals as goal
 
 pub overflow_mul-p : goal.overflow_mul-p

@@ -1,14 +1,12 @@
-use Prim.Native.Nat.{ℕ, ◌+◌, ◌≤◌, ◌<◌}
-use mathlib.Core.Path.{◌≡◌, sym, ap, ◌∙◌}
+use Prim.Native.Nat.{◌+◌}
+use mathlib.Core.Path.{sym, ap, ◌∙◌}
 use mathlib.Core.Bool.{not}
 use native.Mathlib.Omega.{arith}
-use lib.Dec.{eqb}
 use lib.ListN.{get_or}
 use borrow.Author.Tests.{eq-eqb, ne_eqb}
 use Rattle.grammar_table.specs.Table.{marks_from}
 use Rattle.match_eval.specs.laws.EvalSteps.{class-ends, class-takes, class-fails}
 use Rattle.grammar_table.specs.laws.Leaves.{marks-at}
-use borrow.Author.Rules.{rules}
 use Rattle.match_eval.proofs.class_at.Goals as goal
 
 pub returns-then-s-p : goal.returns-then-s-p

@@ -1,11 +1,10 @@
-use Prim.Native.Nat.{ℕ, ◌+◌, ◌*◌, ◌≤◌, ◌<◌}
-use mathlib.Core.Path.{◌≡◌, refl, sym, ap, ◌∙◌}
+use Prim.Native.Nat.{ℕ}
+use mathlib.Core.Path.{ap, ◌∙◌}
 use native.Mathlib.Omega.{arith}
 use Rattle.read_tokens.specs.Token.{Leaf, literal, class}
 use Rattle.grammar_table.specs.Table.{words_from, marks_from}
 use Rattle.match_eval.specs.Eval.{leaf_at}
 use Rattle.grammar_table.specs.laws.Leaves.{is_any, is-literal, is-class}
-use borrow.Author.Rules.{rules}
 use Rattle.match_eval.proofs.leaf_at.Goals as goal
 
 pub content_at-i-requires : goal.content_at-i-requires

@@ -1,13 +1,11 @@
-use Prim.Native.Nat.{ℕ, ◌+◌, ◌≤◌, ◌<◌}
+use Prim.Native.Nat.{ℕ, ◌+◌}
 use mathlib.Core.Path.{◌≡◌, refl, sym, ap, ◌∙◌}
 use native.Mathlib.Omega.{arith}
 use lib.ListN.{length}
 use Rattle.grammar_table.specs.Table.{words_from}
-use Rattle.match_eval.specs.Eval.{stands}
 use Rattle.match_eval.specs.laws.EvalSteps.{literal-takes, literal-fails}
 use Rattle.match_eval.specs.laws.Leaves.{lit-ends, lit-differs, lit-goes, lit-done}
 use Rattle.grammar_table.specs.laws.Leaves.{words-length}
-use borrow.Author.Rules.{rules}
 use Rattle.match_eval.proofs.literal_at.Goals as goal
 
 pub loop-k-init : goal.loop-k-init

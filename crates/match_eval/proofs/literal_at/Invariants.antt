@@ -1,13 +1,8 @@
-use Prim.Native.Nat.{ℕ, ◌+◌, ◌≤◌, ◌<◌}
-use mathlib.Core.Path.{◌≡◌, refl, sym, ap, ◌∙◌}
-use native.Mathlib.Omega.{arith}
+use Prim.Native.Nat.{◌+◌, ◌≤◌}
+use mathlib.Core.Path.{◌≡◌}
 use lib.ListN.{length}
 use Rattle.grammar_table.specs.Table.{words_from}
 use Rattle.match_eval.specs.Eval.{stands}
-use Rattle.match_eval.specs.laws.EvalSteps.{literal-takes, literal-fails}
-use Rattle.match_eval.specs.laws.Leaves.{lit-ends, lit-differs, lit-goes, lit-done}
-use Rattle.grammar_table.specs.laws.Leaves.{words-length}
-use borrow.Author.Rules.{rules}
 use Rattle.match_eval.proofs.literal_at.Given as goal
 
 abbrev pub invariant-loop-k : goal.invariant-loop-k

@@ -2,7 +2,6 @@ use native.Mathlib.Omega.{arith}
 use Prim.Native.Nat.{◌+◌, ◌≤◌}
 use lib.ListN.{length}
 use Rattle.match_eval.specs.laws.Memory.{told-right, said-ends, said-room, said-next}
-use borrow.Author.Rules.{rules}
 use Rattle.match_eval.proofs.many_at.Goals as goal
 
 pub returns-then-c-lt-UNKNOWN : goal.returns-then-c-lt-UNKNOWN

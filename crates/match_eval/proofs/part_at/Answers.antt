@@ -2,7 +2,6 @@ use mathlib.Core.Path.{sym, ◌∙◌}
 use Rattle.grammar_table.specs.Table.{node_by}
 use Rattle.match_eval.specs.Eval.{ev}
 use Rattle.match_eval.specs.laws.Evaluated.{zero-tree, node-ev}
-use borrow.Author.Rules.{rules}
 use Rattle.match_eval.proofs.part_at.Goals as goal
 
 pub returns-then-x-eq0 : goal.returns-then-x-eq0

@@ -7,7 +7,6 @@ use Rattle.grammar_table.specs.laws.Trees.{below-le}
 use Rattle.match_eval.specs.Eval.{ev}
 use Rattle.match_eval.specs.laws.Evaluated.{zero-tree, node-ev}
 use Rattle.match_eval.specs.laws.Memory.{knows-from, said-right, said-ends, said-room, said-next, said-plus, star-rounds, rounds-within}
-use borrow.Author.Rules.{rules}
 use Rattle.match_eval.proofs.piece.Goals as goal
 
 pub returns-then-w-ne0 : goal.returns-then-w-ne0

@@ -1,5 +1,5 @@
 -- What is remembered stays right: when cells before it change, and when an entry is made. Assumes nothing.
-use Rattle.std.specs.Prelude.{ℕ, zero, suc, ◌+◌, ◌-◌, ◌*◌, ◌≤◌, ◌<◌, ◌≡◌, cond, ◌&&◌, List, ◌⊎◌, leb, ltb, get_or, length, set, replicate}
+use Rattle.std.specs.Prelude.{ℕ, zero, suc, ◌+◌, ◌-◌, ◌*◌, ◌≤◌, ◌<◌, ◌≡◌, List, ◌⊎◌, get_or, length, set, replicate}
 use Rattle.std.proofs.Math.Path.{refl, ap}
 use Rattle.std.proofs.Common.{sym, ◌∙◌, subst, inl, inr, arith, add-one, suc-mul, mul-le-mul_right, length-set, get_or-set_same, get_or-set_other}
 use Rattle.std.proofs.Math.Decide.{ℕ_discrete}
@@ -7,17 +7,16 @@ use Rattle.base_facts.specs.laws.Numbers.{lt-or-ge}
 use Rattle.std.proofs.Math.ListN.{get_or-eq_default}
 use Rattle.std.proofs.Math.Seq.{set_out}
 use Rattle.grammar.specs.Exp.{Exp}
-use Rattle.match_eval.specs.Eval.{cell_at, ev, rep, plus_of}
+use Rattle.match_eval.specs.Eval.{ev, rep, plus_of}
 use Rattle.match_eval.specs.laws.Within.{ev-within, rep-within}
 use Rattle.grammar_table.specs.Table.{op_of, left_of, node_by, symbol_word}
 use Rattle.grammar_table.specs.Trees.{tree_of, below}
 use Rattle.match_eval.specs.steps.Firsts.{byte_at, said_at, said_of, word_of, Heard, Sure}
 use Rattle.match_eval.specs.steps.Memory.{count_at, keys_at, seen_at, entries_at, rounds_of, Key, Alike, Words, Ready, Told, Knows}
-use Rattle.match_eval.specs.steps.Named.{Named}
 use Rattle.match_eval.specs.laws.Evaluated.{node-ev}
-use Rattle.match_eval.specs.laws.EvalSteps.{cell-past, plus-takes, rep-ends, rep-more}
+use Rattle.match_eval.specs.laws.EvalSteps.{plus-takes, rep-ends, rep-more}
 use Rattle.match_eval.specs.laws.Said.{said-small, said_same, said-blank}
-use Rattle.match_eval.specs.laws.Frame.{rounds-answer, rounds-same, rep-enough}
+use Rattle.match_eval.specs.laws.Frame.{rounds-same, rep-enough}
 
 -- ── what is said ──
 -- what the first memory says, the second says too
@@ -120,19 +119,6 @@ module _ (t s cs mem : List ℕ) (n : ℕ) where
           let b : (q ≡ p) × (i ≡ r) = cell-one p r q i l j a in
           ap (λ (y : ℕ). get_or (set cs (p * n + r) v) y 0) a ∙ get_or-set_same cs (p * n + r) v 0 d
           ∙ z u (ap (λ (y : ℕ). word_of t mem (byte_at s y) r) (sym b.0) ∙ ap (λ (y : ℕ). word_of t mem (byte_at s q) y) (sym b.1) ∙ e)
-
--- what a part takes goes by the cells of the symbols that it names: the cell of another is stored
-pub rounds-unnamed : (t s cs : List ℕ) (n p r v : ℕ) → r < n → (x q : ℕ) → (Named r (tree_of t x) → ⊥)
-    → rounds_of t s cs n x q ≡ rounds_of t s (set cs (p * n + r) v) n x q
-unfolding cell_at
-rounds-unnamed t s cs n p r v l x q f = rounds-answer s cs (set cs (p * n + r) v) n (tree_of t x) q (λ j i h u. same j i (λ e. f (subst (λ (y : ℕ). Named y (tree_of t x)) e u)))
-  where
-    same : (j i : ℕ) → (i ≡ r → ⊥) → cell_at s cs n i j ≡ cell_at s (set cs (p * n + r) v) n i j
-    same j i g = elim (lt-or-ge i n) [
-      | inl m ↦ ap (λ (y : ℕ). cond (ltb i n && leb y (length s - j + 1)) y 0)
-          (sym (get_or-set_other cs (p * n + r) (j * n + i) v 0 (λ e. g (cell-one t s cs cs n p r j i l m e).1)))
-      | inr m ↦ sym (cell-past s cs n i j m) ∙ cell-past s (set cs (p * n + r) v) n i j m
-    ]
 
 pub rounds-within : (t s cs : List ℕ) (n x q : ℕ) → q ≤ length s → rounds_of t s cs n x q + q ≤ length s
 rounds-within t s cs n x q h = rep-within (length s) (length s) (λ (i : ℕ). ev s cs n (tree_of t x) i) (λ i g. ev-within s cs n (tree_of t x) i g) q h

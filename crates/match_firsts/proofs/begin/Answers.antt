@@ -1,7 +1,6 @@
 use native.Mathlib.Omega.{arith}
-use Prim.Native.Nat.{◌-◌, ◌≤◌}
+use Prim.Native.Nat.{◌-◌}
 use Rattle.grammar_table.specs.laws.Trees.{below-le}
-use borrow.Author.Rules.{rules}
 use Rattle.match_firsts.proofs.begin.Goals as goal
 
 pub overflow_sub-e : goal.overflow_sub-e

@@ -1,7 +1,4 @@
-use native.Mathlib.Omega.{arith}
 use Prim.Native.Nat.{◌-◌, ◌≤◌}
-use Rattle.grammar_table.specs.laws.Trees.{below-le}
-use borrow.Author.Rules.{rules}
 use Rattle.match_firsts.proofs.begin.Given as goal
 
 abbrev pub invariant-loop-y : goal.invariant-loop-y

@@ -10,7 +10,6 @@ use Rattle.match_eval.specs.steps.Firsts.{Sure, Guards}
 use Rattle.match_eval.specs.laws.EvalSteps.{opt-fails, opt-takes, ahead-fails, ahead-takes, never-takes, never-fails}
 use Rattle.match_firsts.specs.laws.Firsts.{dot-sure, sure-leaf, sure-symbol, sure-left, sure_next, sure-guard, sure-one, sure-both, sure-option, sure-star, sure-plus, sure-ahead}
 use Rattle.match_firsts.specs.laws.Firsts.{sure-never, firm-ahead, firm-never}
-use borrow.Author.Rules.{rules}
 use Rattle.match_firsts.proofs.decide.Goals as goal
 
 -- what is said of a part, by its number in the definition

@@ -4,7 +4,6 @@ use Prim.Native.Nat.{◌+◌, ◌*◌, ◌≤◌}
 use native.Mathlib.Nat.{mul-le-mul}
 use lib.ListN.{length}
 use Rattle.match_eval.specs.laws.Words.{fresh-ready, fresh-roomy}
-use borrow.Author.Rules.{rules}
 use Rattle.match_firsts.proofs.decide_all.Goals as goal
 
 pub overflow_add-s : goal.overflow_add-s

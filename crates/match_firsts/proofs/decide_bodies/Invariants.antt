@@ -1,10 +1,7 @@
-use native.Mathlib.Omega.{arith}
-use mathlib.Core.Path.{◌≡◌, refl, sym, subst, ◌∙◌}
-use mathlib.Core.List.{List}
-use Prim.Native.Nat.{ℕ, ◌+◌, ◌-◌, ◌<◌, ◌≤◌}
+use mathlib.Core.Path.{◌≡◌}
+use Prim.Native.Nat.{◌-◌}
 use lib.ListN.{length}
 use Rattle.match_eval.specs.steps.Memory.{Ready}
-use borrow.Author.Rules.{rules}
 use Rattle.match_firsts.proofs.decide_bodies.Given as goal
 
 abbrev pub invariant-loop-j : goal.invariant-loop-j

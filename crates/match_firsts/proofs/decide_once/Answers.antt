@@ -1,11 +1,9 @@
 use native.Mathlib.Omega.{arith}
-use mathlib.Core.Path.{◌≡◌, refl, sym, subst, ◌∙◌}
+use mathlib.Core.Path.{sym, subst}
 use mathlib.Core.List.{List}
-use Prim.Native.Nat.{ℕ, ◌+◌, ◌-◌, ◌<◌, ◌≤◌}
-use lib.ListN.{length}
+use Prim.Native.Nat.{ℕ, ◌-◌}
 use Rattle.match_eval.specs.steps.Memory.{Ready}
 use Rattle.match_eval.specs.laws.Words.{ready-seen}
-use borrow.Author.Rules.{rules}
 use Rattle.match_firsts.proofs.decide_once.Goals as goal
 
 pub overflow_add-b : goal.overflow_add-b

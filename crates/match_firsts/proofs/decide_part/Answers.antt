@@ -1,6 +1,5 @@
 use native.Mathlib.Omega.{arith}
 use Rattle.match_eval.specs.laws.Words.{ready-said}
-use borrow.Author.Rules.{rules}
 use Rattle.match_firsts.proofs.decide_part.Goals as goal
 
 pub decide-v-requires : goal.decide-v-requires

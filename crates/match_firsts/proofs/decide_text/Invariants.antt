@@ -1,9 +1,7 @@
-use native.Mathlib.Omega.{arith}
-use mathlib.Core.Path.{◌≡◌, refl, ◌∙◌}
+use mathlib.Core.Path.{◌≡◌}
 use Prim.Native.Nat.{◌-◌, ◌≤◌}
 use lib.ListN.{length}
 use Rattle.match_eval.specs.steps.Memory.{Ready}
-use borrow.Author.Rules.{rules}
 use Rattle.match_firsts.proofs.decide_text.Given as goal
 
 abbrev pub invariant-loop-p : goal.invariant-loop-p

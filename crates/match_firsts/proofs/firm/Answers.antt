@@ -1,7 +1,6 @@
 use native.Mathlib.Omega.{arith}
 use mathlib.Core.Bool.{false≢true}
 use Rattle.match_firsts.specs.laws.Firsts.{firm-option, firm-star}
-use borrow.Author.Rules.{rules}
 use Rattle.match_firsts.proofs.firm.Goals as goal
 
 pub returns-then-x-eq0 : goal.returns-then-x-eq0

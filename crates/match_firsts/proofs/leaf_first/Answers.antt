@@ -8,7 +8,6 @@ use Rattle.read_tokens.specs.Token.{Leaf}
 use Rattle.grammar_table.specs.laws.Leaves.{is_any, is-literal, is-class}
 use Rattle.match_eval.specs.steps.Firsts.{LeafSure}
 use Rattle.match_firsts.specs.laws.Firsts.{any-sure, empty-sure, literal-off, literal-sure, class-off, class-sure}
-use borrow.Author.Rules.{rules}
 use Rattle.match_firsts.proofs.leaf_first.Goals as goal
 
 first_word : (t : List ℕ) (x : ℕ) {c : ℕ} → c ≡ get_or t (content_at x + 0) 0 → c ≡ get_or t (content_at x) 0

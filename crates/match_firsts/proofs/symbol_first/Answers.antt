@@ -1,9 +1,8 @@
 use native.Mathlib.Omega.{arith}
 use mathlib.Core.Path.{sym, ap, ◌∙◌}
-use Prim.Native.Nat.{ℕ, ◌-◌}
+use Prim.Native.Nat.{◌-◌}
 use Rattle.match_eval.specs.steps.Firsts.{said_of}
 use Rattle.match_firsts.specs.laws.Firsts.{symbol-sure}
-use borrow.Author.Rules.{rules}
 use Rattle.match_firsts.proofs.symbol_first.Goals as goal
 
 pub returns-then-n-r : goal.returns-then-n-r

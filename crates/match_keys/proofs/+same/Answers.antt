@@ -5,9 +5,8 @@ use borrow.Author.Tests.{not-false}
 use Rattle.grammar_table.specs.Trees.{tree_of, below}
 use Rattle.grammar_table.specs.laws.Trees.{below-le}
 use Rattle.match_keys.specs.laws.Keys.{trees-same}
-use Prim.Native.Nat.{ℕ, ◌<◌, ◌-◌}
-use borrow.Author.Rules.{rules}
-use Prim.Native.Nat.{ℕ, ◌<◌}
+use Prim.Native.Nat.{ℕ, ◌-◌}
+use Prim.Native.Nat.{ℕ}
 use Rattle.match_keys.proofs.+same.Goals as goal
 
 pub returns-then-x-y : goal.returns-then-x-y

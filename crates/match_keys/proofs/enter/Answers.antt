@@ -5,7 +5,6 @@ use mathlib.Core.List.{List}
 use lib.ListN.{set}
 use Rattle.match_eval.specs.steps.Memory.{Fresh}
 use Rattle.match_keys.specs.laws.Keys.{fresh-like, fresh-own}
-use borrow.Author.Rules.{rules}
 use Rattle.match_keys.proofs.enter.Goals as goal
 
 pub find-k-requires : goal.find-k-requires

@@ -1,11 +1,9 @@
 use native.Mathlib.Omega.{arith}
-use mathlib.Core.Path.{◌≡◌, refl, sym, subst, ◌∙◌}
+use mathlib.Core.Path.{refl, sym, subst, ◌∙◌}
 use Prim.Native.Nat.{ℕ, ◌-◌}
 use mathlib.Core.List.{List}
-use lib.ListN.{length}
 use Rattle.match_eval.specs.steps.Memory.{Fresh}
 use Rattle.match_keys.specs.laws.Keys.{fresh-places}
-use borrow.Author.Rules.{rules}
 use Rattle.match_keys.proofs.enter_all.Goals as goal
 
 pub loop-e-init : goal.loop-e-init

@@ -1,11 +1,7 @@
-use native.Mathlib.Omega.{arith}
-use mathlib.Core.Path.{◌≡◌, refl, sym, subst, ◌∙◌}
-use Prim.Native.Nat.{ℕ, ◌-◌}
-use mathlib.Core.List.{List}
+use mathlib.Core.Path.{◌≡◌}
+use Prim.Native.Nat.{◌-◌}
 use lib.ListN.{length}
 use Rattle.match_eval.specs.steps.Memory.{Fresh}
-use Rattle.match_keys.specs.laws.Keys.{fresh-places}
-use borrow.Author.Rules.{rules}
 use Rattle.match_keys.proofs.enter_all.Given as goal
 
 abbrev pub invariant-loop-e : goal.invariant-loop-e

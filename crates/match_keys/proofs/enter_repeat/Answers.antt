@@ -1,5 +1,4 @@
 use native.Mathlib.Omega.{arith}
-use borrow.Author.Rules.{rules}
 use Rattle.grammar_table.specs.laws.Trees.{below-le}
 use Rattle.match_keys.proofs.enter_repeat.Goals as goal
 

@@ -1,6 +1,4 @@
 use native.Mathlib.Omega.{arith}
-use Prim.Native.Nat.{◌≤◌}
-use borrow.Author.Rules.{rules}
 use Rattle.match_keys.proofs.places.Goals as goal
 
 pub overflow_add-most : goal.overflow_add-most

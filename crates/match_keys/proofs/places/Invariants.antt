@@ -1,6 +1,4 @@
-use native.Mathlib.Omega.{arith}
 use Prim.Native.Nat.{◌≤◌}
-use borrow.Author.Rules.{rules}
 use Rattle.match_keys.proofs.places.Given as goal
 
 abbrev pub invariant-loop-w : goal.invariant-loop-w

@@ -1,6 +1,5 @@
 use native.Mathlib.Omega.{arith}
 use Rattle.read_tokens.specs.Bounds.{node_words}
-use borrow.Author.Rules.{rules}
 use Rattle.match_list.proofs.node_word.Goals as goal
 
 pub overflow_add-k : goal.overflow_add-k

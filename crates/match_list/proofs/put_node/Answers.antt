@@ -1,6 +1,5 @@
 use Rattle.read_tokens.specs.Bounds.{node_words}
 use Rattle.match_list.specs.laws.NodeSteps.{put-words}
-use borrow.Author.Rules.{rules}
 use Rattle.match_list.proofs.put_node.Goals as goal
 
 pub returns : goal.returns

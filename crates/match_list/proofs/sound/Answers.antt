@@ -1,7 +1,6 @@
 use native.Mathlib.Omega.{arith}
 use Rattle.read_tokens.specs.Bounds.{node_words}
 use Rattle.match_list.specs.laws.Reading.{sound-short, sound-turned, sound-else}
-use borrow.Author.Rules.{rules}
 use Rattle.match_list.proofs.sound.Goals as goal
 
 pub returns-then-nodes-k : goal.returns-then-nodes-k

@@ -2,7 +2,6 @@ use native.Mathlib.Omega.{arith}
 use Rattle.read_tokens.specs.Bounds.{node_words}
 use mathlib.Core.Path.{sym, ◌∙◌}
 use Rattle.match_list.specs.laws.Reading.{sound-short, span-is, span_none}
-use borrow.Author.Rules.{rules}
 use Rattle.match_list.proofs.span.Goals as goal
 
 pub returns-then-nodes-k : goal.returns-then-nodes-k

@@ -1,14 +1,12 @@
 -- What stands for a part that takes just a byte, and what it lists. Assumes nothing.
-use Rattle.std.specs.Prelude.{ℕ, ◌+◌, ◌-◌, ◌≤◌, ◌<◌, ◌≡◌, List, length}
+use Rattle.std.specs.Prelude.{ℕ, ◌+◌, ◌≤◌, ◌<◌, ◌≡◌, List}
 use Rattle.std.proofs.Math.Path.{refl, ap, subst, sym as flip}
 use Rattle.std.proofs.Common.{◌∙◌, arith}
 use Rattle.grammar.specs.Exp.{Exp, sym, alt}
-use Rattle.grammar_table.specs.Table.{leaf_in, symbol_word, expression_count}
+use Rattle.grammar_table.specs.Table.{symbol_word, expression_count}
 use Rattle.grammar_table.specs.Trees.{tree_of}
-use Rattle.match_meaning.specs.Meaning.{Node}
 use Rattle.match_eval.specs.Eval.{ev}
-use Rattle.match_eval.specs.steps.Firsts.{said_of, byte_at}
-use Rattle.match_eval.specs.steps.Memory.{Knows}
+use Rattle.match_eval.specs.steps.Firsts.{said_of}
 use Rattle.match_eval.specs.laws.Memory.{said-right}
 use Rattle.match_list.specs.Nodes.{walk_of}
 use Rattle.match_list.specs.laws.NodeSteps.{alt-left as List-left, alt-right as List-right}

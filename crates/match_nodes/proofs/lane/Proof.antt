@@ -1,5 +1,4 @@
 -- `match_nodes::lane` meets its contract. Assumes nothing.
-use native.Mathlib.Omega.{arith}
 use mathlib.Core.Path.{refl}
 use borrow.Author.Rules.{rules}
 use Rattle.match_nodes.proofs.lane.Statement.{statement}
@@ -14,33 +13,31 @@ repeats-requires c κs = search rules
 
 stride-requires : tie.Need-stride-requires
 stride-requires c κs = (
-  c.before.before.before.before.before.before.before.requires.0,
-  c.before.before.before.before.before.before.before.requires.1,
-  c.before.before.before.before.before.before.before.requires.2,
-  c.before.before.before.before.before.before.before.requires.3,
+  c.before.before.before.before.before.before.before.before.requires.0,
+  c.before.before.before.before.before.before.before.before.requires.1,
+  c.before.before.before.before.before.before.before.before.requires.2,
+  c.before.before.before.before.before.before.before.before.requires.3,
   (c.before.before.repeats.ensures c.before.if1.true).0,
-  c.before.before.before.before.before.before.before.requires.5,
-  c.before.before.before.before.before.before.before.requires.6,
-  c.before.before.before.before.before.before.before.requires.7,
-  c.before.before.before.before.before.before.before.requires.8,
+  c.before.before.before.before.before.before.before.before.requires.5,
+  c.before.before.before.before.before.before.before.before.requires.6,
+  c.before.before.before.before.before.before.before.before.requires.7,
 )
+
+same_length : tie.Need-same-length
+same_length c = search rules
 
 returns : tie.Need-returns
-returns c = (
-  record {
-    stays = c.stride.ensures.0.stays;
-    goes = λ f. (c.before.before.before.repeats.ensures c.before.before.if1.true, c.stride.ensures.0);
-  },
-  c.stride.ensures.1,
-)
+returns c = record {
+  stays = c.before.before.stride.ensures.stays;
+  goes = λ f. (
+    c.before.before.before.before.before.repeats.ensures
+        c.before.before.before.before.if1.true,
+    c.before.before.stride.ensures,
+  );
+}
 
 returns-2 : tie.Need-returns-2
-returns-2 c = (record { stays = λ e. refl; goes = λ f. absurd (f refl) }, λ h. omega (arith, c.before.before.before.before.before.before.requires.2))
+returns-2 c = record { stays = λ e. refl; goes = λ f. absurd (f refl) }
 
 pub lane-spec : {M : Type 1} → statement M
-lane-spec = tie.close
-    (tie.spec
-    repeats-requires
-    stride-requires
-    returns
-    returns-2)
+lane-spec = tie.close (tie.spec repeats-requires stride-requires same_length returns returns-2)

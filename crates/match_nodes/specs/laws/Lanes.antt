@@ -2,7 +2,7 @@
 use Rattle.std.specs.Prelude.{ℕ, zero, suc, ◌+◌, ◌-◌, ◌*◌, ◌≤◌, ◌<◌, ◌≡◌, length}
 use Rattle.std.proofs.Math.Path.{refl, ap, subst, sym as flip}
 use Rattle.std.proofs.Common.{◌∙◌}
-use mathlib.Core.List.{List, [], ◌∷◌, ◌++◌, append-nil}
+use mathlib.Core.List.{List, [], ◌∷◌, ◌++◌}
 use native.Mathlib.Omega.{arith}
 use Rattle.grammar.specs.Exp.{Exp, sym}
 use Rattle.grammar_table.specs.Table.{symbol_word, expression_count}
@@ -19,11 +19,10 @@ use Rattle.match_walks.specs.steps.Tasks.{Task, walk, again, under, takes, walke
 use Rattle.match_walks.specs.steps.Waits.{going, waiting, tasks_of, climb}
 use Rattle.match_walks.specs.laws.Walks.{again-more}
 use Rattle.match_lone.specs.steps.Lone.{Stands, Settles, Lone, Repeated}
-use Rattle.match_nodes.specs.steps.Passes.{big, Out, out, note, run, Fits, AllFit}
-use Rattle.match_nodes.specs.steps.Trails.{Keeps, Grows}
+use Rattle.match_nodes.specs.steps.Passes.{Out, out, run}
 use Rattle.match_nodes.specs.steps.Turns.{Ready, State, turns, Turned}
 use Rattle.match_nodes.specs.steps.Lanes.{Laned, Strides}
-use Rattle.match_nodes.specs.laws.Passes.{fit-one, fit_none, notes-none, notes-on, notes-of}
+use Rattle.match_nodes.specs.laws.Passes.{run-append}
 use Rattle.match_nodes.specs.laws.Turns.{climb-few, symbol-in, under-is}
 
 -- ── what the byte at p decides of x ──
@@ -42,7 +41,7 @@ module _ (t s cs : List ℕ) (n : ℕ) (mem k : List ℕ) (ready : Ready t s cs 
     lone-none r h e = let u = h.silent e in (u.1.two s cs n p here inside byte, quiet x u.0 known u.1.stands u.2)
 
     pub lone-node : (r : ℕ) → Lone t mem k b x r → (r ≡ 2048 → ⊥) → (r ≡ 4096 → ⊥)
-        → (r < 64) × (takes t s cs n x p ≡ 2) × ((d : ℕ) → d ≤ 256 → nd r p (p + 1) d ∷ [] ≡ walked t s cs n x d p) × ((d : ℕ) → Fits s cs n (nd r p (p + 1) d))
+        → (r < 64) × (takes t s cs n x p ≡ 2) × ((d : ℕ) → d ≤ 256 → nd r p (p + 1) d ∷ [] ≡ walked t s cs n x d p)
     unfolding walk_of ev
     lone-node r h f g =
         let u = h.one f g in
@@ -58,30 +57,25 @@ module _ (t s cs : List ℕ) (n : ℕ) (mem k : List ℕ) (ready : Ready t s cs 
               ∙ under-is t s cs n ready d r p 2 (symbol_word t r 1) inside able l cell refl
               ∙ ap (λ (e : Exp ℕ). walk_of s (λ e i. ev s cs n e i) (λ r i. under t s cs n d r i) e p) (flip tree)
               ∙ hx.stands.lists s cs n p here inside byte (λ r i. under t s cs n d r i),
-          λ d. record { few = few; inside = inside; able = able; ends = ap (λ (v : ℕ). p + (v - 1)) cell },
         )
 
 -- ── one after the other ──
-module _ (t s cs : List ℕ) (n room : ℕ) (x d : ℕ) where
-  pub lane-none : (o : Out) (p : ℕ) → p ≤ length s → Laned t s cs n room o o x d p p
-  lane-none o p l = record { place = l; forward = omega arith; stays = λ e. refl; notes = λ zs. notes-none s cs n room o _ _ refl; able = λ zs a. a; less = λ zs. omega arith }
+module _ (t s cs : List ℕ) (n room w : ℕ) (x d : ℕ) where
+  pub lane-none : (o : Out) (p : ℕ) → p ≤ length s → Laned t s cs n room w o o x d p p
+  lane-none o p l = record { place = l; forward = omega arith; stays = λ e. refl; same = λ zs. refl; able = λ zs a. a; less = λ zs. omega arith }
 
-  pub lane-step : (o i : Out) (p : ℕ) → x < 2048 → p ≤ length s → takes t s cs n x p ≡ 2 → i.at ≡ run room o.at (walked t s cs n x d p)
-      → (i.at < big → Grows o.words i.words (walked t s cs n x d p)) → AllFit s cs n (walked t s cs n x d p) → Laned t s cs n room o i x d p (p + 1)
+  pub lane-step : (o i : Out) (p : ℕ) → x < 2048 → p ≤ length s → takes t s cs n x p ≡ 2 → i ≡ run room w o (walked t s cs n x d p) → Laned t s cs n room w o i x d p (p + 1)
   unfolding listed nodes after to_do
-  lane-step o i p small l two is grown fit =
+  lane-step o i p small l two is =
       record {
         place = omega (arith, two, ev-within s cs n (tree_of t x) p l);
         forward = omega arith;
         stays = λ e. absurd (omega (arith, e));
-        notes = λ zs.
-            record {
-              new = walked t s cs n x d p;
-              list = flip (ap (λ (q : ℕ). walked t s cs n x d p ++ listed t s cs n (again x d ∷ zs) q) next ∙ step.same zs);
-              noted = is;
-              grown = grown;
-              fit = fit;
-            };
+        same = λ zs.
+            ap (λ (u : Out). run room w u (listed t s cs n (again x d ∷ zs) (p + 1))) is
+            ∙ flip (run-append room w o (walked t s cs n x d p) (listed t s cs n (again x d ∷ zs) (p + 1)))
+            ∙ ap (λ (q : ℕ). run room w o (walked t s cs n x d p ++ listed t s cs n (again x d ∷ zs) q)) next
+            ∙ ap (run room w o) (step.same zs);
         able = λ zs a. subst (λ (q : ℕ). AllAble t s cs n (again x d ∷ zs) q) (flip next) (step.able zs a.1).1;
         less = λ zs. omega (arith, step.less zs, ap (λ (q : ℕ). to_do t s cs n (again x d ∷ zs) q) next);
       }
@@ -92,38 +86,24 @@ module _ (t s cs : List ℕ) (n room : ℕ) (x d : ℕ) where
       next : p + 1 ≡ after t s cs n (walk x d) p
       next = omega (arith, two)
 
-  pub lane-silent : (o : Out) (p : ℕ) → x < 2048 → p ≤ length s → takes t s cs n x p ≡ 2 → [] ≡ walked t s cs n x d p → Laned t s cs n room o o x d p (p + 1)
-  unfolding run
-  lane-silent o p small l two e =
-      lane-step o o p small l two (ap (run room o.at) e) (λ h b g. subst (λ (w : List Node). Keeps o.words (b ++ w)) e (subst (Keeps o.words) (flip (append-nil b)) g))
-      (subst (AllFit s cs n) e (fit_none s cs n))
-
-  pub lane-lone : (o i : Out) (p : ℕ) (y : Node) → x < 2048 → p ≤ length s → takes t s cs n x p ≡ 2 → i.at ≡ note room o.at y
-      → (i.at < big → Grows o.words i.words (y ∷ [])) → Fits s cs n y → y ∷ [] ≡ walked t s cs n x d p
-      → Laned t s cs n room o i x d p (p + 1)
-  unfolding run
-  lane-lone o i p y small l two h g f e =
-      lane-step o i p small l two (h ∙ ap (run room o.at) e) (λ b. subst (Grows o.words i.words) e (g b)) (subst (AllFit s cs n) e (fit-one s cs n y f))
-
-  pub lane-on : (o i j : Out) (p q r : ℕ) → Laned t s cs n room o i x d p q → Laned t s cs n room i j x d q r → Laned t s cs n room o j x d p r
+  pub lane-on : (o i j : Out) (p q r : ℕ) → Laned t s cs n room w o i x d p q → Laned t s cs n room w i j x d q r → Laned t s cs n room w o j x d p r
   lane-on o i j p q r h g =
       record {
         place = g.place;
         forward = omega (arith, h.forward, g.forward);
         stays = λ e. g.stays (omega (arith, e, h.forward, g.forward)) ∙ h.stays (omega (arith, e, h.forward, g.forward));
-        notes = λ zs. notes-on s cs n room o i j _ _ _ (h.notes zs) (g.notes zs);
+        same = λ zs. g.same zs ∙ h.same zs;
         able = λ zs a. g.able zs (h.able zs a);
         less = λ zs. omega (arith, h.less zs, g.less zs, h.forward, g.forward);
       }
 
 -- ── the turn that they are ──
-module _ (t s cs : List ℕ) (n room : ℕ) (o i : Out) (k : List ℕ) (m d x p q : ℕ) (state : State t s cs n k m d x p) (done : m ≡ 1) where
-  pub turned-lane : Repeated t k x → Laned t s cs n room o i x d p q → (q ≡ p → ⊥) → Turned t s cs n room o i (tasks_of t k m d x) p (climb m d x) k 1 d x q
+module _ (t s cs : List ℕ) (n room w : ℕ) (o i : Out) (k : List ℕ) (m d x p q : ℕ) (state : State t s cs n k m d x p) (done : m ≡ 1) where
+  pub turned-lane : Repeated t k x → Laned t s cs n room w o i x d p q → (q ≡ p → ⊥) → Turned t s cs n room w o i (tasks_of t k m d x) p (climb m d x) k 1 d x q
   unfolding turns
   turned-lane again-is h moved =
       record {
-        notes =
-            notes-of s cs n room o i _ _ _ _ (ap (λ (zs : List Task). listed t s cs n zs p) (flip before)) (ap (λ (zs : List Task). listed t s cs n zs q) (flip tasks)) (h.notes behind);
+        same = ap (λ (zs : List Task). run room w i (listed t s cs n zs q)) tasks ∙ h.same behind ∙ ap (λ (zs : List Task). run room w o (listed t s cs n zs p)) (flip before);
         desk = state.desk;
         state = λ l.
             record {
@@ -161,7 +141,7 @@ module _ (t s cs : List ℕ) (n room : ℕ) (o i : Out) (k : List ℕ) (m d x p 
       moved' = omega (arith, h.forward, moved)
 
 -- rounds that stay where they are leave the words as they were
-pub turned-stays : (t s cs : List ℕ) (n room : ℕ) (ws ws' : List ℕ) (at at' i : ℕ) (o : Out) (xs : List Task) (p c : ℕ) (k : List ℕ) (m d x q : ℕ) → out ws' at' ≡ out ws at
-    → Turned t s cs n room o (out ws i) xs p c k m d x q → Turned t s cs n room o (out ws' i) xs p c k m d x q
-turned-stays t s cs n room ws ws' at at' i o xs p c k m d x q e h =
-    subst (λ (l : List ℕ). Turned t s cs n room o (out l i) xs p c k m d x q) (flip (ap (λ (u : Out). u.words) e)) h
+pub turned-stays : (t s cs : List ℕ) (n room w : ℕ) (ws ws' : List ℕ) (at at' i : ℕ) (o : Out) (xs : List Task) (p c : ℕ) (k : List ℕ) (m d x q : ℕ) → out ws' at' ≡ out ws at
+    → Turned t s cs n room w o (out ws i) xs p c k m d x q → Turned t s cs n room w o (out ws' i) xs p c k m d x q
+turned-stays t s cs n room w ws ws' at at' i o xs p c k m d x q e h =
+    subst (λ (l : List ℕ). Turned t s cs n room w o (out l i) xs p c k m d x q) (flip (ap (λ (u : Out). u.words) e)) h

@@ -14,22 +14,20 @@ use Rattle.match_meaning.specs.Meaning.{Node, nd}
 use Rattle.match_meaning.specs.laws.One.{one}
 use Rattle.match_eval.specs.Eval.{body_of, cell_at, ev}
 use Rattle.match_list.specs.Nodes.{walk_of, nodes_of, levels, list_of}
-use Rattle.match_nodes.specs.steps.Passes.{big, Out, out, note, Fits}
-use Rattle.match_nodes.specs.steps.Trails.{Grows}
-use Rattle.match_nodes.specs.steps.Notes.{Notes}
+use Rattle.match_nodes.specs.steps.Passes.{big, Out, out, note, run}
 use Rattle.match_cells.specs.laws.Sound.{plainly, sym-is}
 use Rattle.match_cells.specs.laws.Agrees.{ev-sound}
 use Rattle.match_eval.specs.laws.EvalSteps.{cell-past}
 use Rattle.match_eval.specs.laws.Within.{cell-within}
 use Rattle.match_list.specs.laws.NodeSteps.{nodes-more, nodes-fails}
-use Rattle.match_nodes.specs.laws.Passes.{note-deep, notes-none, notes-one, notes-on, notes-of}
+use Rattle.match_nodes.specs.laws.Passes.{run_none, note-deep}
 use Rattle.grammar_table.specs.Trees.{tree_of, bodies_of}
 use Rattle.match_cells.specs.laws.Rows.{bodies-length, body_at}
 use Rattle.match_walks.specs.steps.Tasks.{Task, walk, again, enter, under, takes, walked, nodes, after, Able, listed, AllAble, rank, cost, cost_of, to_do, Step, Moves}
 use Rattle.match_desk.specs.steps.Desk.{returns_at, parent_of, return_of, Desk, Silent}
 use Rattle.match_walks.specs.steps.Waits.{going, waiting, tasks_of, climb}
 use Rattle.match_walks.specs.steps.Walks.{Walkable, Walked, Risen}
-use Rattle.match_nodes.specs.steps.Turns.{Ready, Left, State, turns, Turned, Went}
+use Rattle.match_nodes.specs.steps.Turns.{Ready, Left, State, turns, Turned}
 use Rattle.match_walks.specs.laws.Steps.{cost-one, cost-less, step-moves}
 use Rattle.match_desk.specs.laws.Desks.{no-parent, desk-stays}
 use Rattle.match_walks.specs.laws.Waits.{going-top, waiting-entered, going-entered}
@@ -83,9 +81,8 @@ module _ (t s cs : List ℕ) (n : ℕ) (ready : Ready t s cs n) where
         ∙ ap (λ (x : ℕ). walk_of s (λ e i. ev s cs (length (bodies_of t)) e i) (λ r i. nodes_of (bodies_of t) s cs x (d + 1) r i) (body_of (bodies_of t) r) p) i)
         ∙ nodes-more (bodies_of t) s cs d r p (levels - d) c g (cell ∙ ap (λ (m : ℕ). cell_at s cs m r p) many) f
 
-  module _ (room d r p at c b : ℕ) (o : Out) (ws : List ℕ) (inside : p ≤ length s) (able : cell_at s cs n r p ≡ 0 → ⊥) (depth : d ≤ 256) (begun : at < big)
-      (cell : c ≡ cell_at s cs n r p) (body : b ≡ symbol_word t r 1) (noted : o.at ≡ note room at (nd r p (p + (c - 1)) d))
-      (grown : o.at < big → Grows ws o.words (nd r p (p + (c - 1)) d ∷ [])) where
+  module _ (room w d r p at c b : ℕ) (o : Out) (ws : List ℕ) (inside : p ≤ length s) (able : cell_at s cs n r p ≡ 0 → ⊥) (depth : d ≤ 256) (begun : at < big)
+      (cell : c ≡ cell_at s cs n r p) (body : b ≡ symbol_word t r 1) (noted : o ≡ note room w (out ws at) (nd r p (p + (c - 1)) d)) where
     within-n : r < n
     within-n = symbol-in r p able
 
@@ -103,7 +100,7 @@ module _ (t s cs : List ℕ) (n : ℕ) (ready : Ready t s cs n) where
       where
         go : (x : Bool) → ltb 255 d ≡ x → d ≤ 255
         go true e =
-            let g : o.at ≡ at + big = noted ∙ flip (note-deep room at (nd r p (p + (c - 1)) d) begun (ltb-true 255 d e)) in
+            let g : o.at ≡ at + big = ap (λ (x : Out). x.at) (noted ∙ flip (note-deep room w ws at (nd r p (p + (c - 1)) d) begun (ltb-true 255 d e))) in
             absurd (omega (arith, g, h))
         go false e = ltb-false 255 d e
 
@@ -111,39 +108,31 @@ module _ (t s cs : List ℕ) (n : ℕ) (ready : Ready t s cs n) where
     unfolding rank
     fall = cost-less (length s) ((257 - (d + 1)) * 2048 + b) ((257 - d) * 2048 + 0) (omega (arith, depth, small_b))
 
-    enter-fits : Fits s cs n (nd r p (p + (c - 1)) d)
-    enter-fits = record { few = within-n; inside = inside; able = able; ends = ap (λ (v : ℕ). p + (v - 1)) cell }
-
-    enter-list : (zs : List Task) → listed t s cs n (enter r d ∷ zs) p ≡ nd r p (p + (c - 1)) d ∷ listed t s cs n (walk b (d + 1) ∷ zs) p
-    unfolding listed nodes
-    enter-list zs =
-        ap (λ (l : List Node). l ++ listed t s cs n zs (after t s cs n (enter r d) p)) (flip (under-is d r p c b inside able depth cell body))
-        ∙ ap (λ (i : ℕ). nd r p (p + (c - 1)) d ∷ (walked t s cs n b (d + 1) p ++ listed t s cs n zs i)) (flip after_is)
-
-    enter-notes : (zs : List Task) → Notes s cs n room (out ws at) o (listed t s cs n (enter r d ∷ zs) p) (listed t s cs n (walk b (d + 1) ∷ zs) p)
-    enter-notes zs =
-        notes-one s cs n room (out ws at) o (nd r p (p + (c - 1)) d) (listed t s cs n (enter r d ∷ zs) p) (listed t s cs n (walk b (d + 1) ∷ zs) p) noted grown enter-fits (enter-list zs)
+    enter-same : (zs : List Task) → run room w o (listed t s cs n (walk b (d + 1) ∷ zs) p) ≡ run room w (out ws at) (listed t s cs n (enter r d ∷ zs) p)
+    unfolding listed nodes run
+    enter-same zs =
+        ap (λ (i : ℕ). run room w o (walked t s cs n b (d + 1) p ++ listed t s cs n zs i)) after_is
+        ∙ ap (λ (u : Out). run room w u (walked t s cs n b (d + 1) p ++ listed t s cs n zs (after t s cs n (enter r d) p))) noted
+        ∙ ap (λ (l : List Node). run room w (out ws at) (l ++ listed t s cs n zs (after t s cs n (enter r d) p))) (under-is d r p c b inside able depth cell body)
 
     -- x is the symbol's use, on whose level are the tasks behind it
-    module _ (k : List ℕ) (x : ℕ) (desk : Desk t k (expression_count t)) (small-x : x < 4294967296) (rest : AllAble t s cs n (going t k d x ++ waiting t k d) (after t s cs n
-        (enter r d) p)) where
+    module _ (k : List ℕ) (x : ℕ) (desk : Desk t k (expression_count t)) (small-x : x < 4294967296) (rest : AllAble t s cs n (going t k d x ++ waiting t k d) (after t s cs n (enter r d) p)) where
       abbrev behind : List Task
       behind = going t k d x ++ waiting t k d
 
       -- a body that lists no node is passed over
-      passed-list : Silent (tree_of t b) → listed t s cs n (walk b (d + 1) ∷ behind) p ≡ listed t s cs n behind (p + (c - 1))
+      passed-same : Silent (tree_of t b) → run room w o (listed t s cs n behind (p + (c - 1))) ≡ run room w (out ws at) (listed t s cs n (enter r d ∷ behind) p)
       unfolding listed nodes after
-      passed-list h =
-          ap (λ (v : ℕ). walked t s cs n b (d + 1) p ++ listed t s cs n behind (p + (v - 1))) (cell-body r p within-n inside b body ∙ flip cell)
-          ∙ ap (λ (l : List Node). l ++ listed t s cs n behind (p + (c - 1))) (h s (λ e i. ev s cs n e i) (λ r i. under t s cs n (d + 1) r i) p)
+      passed-same h =
+          ap (λ (l : List Node). run room w o (l ++ listed t s cs n behind (p + (c - 1)))) (flip (h s (λ e i. ev s cs n e i) (λ r i. under t s cs n (d + 1) r i) p))
+          ∙ ap (λ (v : ℕ). run room w o (walked t s cs n b (d + 1) p ++ listed t s cs n behind (p + (v - 1)))) (cell ∙ flip (cell-body r p within-n inside b body))
+          ∙ enter-same behind
 
-      pub passed : Silent (tree_of t b) → Turned t s cs n room (out ws at) o (enter r d ∷ (going t k d x ++ waiting t k d)) p 0 k 1 d x (p + (c - 1))
+      pub passed : Silent (tree_of t b) → Turned t s cs n room w (out ws at) o (enter r d ∷ (going t k d x ++ waiting t k d)) p 0 k 1 d x (p + (c - 1))
       unfolding turns to_do cost_of after
       passed h =
           record {
-            notes =
-                notes-of s cs n room (out ws at) o (listed t s cs n (enter r d ∷ behind) p) (listed t s cs n (enter r d ∷ behind) p) (listed t s cs n (walk b (d + 1) ∷ behind) p)
-                (listed t s cs n behind (p + (c - 1))) refl (passed-list h) (enter-notes behind);
+            same = passed-same h;
             desk = desk;
             state = λ l.
                 record {
@@ -164,13 +153,11 @@ module _ (t s cs : List ℕ) (n : ℕ) (ready : Ready t s cs n) where
           (going-entered t k (expression_count t) desk ready.fits d x depth (d + 1) b (ap (λ (i : ℕ). parent_of k i) body ∙ desk.roots r (omega (arith, within-n, ready.count))))
           ∙ ap (λ (zs : List Task). walk b (d + 1) ∷ zs) (waiting-entered t k (expression_count t) desk ready.fits d x depth)
 
-      pub entered : Turned t s cs n room (out ws at) o (enter r d ∷ (going t k d x ++ waiting t k d)) p 0 (set k (returns_at + d) x) 2 (d + 1) b p
+      pub entered : Turned t s cs n room w (out ws at) o (enter r d ∷ (going t k d x ++ waiting t k d)) p 0 (set k (returns_at + d) x) 2 (d + 1) b p
       unfolding turns to_do cost_of climb
       entered =
           record {
-            notes =
-                notes-of s cs n room (out ws at) o (listed t s cs n (enter r d ∷ behind) p) (listed t s cs n (enter r d ∷ behind) p) (listed t s cs n (walk b (d + 1) ∷ behind) p)
-                (listed t s cs n (tasks_of t (set k (returns_at + d) x) 2 (d + 1) b) p) refl (ap (λ (zs : List Task). listed t s cs n zs p) (flip entered-tasks)) (enter-notes behind);
+            same = ap (λ (zs : List Task). run room w o (listed t s cs n zs p)) entered-tasks ∙ enter-same behind;
             desk = desk-stays t k (expression_count t) desk ready.fits d x depth;
             state = λ l.
                 record {
@@ -187,7 +174,7 @@ module _ (t s cs : List ℕ) (n : ℕ) (ready : Ready t s cs n) where
           }
 
 -- ── one turn ──
-module _ (t s cs : List ℕ) (n room : ℕ) (o : Out) (k : List ℕ) (m d x p : ℕ) (state : State t s cs n k m d x p) where
+module _ (t s cs : List ℕ) (n room w : ℕ) (o : Out) (k : List ℕ) (m d x p : ℕ) (state : State t s cs n k m d x p) where
   -- an expression that is to be walked
   module _ (walks : 2 ≤ m) where
     as-walk : tasks_of t k m d x ≡ walk x d ∷ (going t k d x ++ waiting t k d)
@@ -205,13 +192,11 @@ module _ (t s cs : List ℕ) (n room : ℕ) (o : Out) (k : List ℕ) (m d x p : 
     walkable r =
         record { desk = state.desk; fits = r.fits; few = r.few; short = r.short; place = state.place; known = state.known walks; able = able-walk.0 }
 
-    pub turned_walk : (kind y q : ℕ) → Walked t s cs n k x p kind y q → (kind ≡ 3 → ⊥) → Turned t s cs n room o o (tasks_of t k m d x) p (climb m d x) k kind d y q
+    pub turned_walk : (kind y q : ℕ) → Walked t s cs n k x p kind y q → (kind ≡ 3 → ⊥) → Turned t s cs n room w o o (tasks_of t k m d x) p (climb m d x) k kind d y q
     unfolding turns
     turned_walk kind y q h f =
         record {
-          notes =
-              notes-none s cs n room o (listed t s cs n (tasks_of t k m d x) p) (listed t s cs n (tasks_of t k kind d y) q)
-              (ap (λ (zs : List Task). listed t s cs n zs p) as-walk ∙ flip moves.same);
+          same = ap (run room w o) (moves.same ∙ ap (λ (zs : List Task). listed t s cs n zs p) (flip as-walk));
           desk = state.desk;
           state = λ l.
               record {
@@ -233,13 +218,10 @@ module _ (t s cs : List ℕ) (n room : ℕ) (o : Out) (k : List ℕ) (m d x p : 
     rest-able y q h = ((h.enters refl).1 d).able (going t k d x ++ waiting t k d) able-walk.1
 
     pub turned-enter : (i : Out) (y q : ℕ) (k' : List ℕ) (m' d' x' q' : ℕ) → Walked t s cs n k x p 3 y q
-        → Turned t s cs n room o i (enter y d ∷ (going t k d x ++ waiting t k d)) p 0 k' m' d' x' q' → Turned t s cs n room o i (tasks_of t k m d x) p (climb m d x) k' m' d' x' q'
+        → Turned t s cs n room w o i (enter y d ∷ (going t k d x ++ waiting t k d)) p 0 k' m' d' x' q' → Turned t s cs n room w o i (tasks_of t k m d x) p (climb m d x) k' m' d' x' q'
     turned-enter i y q k' m' d' x' q' h g =
         record {
-          notes =
-              notes-of s cs n room o i (listed t s cs n (enter y d ∷ (going t k d x ++ waiting t k d)) p) (listed t s cs n (tasks_of t k m d x) p)
-              (listed t s cs n (tasks_of t k' m' d' x') q') (listed t s cs n (tasks_of t k' m' d' x') q')
-              (moves.same ∙ ap (λ (zs : List Task). listed t s cs n zs p) (flip as-walk)) refl g.notes;
+          same = g.same ∙ ap (run room w o) (moves.same ∙ ap (λ (zs : List Task). listed t s cs n zs p) (flip as-walk));
           desk = g.desk;
           state = g.state;
           less = λ l. omega (arith, g.less l, moves.less, ap (λ (zs : List Task). to_do t s cs n zs p) as-walk);
@@ -256,13 +238,11 @@ module _ (t s cs : List ℕ) (n room : ℕ) (o : Out) (k : List ℕ) (m d x p : 
     able-done : AllAble t s cs n (tasks_of t k 1 d x) p
     able-done = subst (λ (zs : List Task). AllAble t s cs n zs p) as-done state.able
 
-    pub turned_up : (kind y : ℕ) → Risen t s cs n k x p kind y → (kind ≡ 0 → ⊥) → kind ≤ 2 → Turned t s cs n room o o (tasks_of t k m d x) p (climb m d x) k kind d y p
+    pub turned_up : (kind y : ℕ) → Risen t s cs n k x p kind y → (kind ≡ 0 → ⊥) → kind ≤ 2 → Turned t s cs n room w o o (tasks_of t k m d x) p (climb m d x) k kind d y p
     unfolding turns
     turned_up kind y h f g =
         record {
-          notes =
-              notes-none s cs n room o (listed t s cs n (tasks_of t k m d x) p) (listed t s cs n (tasks_of t k kind d y) p)
-              (ap (λ (zs : List Task). listed t s cs n zs p) as-done ∙ flip moves.same);
+          same = ap (run room w o) (moves.same ∙ ap (λ (zs : List Task). listed t s cs n zs p) (flip as-done));
           desk = state.desk;
           state = λ l.
               record {
@@ -293,13 +273,11 @@ module _ (t s cs : List ℕ) (n room : ℕ) (o : Out) (k : List ℕ) (m d x p : 
       unfolding climb
       up-some = subst (λ (i : ℕ). 0 < climb i d x) (flip done) (omega arith)
 
-      pub turned-over : d ≡ 0 → Turned t s cs n room o o (tasks_of t k m d x) p (climb m d x) k 0 0 0 p
+      pub turned-over : d ≡ 0 → Turned t s cs n room w o o (tasks_of t k m d x) p (climb m d x) k 0 0 0 p
       unfolding turns climb to_do
       turned-over z =
           record {
-            notes =
-                notes-none s cs n room o (listed t s cs n (tasks_of t k m d x) p) (listed t s cs n (tasks_of t k 0 0 0) p)
-                (ap (λ (zs : List Task). listed t s cs n zs p) (over-tasks z));
+            same = ap (λ (zs : List Task). run room w o (listed t s cs n zs p)) (flip (over-tasks z));
             desk = state.desk;
             state = λ l. record { desk = state.desk; place = state.place; level = omega arith; small = omega arith; known = λ i. absurd (omega (arith, i)); able = tt };
             less = λ l. omega (arith, up-some);
@@ -315,13 +293,11 @@ module _ (t s cs : List ℕ) (n room : ℕ) (o : Out) (k : List ℕ) (m d x p : 
         unfolding climb
         level-less = subst (λ (i : ℕ). climb 1 e x' < climb i d x) (flip done) (omega (arith, above))
 
-        pub turned-level : Turned t s cs n room o o (tasks_of t k m d x) p (climb m d x) k 1 e x' p
+        pub turned-level : Turned t s cs n room w o o (tasks_of t k m d x) p (climb m d x) k 1 e x' p
         unfolding turns
         turned-level =
             record {
-              notes =
-                  notes-none s cs n room o (listed t s cs n (tasks_of t k m d x) p) (listed t s cs n (tasks_of t k 1 e x') p)
-                  (ap (λ (zs : List Task). listed t s cs n zs p) level-tasks);
+              same = ap (λ (zs : List Task). run room w o (listed t s cs n zs p)) (flip level-tasks);
               desk = state.desk;
               state = λ l.
                   record {
@@ -337,13 +313,13 @@ module _ (t s cs : List ℕ) (n room : ℕ) (o : Out) (k : List ℕ) (m d x p : 
 
       -- as code says it
       module _ (ws : List ℕ) (at : ℕ) (is : o ≡ out ws at) where
-        pub turned_left : (m' e x' q i : ℕ) → Left k d p at m' e x' q i → Turned t s cs n room o (out ws i) (tasks_of t k m d x) p (climb m d x) k m' e x' q
+        pub turned_left : (m' e x' q i : ℕ) → Left k d p at m' e x' q i → Turned t s cs n room w o (out ws i) (tasks_of t k m d x) p (climb m d x) k m' e x' q
         turned_left m' e x' q i l =
-            subst (λ (j : ℕ). Turned t s cs n room o (out ws j) (tasks_of t k m d x) p (climb m d x) k m' e x' q) (flip l.list)
-            (subst (λ (u : Out). Turned t s cs n room o u (tasks_of t k m d x) p (climb m d x) k m' e x' q) is
-            (subst (λ (j : ℕ). Turned t s cs n room o o (tasks_of t k m d x) p (climb m d x) k m' e x' j) (flip l.place) (go (eqb d 0) refl)))
+            subst (λ (j : ℕ). Turned t s cs n room w o (out ws j) (tasks_of t k m d x) p (climb m d x) k m' e x' q) (flip l.list)
+            (subst (λ (u : Out). Turned t s cs n room w o u (tasks_of t k m d x) p (climb m d x) k m' e x' q) is
+            (subst (λ (j : ℕ). Turned t s cs n room w o o (tasks_of t k m d x) p (climb m d x) k m' e x' j) (flip l.place) (go (eqb d 0) refl)))
           where
-            go : (b : Bool) → eqb d 0 ≡ b → Turned t s cs n room o o (tasks_of t k m d x) p (climb m d x) k m' e x' p
+            go : (b : Bool) → eqb d 0 ≡ b → Turned t s cs n room w o o (tasks_of t k m d x) p (climb m d x) k m' e x' p
             go true z =
                 let a : (m' ≡ 0) × (e ≡ 0) × (x' ≡ 0) = l.over (eqb-true d 0 z) in
                 rw (a.0, a.1, a.2) (turned-over (eqb-true d 0 z))
@@ -356,21 +332,6 @@ pub two_up : (m : ℕ) → 0 < m → (m ≡ 1 → ⊥) → 2 ≤ m
 two_up zero l f = absurd (omega (arith, l))
 two_up (suc zero) l f = absurd (f refl)
 two_up (suc (suc m)) l f = omega arith
-
--- ── turns one after the other ──
-module _ (t s cs : List ℕ) (n room : ℕ) where
-  pub went-none : (o : Out) (k : List ℕ) (m d x p : ℕ) → State t s cs n k m d x p → Went t s cs n room o o (listed t s cs n (tasks_of t k m d x) p) k m d x p
-  went-none o k m d x p h =
-      record { notes = notes-none s cs n room o (listed t s cs n (tasks_of t k m d x) p) (listed t s cs n (tasks_of t k m d x) p) refl; desk = h.desk; state = λ l. h }
-
-  pub went_on : (o i j : Out) (l : List Node) (k : List ℕ) (m d x p c : ℕ) (k' : List ℕ) (m' d' x' q : ℕ) → Went t s cs n room o i l k m d x p
-      → Turned t s cs n room i j (tasks_of t k m d x) p c k' m' d' x' q → Went t s cs n room o j l k' m' d' x' q
-  went_on o i j l k m d x p c k' m' d' x' q h g =
-      record {
-        notes = notes-on s cs n room o i j l (listed t s cs n (tasks_of t k m d x) p) (listed t s cs n (tasks_of t k' m' d' x') q) h.notes g.notes;
-        desk = g.desk;
-        state = g.state;
-      }
 
 -- ── the start and the end ──
 module _ (t s cs : List ℕ) (n : ℕ) (k : List ℕ) (x : ℕ) (desk : Desk t k (expression_count t)) (fits : expression_count t ≤ 1024) (far : 1025 ≤ x) where
@@ -388,33 +349,12 @@ module _ (t s cs : List ℕ) (n : ℕ) (k : List ℕ) (x : ℕ) (desk : Desk t k
       let z : levels - 0 ≡ levels = omega arith in
       ap (λ (zs : List Task). listed t s cs n (enter 0 0 ∷ zs) 0) start-waits ∙ append-nil (under t s cs n 0 0 0) ∙ ap (λ (x : ℕ). nodes_of (bodies_of t) s cs x 0 0 0) z
 
-pub end_list : (t s cs : List ℕ) (n m d x p : ℕ) (k : List ℕ) → m ≡ 0 → listed t s cs n (tasks_of t k m d x) p ≡ []
-unfolding listed
-end_list t s cs n m d x p k e = ap (λ (i : ℕ). listed t s cs n (tasks_of t k i d x) p) e
+pub end_list : (t s cs : List ℕ) (n room w m d x p : ℕ) (o : Out) (k : List ℕ) → m ≡ 0 → run room w o (listed t s cs n (tasks_of t k m d x) p) ≡ o
+unfolding listed run
+end_list t s cs n room w m d x p o k e = ap (λ (i : ℕ). run room w o (listed t s cs n (tasks_of t k i d x) p)) e
 
 -- a start symbol that fails lists nothing
-fail-list : (t s cs : List ℕ) (n c : ℕ) → n ≡ symbol_count t → c ≡ cell_at s cs n 0 0 → c ≡ 0 → [] ≡ list_of (bodies_of t) s cs
+pub fail-list : (t s cs : List ℕ) (n room w c : ℕ) (o : Out) → n ≡ symbol_count t → c ≡ cell_at s cs n 0 0 → c ≡ 0 → o ≡ run room w o (list_of (bodies_of t) s cs)
 unfolding list_of
-fail-list t s cs n c k h z = nodes-fails (bodies_of t) s cs 0 0 0 levels c (h ∙ ap (λ (m : ℕ). cell_at s cs m 0 0) (k ∙ flip (bodies-length t))) z
-
-pub went-fails : (t s cs : List ℕ) (n room c : ℕ) (o : Out) (k : List ℕ) → n ≡ symbol_count t → c ≡ cell_at s cs n 0 0 → c ≡ 0 → Desk t k (expression_count t)
-    → Went t s cs n room o o (list_of (bodies_of t) s cs) k 0 0 0 0
-unfolding listed
-went-fails t s cs n room c o k e h z desk =
-    record {
-      notes = notes-none s cs n room o (list_of (bodies_of t) s cs) [] (flip (fail-list t s cs n c e h z));
-      desk = desk;
-      state = λ l. record { desk = desk; place = omega arith; level = omega arith; small = omega arith; known = λ i. absurd (omega (arith, i)); able = tt };
-    }
-
--- a pass that has entered the start symbol
-pub went-starts : (t s cs : List ℕ) (n room : ℕ) (o i : Out) (k : List ℕ) (x : ℕ) → Desk t k (expression_count t) → expression_count t ≤ 1024 → 1025 ≤ x → (k' : List ℕ) (m d x' q : ℕ)
-    → Turned t s cs n room o i (enter 0 0 ∷ (going t k 0 x ++ waiting t k 0)) 0 0 k' m d x' q → Went t s cs n room o i (list_of (bodies_of t) s cs) k' m d x' q
-went-starts t s cs n room o i k x desk fits far k' m d x' q h =
-    record {
-      notes =
-          notes-of s cs n room o i (listed t s cs n (enter 0 0 ∷ (going t k 0 x ++ waiting t k 0)) 0) (list_of (bodies_of t) s cs) (listed t s cs n (tasks_of t k' m d x') q)
-          (listed t s cs n (tasks_of t k' m d x') q) (start-list t s cs n k x desk fits far) refl h.notes;
-      desk = h.desk;
-      state = h.state;
-    }
+fail-list t s cs n room w c o k h z =
+    run_none room w o (nodes_of (bodies_of t) s cs levels 0 0 0) (nodes-fails (bodies_of t) s cs 0 0 0 levels c (h ∙ ap (λ (m : ℕ). cell_at s cs m 0 0) (k ∙ flip (bodies-length t))) z)

@@ -1,11 +1,10 @@
--- The node list by passes. A pass notes each node in its trail and carries one number: the count so far or, once there is an offender, the refusal. Lent words
--- are written when a pass has come to the end without one, so that a refusal leaves every word as it was.
+-- The node list in two passes over lent words: the first only looks, and the second writes if there is no offender, so that a refusal leaves every word
+-- as it was. A pass carries one number: the count so far or, once there is an offender, the refusal.
 -- Assumes nothing: these are definitions.
-use Rattle.std.specs.Prelude.{ℕ, ◌+◌, ◌-◌, ◌≤◌, ◌<◌, ◌≡◌, cond, List, [], ◌∷◌, ltb, length}
+use Rattle.std.specs.Prelude.{ℕ, zero, suc, ◌+◌, ◌-◌, cond, List, [], ◌∷◌, ltb}
 use Rattle.read_tokens.specs.Bounds.{depth_bound}
 use Rattle.match_meaning.specs.Meaning.{Node}
-use Rattle.match_eval.specs.Eval.{cell_at}
-use Rattle.match_list.specs.Nodes.{Listing, all, deep, full}
+use Rattle.match_list.specs.Nodes.{Listing, all, deep, full, put_node}
 
 -- above every count of nodes: a quarter of a slice's length is always below it
 abbrev pub big : ℕ
@@ -18,13 +17,22 @@ pub record Out : Type 0 where
 abbrev pub out : List ℕ → ℕ → Out
 out ws i = record { words = ws; at = i }
 
--- one node: a pass that has an answer goes on with it
-unfoldable pub note : ℕ → ℕ → Node → ℕ
-note room at n = cond (ltb at big) (cond (ltb depth_bound n.depth) (at + big) (cond (ltb at room) (at + 1) (big + big))) at
+-- a pass with flag 0 only looks
+unfoldable pub put_if : ℕ → List ℕ → ℕ → Node → List ℕ
+put_if zero ws k n = ws
+put_if (suc w) ws k n = put_node ws k n
 
-unfoldable pub run : ℕ → ℕ → List Node → ℕ
-run room at [] = at
-run room at (n ∷ ns) = run room (note room at n) ns
+-- one node: a pass that has an answer goes on with it
+unfoldable pub note : ℕ → ℕ → Out → Node → Out
+note room w o n =
+    cond (ltb o.at big)
+    (cond (ltb depth_bound n.depth) (out o.words (o.at + big))
+    (cond (ltb o.at room) (out (put_if w o.words o.at n) (o.at + 1)) (out o.words (big + big))))
+    o
+
+unfoldable pub run : ℕ → ℕ → Out → List Node → Out
+run room w o [] = o
+run room w o (n ∷ ns) = run room w (note room w o n) ns
 
 -- the number that a pass ends with, and that number read: at the first node without room the count is the room
 unfoldable pub number_of : Listing → ℕ
@@ -34,15 +42,3 @@ number_of (full k) = big + big
 
 unfoldable pub decode : ℕ → ℕ → Listing
 decode room v = cond (ltb v big) (all v) (cond (ltb v (big + big)) (deep (v - big)) (full room))
-
-module _ (s cs : List ℕ) (n : ℕ) where
-  -- a node of one of n symbols, whose cell says where it ends
-  pub record Fits (x : Node) : Type 0 where
-    pub few : x.symbol < n
-    pub inside : x.start ≤ length s
-    pub able : cell_at s cs n x.symbol x.start ≡ 0 → ⊥
-    pub ends : x.end ≡ x.start + (cell_at s cs n x.symbol x.start - 1)
-
-  unfoldable pub AllFit : List Node → Type 0
-  AllFit [] = Unit
-  AllFit (x ∷ xs) = Fits x × AllFit xs

@@ -3,15 +3,13 @@ use Rattle.std.specs.Prelude.{ℕ, suc, ◌+◌, ◌*◌, ◌≤◌, ◌<◌, �
 use Rattle.grammar_table.specs.Table.{symbol_word, symbol_count, expression_count}
 use Rattle.grammar_table.specs.Trees.{bodies_of}
 use Rattle.match_cells.specs.laws.Agrees.{Right}
-use Rattle.match_meaning.specs.Meaning.{Node}
 use Rattle.match_list.specs.Nodes.{Listing, all, deep, full}
 use Rattle.match_desk.specs.steps.Desk.{Forest, Desk, return_of}
 use Rattle.match_walks.specs.steps.Tasks.{Task, listed, AllAble, to_do}
 use Rattle.match_walks.specs.steps.Waits.{tasks_of, climb}
 use Rattle.match_nodes.specs.declared.Listed.{Listed}
 use Rattle.match_nodes.specs.declared.Listed.TheVariants.{All, Deep, Full}
-use Rattle.match_nodes.specs.steps.Passes.{big, Out}
-use Rattle.match_nodes.specs.steps.Notes.{Notes}
+use Rattle.match_nodes.specs.steps.Passes.{big, Out, run}
 
 -- a table with n symbols and at most 1,024 expressions, among them each symbol's body, none of which is a part twice; a text; and cells in which every
 -- symbol's cell is its meaning
@@ -51,17 +49,10 @@ pub record Left (k : List ℕ) (d p at m e x q i : ℕ) : Type 0 where
   pub over : d ≡ 0 → (m ≡ 0) × (e ≡ 0) × (x ≡ 0)
   pub level : (d ≡ 0 → ⊥) → (m ≡ 1) × (d ≡ suc e) × (x ≡ return_of k e) × (x < 4294967296)
 
--- a pass over room nodes, at o before and at i after
-module _ (t s cs : List ℕ) (n room : ℕ) where
-  -- tasks xs at p, from which it can go up c times, become those of a stand at q
+-- the pass with flag w over room nodes, at o before and at i after: tasks xs at p, from which it can go up c times, become those of a stand at q
+module _ (t s cs : List ℕ) (n room w : ℕ) where
   pub record Turned (o i : Out) (xs : List Task) (p c : ℕ) (k : List ℕ) (m d x q : ℕ) : Type 0 where
-    pub notes : Notes s cs n room o i (listed t s cs n xs p) (listed t s cs n (tasks_of t k m d x) q)
+    pub same : run room w i (listed t s cs n (tasks_of t k m d x) q) ≡ run room w o (listed t s cs n xs p)
     pub desk : Desk t k (expression_count t)
     pub state : i.at < big → State t s cs n k m d x q
     pub less : i.at < big → turns t s cs n k m d x q < to_do t s cs n xs p * 1048576 + c
-
-  -- of the list l what is left is that of a stand at q
-  pub record Went (o i : Out) (l : List Node) (k : List ℕ) (m d x q : ℕ) : Type 0 where
-    pub notes : Notes s cs n room o i l (listed t s cs n (tasks_of t k m d x) q)
-    pub desk : Desk t k (expression_count t)
-    pub state : i.at < big → State t s cs n k m d x q

@@ -1,4 +1,4 @@
-use Prim.Native.Nat.{ℕ, ◌-◌, ◌≤◌, ◌<◌}
+use Prim.Native.Nat.{ℕ, ◌-◌}
 use mathlib.Core.Path.{sym}
 use mathlib.Core.Bool.{true≢false}
 use native.Mathlib.Omega.{arith}
@@ -8,7 +8,6 @@ use Rattle.match_parts.specs.steps.Lists.{Listed}
 use borrow.Author.Tests.{not-false}
 use Rattle.base_facts.specs.laws.Numbers.{all-below}
 use Rattle.match_parts.specs.laws.Lists.{listed_at}
-use borrow.Author.Rules.{rules}
 use Rattle.match_parts.proofs.bodies_checked.Goals as goal
 
 pub returns-then-not-is_of : goal.returns-then-not-is_of

@@ -1,7 +1,6 @@
 use mathlib.Core.Path.{sym}
 use mathlib.Core.Bool.{true≢false}
 use borrow.Author.Tests.{not-false}
-use borrow.Author.Rules.{rules}
 use Rattle.match_parts.proofs.checked.Goals as goal
 
 pub returns-then-not-bodies_checked : goal.returns-then-not-bodies_checked

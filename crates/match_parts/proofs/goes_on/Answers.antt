@@ -1,6 +1,5 @@
 use mathlib.Core.Path.{sym}
 use mathlib.Core.Bool.{true≢false}
-use borrow.Author.Rules.{rules}
 use Rattle.match_parts.proofs.goes_on.Goals as goal
 
 pub returns-then-x-eq0 : goal.returns-then-x-eq0

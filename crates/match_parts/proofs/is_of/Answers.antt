@@ -1,4 +1,4 @@
-use Prim.Native.Nat.{ℕ, ◌+◌, ◌-◌, ◌≤◌, ◌<◌}
+use Prim.Native.Nat.{ℕ, ◌+◌, ◌-◌}
 use mathlib.Core.Path.{sym, ap, ◌∙◌, subst}
 use mathlib.Core.Bool.{true≢false}
 use borrow.Author.Tests.{eqb-true}
@@ -8,7 +8,6 @@ use Rattle.grammar_table.specs.Trees.{below}
 use Rattle.grammar_table.specs.laws.Trees.{below-le}
 use Rattle.match_parts.specs.steps.Lists.{Above}
 use Rattle.match_parts.specs.laws.Lists.{above-start, above_more, above-all}
-use borrow.Author.Rules.{rules}
 use Rattle.match_parts.proofs.is_of.Goals as goal
 
 pub returns-then-kind-lt-SEQUENCE : goal.returns-then-kind-lt-SEQUENCE

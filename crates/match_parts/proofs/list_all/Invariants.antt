@@ -1,5 +1,4 @@
 use Prim.Native.Nat.{◌-◌, ◌≤◌}
-use borrow.Author.Rules.{rules}
 use Rattle.match_parts.proofs.list_all.Given as goal
 
 abbrev pub invariant-loop-r : goal.invariant-loop-r

@@ -1,16 +1,15 @@
-use Prim.Native.Nat.{ℕ, ◌+◌, ◌-◌, ◌≤◌, ◌<◌}
-use mathlib.Core.Path.{◌≡◌, refl, sym, ap, ◌∙◌, subst}
+use Prim.Native.Nat.{ℕ, ◌+◌, ◌-◌}
+use mathlib.Core.Path.{◌≡◌, refl, ap, ◌∙◌}
 use native.Mathlib.Omega.{arith}
 use lib.Dec.{eqb}
 use mathlib.Core.List.{List}
-use lib.ListN.{get_or, length}
+use lib.ListN.{get_or}
 use Rattle.match_eval.specs.Eval.{ev}
 use Rattle.match_eval.specs.laws.Within.{ev-within}
 use Rattle.match_eval.specs.laws.Memory.{knows-from}
 use Rattle.grammar_table.specs.Trees.{tree_of}
 use Rattle.match_parts.specs.steps.Lists.{taken_by, run_of, list_of}
 use Rattle.match_parts.specs.laws.Lists.{choice-takes, choice-goes-on, choice-ends, sequence-fails, sequence-goes-on, sequence-ends}
-use borrow.Author.Rules.{rules}
 use Rattle.match_parts.proofs.list_at.Goals as goal
 
 -- the words that were read are those of the list

@@ -1,16 +1,8 @@
-use Prim.Native.Nat.{ℕ, ◌+◌, ◌-◌, ◌≤◌, ◌<◌}
-use mathlib.Core.Path.{◌≡◌, refl, sym, ap, ◌∙◌, subst}
-use native.Mathlib.Omega.{arith}
+use Prim.Native.Nat.{◌+◌, ◌-◌, ◌≤◌}
+use mathlib.Core.Path.{◌≡◌}
 use lib.Dec.{eqb}
-use mathlib.Core.List.{List}
-use lib.ListN.{get_or, length}
-use Rattle.match_eval.specs.Eval.{ev}
-use Rattle.match_eval.specs.laws.Within.{ev-within}
-use Rattle.match_eval.specs.laws.Memory.{knows-from}
-use Rattle.grammar_table.specs.Trees.{tree_of}
-use Rattle.match_parts.specs.steps.Lists.{taken_by, run_of, list_of}
-use Rattle.match_parts.specs.laws.Lists.{choice-takes, choice-goes-on, choice-ends, sequence-fails, sequence-goes-on, sequence-ends}
-use borrow.Author.Rules.{rules}
+use lib.ListN.{length}
+use Rattle.match_parts.specs.steps.Lists.{taken_by, run_of}
 use Rattle.match_parts.proofs.list_at.Given as goal
 
 abbrev pub invariant-loop-k : goal.invariant-loop-k

@@ -1,14 +1,7 @@
 use Prim.Native.Nat.{ℕ, ◌+◌, ◌-◌, ◌≤◌, ◌<◌}
-use mathlib.Core.Path.{sym}
-use mathlib.Core.Bool.{true≢false}
-use native.Mathlib.Omega.{arith}
 use lib.ListN.{get_or}
 use Rattle.match_eval.specs.steps.Memory.{parts_at}
 use Rattle.match_parts.specs.steps.Lists.{Listed}
-use borrow.Author.Tests.{not-false}
-use Rattle.base_facts.specs.laws.Numbers.{all-below}
-use Rattle.match_parts.specs.laws.Lists.{listed_at}
-use borrow.Author.Rules.{rules}
 use Rattle.match_parts.proofs.parts_checked.Given as goal
 
 abbrev pub invariant-loop-k : goal.invariant-loop-k

@@ -1,7 +1,4 @@
 use Prim.Native.Nat.{◌+◌, ◌-◌, ◌≤◌}
-use native.Mathlib.Omega.{arith}
-use Rattle.grammar_table.specs.laws.Trees.{below-le}
-use borrow.Author.Rules.{rules}
 use Rattle.match_parts.proofs.put_list.Given as goal
 
 abbrev pub invariant-loop-e : goal.invariant-loop-e

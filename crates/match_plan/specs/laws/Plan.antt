@@ -1,24 +1,20 @@
 -- A plan is right where it is empty, is checked part by part, and stays right while what stands before the entries does. Assumes nothing.
-use Rattle.std.specs.Prelude.{ℕ, zero, suc, ◌+◌, ◌-◌, ◌≤◌, ◌<◌, ◌≡◌, Bool, ◌⊎◌, eqb, get_or, length}
+use Rattle.std.specs.Prelude.{ℕ, zero, suc, ◌+◌, ◌≤◌, ◌<◌, ◌≡◌, Bool, ◌⊎◌, eqb, get_or, length}
 use Rattle.std.proofs.Math.Path.{refl, ap, ap₂}
 use Rattle.std.proofs.Common.{sym, ◌∙◌, subst, inl, inr, arith, add-one, eq-eqb, ne_eqb}
 use Rattle.std.proofs.Math.Bool.{true, false, cond}
-use mathlib.Core.List.{List, [], ◌∷◌, ◌++◌, append-nil}
+use mathlib.Core.List.{List, [], ◌∷◌, ◌++◌}
 use Rattle.std.proofs.Math.ListN.{get_or-eq_default}
 use Rattle.base_facts.specs.laws.Numbers.{lt-or-ge, all-below}
-use Rattle.grammar.specs.Exp.{star}
-use Rattle.grammar_table.specs.Table.{op_of, left_of, right_of, node_by, symbol_word, words_from}
-use Rattle.grammar_table.specs.Trees.{tree_of, below}
-use Rattle.grammar_table.specs.laws.Trees.{node_at}
+use Rattle.grammar_table.specs.Table.{symbol_word, words_from}
+use Rattle.grammar_table.specs.Trees.{tree_of}
 use Rattle.match_eval.specs.Eval.{ev}
 use Rattle.match_eval.specs.steps.Firsts.{byte_at, said_of, word_of}
 use Rattle.match_eval.specs.steps.Memory.{count_at, keys_at, parts_at, Key, Knows, Front}
-use Rattle.match_eval.specs.steps.Named.{Named, Names}
 use Rattle.match_eval.specs.laws.Memory.{said-right}
-use Rattle.match_eval.specs.laws.Named.{names-none}
 use Rattle.match_eval.specs.laws.Said.{said-inside, said_same}
-use Rattle.match_plan.specs.steps.Plan.{opens_of, Takes, Repeats, open_count, task_count, told_word, told_list, task_at, taker_count, taker_at, Recorded, Planned}
-use Rattle.match_plan.specs.steps.Checked.{Cell, Opens, Twin, AllOpen, Task, Taker}
+use Rattle.match_plan.specs.steps.Plan.{opens_of, Takes, open_count, task_count, taker_count, taker_at, Recorded, Planned}
+use Rattle.match_plan.specs.steps.Checked.{Cell, Opens, Task, Taker}
 
 pub planned-none : (t mem order : List ℕ) (n : ℕ) (plan : List ℕ) → ((j : ℕ) → get_or plan j 0 ≡ 0) → Planned t mem order n plan
 planned-none t mem order n plan z = record { records = λ b l f. absurd (f (z b)) }
@@ -91,54 +87,6 @@ module _ (t mem : List ℕ) (b : ℕ) where
         small = all-below (λ (y : ℕ). get_or plan (i + y) 0 < n) k o.small (omega (arith, d, h, l));
       }
 
--- as code finds the order's last symbol r, its body x, and the part y of that: k is the part's key
-pub twin-found : (t mem order : List ℕ) (n r x l y k z : ℕ) → r ≡ get_or order (n - 1) 0 → r < n → x ≡ symbol_word t r 1 → (x ≡ 0 → ⊥) → 5 ≡ op_of t (x - 1)
-    → l ≡ left_of t (x - 1) → y ≡ below l (x - 1) → (k ≡ 0 → ⊥) → k ≤ 1025 → z ≡ get_or mem (parts_at + (k - 1)) 0 → z ≡ y
-    → ((e : ℕ) → e < y → Names t r e → ⊥) → Twin t mem order n k
-unfolding node_by
-twin-found t mem order n r x l y k z e h f g o d i some few p same free j q =
-    let at : k - 1 ≡ j = omega (arith, q) in
-    let part : get_or mem (parts_at + j) 0 ≡ y = ap (λ (c : ℕ). get_or mem (parts_at + c) 0) (sym at) ∙ sym p ∙ same in
-    subst (λ (c : ℕ). Repeats t mem n c j) e (record {
-      symbol = h;
-      few = omega (arith, few, q);
-      body = ap (tree_of t) (sym f) ∙ sym (node_at t x 5 l (right_of t (x - 1)) g o d refl) ∙ ap (λ (c : ℕ). star (tree_of t c)) (sym i ∙ sym part);
-      unnamed = subst (λ (c : ℕ). Named r (tree_of t c) → ⊥) (sym part) (names-none t r y free);
-    })
-
--- no symbol is told, or the order's last one is
-module _ (t mem order : List ℕ) (n b : ℕ) (plan : List ℕ) (o m c w : ℕ) (e : w ≡ told_word plan n o) where
-  pub all_listed : w ≡ 0 → Opens t mem order n b plan (o + n + 3) n m → AllOpen t mem order n b plan o m c
-  all_listed z a = record {
-    listed = ap (λ (y : ℕ). words_from plan (o + n + 3) m ++ told_list y) (sym e ∙ z) ∙ append-nil (words_from plan (o + n + 3) m) ∙ a.listed;
-    small = a.small;
-    told = λ r h. absurd (omega (arith, z, e, h));
-  }
-
-  -- as code finds it: k is 1 + where its part is listed, v the first key's task, r the symbol, x its body, u what is said of that
-  pub all_told : (k v r x u : ℕ) → Twin t mem order n k → (k ≡ 0 → ⊥) → m < c → v ≡ get_or plan (o + n + 3 + m) 0 → v ≡ 64 + (k - 1) → r ≡ get_or order (n - 1) 0 → w ≡ r + 1
-      → x ≡ symbol_word t r 1 → u ≡ said_of mem b x → u ≡ 0 → Opens t mem order n b plan (o + n + 3) (n - 1) m → AllOpen t mem order n b plan o m c
-  all_told k v r x u twin some l f g h i d q z a = record {
-    listed = ap₂ (λ (y : List ℕ) (i : ℕ). y ++ told_list i) a.listed (sym e ∙ i ∙ add-one r) ∙ sym (ap (opens_of t mem b) last ∙ open_more t mem b (words_from order 0 (n - 1)) r unsaid);
-    small = a.small;
-    told = λ j y.
-        let same : j ≡ r = omega (arith, y, e, i) in
-        let key : get_or plan (o + n + 3 + m) 0 - 64 ≡ k - 1 = omega (arith, f, g) in
-        (l, subst (λ (y : ℕ). Repeats t mem n j y) (sym key) (subst (λ (y : ℕ). Repeats t mem n y (k - 1)) (sym h ∙ sym same) found));
-  }
-    where
-      found : Repeats t mem n (get_or order (n - 1) 0) (k - 1)
-      found = twin (k - 1) (omega (arith, some))
-
-      unsaid : word_of t mem b r ≡ 0
-      unsaid = sym (q ∙ ap (said_of mem b) d) ∙ z
-
-      last : words_from order 0 n ≡ words_from order 0 (n - 1) ++ (r ∷ [])
-      last =
-          let y : n ≡ n - 1 + 1 = omega (arith, found.symbol) in
-          let i : 0 + (n - 1) ≡ n - 1 = omega arith in
-          ap (words_from order 0) y ∙ words-end order 0 (n - 1) ∙ ap (λ (i : ℕ). words_from order 0 (n - 1) ++ (i ∷ [])) (ap (λ (i : ℕ). get_or order i 0) i ∙ sym h)
-
 -- as code finds it
 pub takes-just : (mem : List ℕ) (b k y w j : ℕ) → y ≡ get_or mem (parts_at + k) 0 → w ≡ said_of mem b y → w ≡ 3 → (0 < j → Key mem y j) → j ≡ k + 1 → Takes mem b k
 takes-just mem b k y w j e f g h i =
@@ -147,23 +95,20 @@ takes-just mem b k y w j e f g h i =
 -- the record as code reads it: m open symbols, c tasks, k keys that take the byte
 module _ (t mem order : List ℕ) (n : ℕ) (plan : List ℕ) (b o m c k : ℕ) where
   pub recorded : o + n ≤ 5120 → ((r : ℕ) → r < n → Cell t mem b plan o r) → m ≡ open_count plan n o → c ≡ task_count plan n o → m ≤ c
-      → AllOpen t mem order n b plan o m c → ((j : ℕ) → j < c → m ≤ j → Task mem (get_or plan (o + n + 3 + j) 0)) → k ≡ get_or plan (o + n + 3 + c) 0
-      → ((j : ℕ) → j < k → Taker mem b (get_or plan (o + n + 3 + c + 1 + j) 0)) → Recorded t mem order n plan b o
+      → Opens t mem order n b plan (o + n + 2) n m → ((j : ℕ) → j < c → m ≤ j → Task mem (get_or plan (o + n + 2 + j) 0)) → k ≡ get_or plan (o + n + 2 + c) 0
+      → ((j : ℕ) → j < k → Taker mem b (get_or plan (o + n + 2 + c + 1 + j) 0)) → Recorded t mem order n plan b o
   recorded f row em ec l opens keys ek takers = record {
     fits = f;
     row = λ r v h. row r h v;
-    opens = subst (λ (z : ℕ). words_from plan (o + n + 3) z ++ told_list (told_word plan n o) ≡ opens_of t mem b (words_from order 0 n)) em opens.listed;
-    told = λ r h.
-        let a = opens.told r h in
-        (omega (arith, a.0, em, ec), subst (λ (z : ℕ). Repeats t mem n r (get_or plan (o + n + 3 + z) 0 - 64)) em a.1);
+    opens = subst (λ (z : ℕ). words_from plan (o + n + 2) z ≡ opens_of t mem b (words_from order 0 n)) em opens.listed;
     below = λ j h. opens.small j (omega (arith, h, em));
     first = omega (arith, em, ec, l);
     keys = λ j h i. keys j (omega (arith, i, ec)) (omega (arith, h, em));
-    takes = λ j h. subst (λ (z : ℕ). Taker mem b (get_or plan (o + n + 3 + z + 1 + j) 0)) ec (takers j (omega (arith, h, count)));
+    takes = λ j h. subst (λ (z : ℕ). Taker mem b (get_or plan (o + n + 2 + z + 1 + j) 0)) ec (takers j (omega (arith, h, count)));
   }
     where
       count : k ≡ taker_count plan n o
-      count = ek ∙ ap (λ (z : ℕ). get_or plan (o + n + 3 + z) 0) ec
+      count = ek ∙ ap (λ (z : ℕ). get_or plan (o + n + 2 + z) 0) ec
 
 -- ── only what stands before the entries counts ──
 module _ (t old new : List ℕ) (f : Front old new) where
@@ -180,23 +125,12 @@ module _ (t old new : List ℕ) (f : Front old new) where
       subst (λ (x : ℕ). Key new x (k + 1) × (said_of new b x ≡ 3)) (sym (f (parts_at + k) (omega arith)))
       ((i, z, f (keys_at + get_or old (parts_at + k) 0) (omega arith) ∙ e), same-said b (get_or old (parts_at + k) 0) ∙ s)
 
-  pub repeats-same : (n r k : ℕ) → Repeats t old n r k → Repeats t new n r k
-  repeats-same n r k a =
-      let e : get_or new (parts_at + k) 0 ≡ get_or old (parts_at + k) 0 = f (parts_at + k) (omega (arith, a.few)) in
-      record {
-        symbol = a.symbol;
-        few = a.few;
-        body = subst (λ (y : ℕ). tree_of t (symbol_word t r 1) ≡ star (tree_of t y)) (sym e) a.body;
-        unnamed = subst (λ (y : ℕ). Named r (tree_of t y) → ⊥) (sym e) a.unnamed;
-      }
-
   module _ (order : List ℕ) (n : ℕ) (plan : List ℕ) where
     record-front : (b o : ℕ) → Recorded t old order n plan b o → Recorded t new order n plan b o
     record-front b o r = record {
       fits = r.fits;
       row = λ j v l e. r.row j v l (sym (same-said b (symbol_word t j 1)) ∙ e);
       opens = r.opens ∙ sym (opens-same b (words_from order 0 n));
-      told = λ j l. let a = r.told j l in (a.0, repeats-same n j (task_at plan n o (open_count plan n o) - 64) a.1);
       below = r.below;
       first = r.first;
       keys = λ j l h. ((r.keys j l h).0, omega (arith, (r.keys j l h).1, f count_at (omega arith)));

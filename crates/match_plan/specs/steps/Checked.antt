@@ -1,9 +1,9 @@
 -- What is checked of a record, part by part. Assumes nothing: these are definitions.
-use Rattle.std.specs.Prelude.{ℕ, suc, ◌+◌, ◌-◌, ◌≤◌, ◌<◌, ◌≡◌, List, ◌++◌, get_or}
+use Rattle.std.specs.Prelude.{ℕ, suc, ◌+◌, ◌≤◌, ◌<◌, ◌≡◌, List, get_or}
 use Rattle.grammar_table.specs.Table.{words_from}
 use Rattle.match_eval.specs.steps.Firsts.{word_of}
 use Rattle.match_eval.specs.steps.Memory.{count_at}
-use Rattle.match_plan.specs.steps.Plan.{opens_of, Takes, Repeats, told_word, told_list, Recorded}
+use Rattle.match_plan.specs.steps.Plan.{opens_of, Takes, Recorded}
 
 -- the cell of symbol r in the record at o is what is said of its body
 abbrev pub Cell : List ℕ → List ℕ → ℕ → List ℕ → ℕ → ℕ → Type 0
@@ -13,16 +13,6 @@ Cell t mem b plan o r = (v : ℕ) → word_of t mem b r ≡ suc v → get_or pla
 pub record Opens (t mem order : List ℕ) (n b : ℕ) (plan : List ℕ) (i j m : ℕ) : Type 0 where
   pub listed : words_from plan i m ≡ opens_of t mem b (words_from order 0 j)
   pub small : (k : ℕ) → k < m → get_or plan (i + k) 0 < n
-
--- k is 0, or 1 + where the part is listed that the body of the order's last symbol repeats
-abbrev pub Twin : List ℕ → List ℕ → List ℕ → ℕ → ℕ → Type 0
-Twin t mem order n k = (j : ℕ) → k ≡ suc j → Repeats t mem n (get_or order (n - 1) 0) j
-
--- the m tasks from behind the counts on, and the symbol that is told, are the open ones, and symbols; that one by the first of the other c - m tasks
-pub record AllOpen (t mem order : List ℕ) (n b : ℕ) (plan : List ℕ) (o m c : ℕ) : Type 0 where
-  pub listed : words_from plan (o + n + 3) m ++ told_list (told_word plan n o) ≡ opens_of t mem b (words_from order 0 n)
-  pub small : (k : ℕ) → k < m → get_or plan (o + n + 3 + k) 0 < n
-  pub told : (r : ℕ) → told_word plan n o ≡ suc r → (m < c) × Repeats t mem n r (get_or plan (o + n + 3 + m) 0 - 64)
 
 -- x is the task of a key
 abbrev pub Task : List ℕ → ℕ → Type 0

@@ -1,12 +1,9 @@
 -- What is done where a byte stands, listed once a byte: which cells are set to what, which symbols' bodies are evaluated and in what order, and for which keys
 -- rounds are remembered. Assumes nothing: these are definitions.
-use Rattle.std.specs.Prelude.{ℕ, zero, suc, ◌+◌, ◌-◌, ◌≤◌, ◌<◌, ◌≡◌, cond, List, [], ◌∷◌, ◌++◌, eqb, get_or}
-use Rattle.grammar.specs.Exp.{star}
-use Rattle.grammar_table.specs.Table.{symbol_word, words_from}
-use Rattle.grammar_table.specs.Trees.{tree_of}
+use Rattle.std.specs.Prelude.{ℕ, suc, ◌+◌, ◌≤◌, ◌<◌, ◌≡◌, cond, List, [], ◌∷◌, eqb, get_or}
+use Rattle.grammar_table.specs.Table.{words_from}
 use Rattle.match_eval.specs.steps.Firsts.{said_of, word_of}
 use Rattle.match_eval.specs.steps.Memory.{count_at, parts_at, Key}
-use Rattle.match_eval.specs.steps.Named.{Named}
 
 -- the symbols of a list of whose bodies nothing is said where byte b stands
 unfoldable pub opens_of : List ℕ → List ℕ → ℕ → List ℕ → List ℕ
@@ -17,34 +14,19 @@ opens_of t mem b (r ∷ rs) = cond (eqb (word_of t mem b r) 0) (r ∷ opens_of t
 abbrev pub Takes : List ℕ → ℕ → ℕ → Type 0
 Takes mem b k = Key mem (get_or mem (parts_at + k) 0) (k + 1) × (said_of mem b (get_or mem (parts_at + k) 0) ≡ 3)
 
--- the body of symbol r repeats the part listed at k, which does not name r: its rounds say what the symbol takes, and go by no cell of it
-pub record Repeats (t mem : List ℕ) (n r k : ℕ) : Type 0 where
-  pub symbol : r < n
-  pub few : k < 1025
-  pub body : tree_of t (symbol_word t r 1) ≡ star (tree_of t (get_or mem (parts_at + k) 0))
-  pub unnamed : Named r (tree_of t (get_or mem (parts_at + k) 0)) → ⊥
-
--- ── a byte's record at o, with n symbols: their cells; how many of the open ones are tasks; how many tasks there are; 1 + the open symbol, if there is one,
--- that is no task but told by the first key's rounds; the tasks, open symbols first, then keys; how many keys take just the byte; these keys ──
+-- ── a byte's record at o, with n symbols: their cells; how many of them are open; how many tasks there are; the tasks, open symbols first, then keys; how many
+-- keys take just the byte; these keys ──
 abbrev pub open_count : List ℕ → ℕ → ℕ → ℕ
 open_count plan n o = get_or plan (o + n) 0
 
 abbrev pub task_count : List ℕ → ℕ → ℕ → ℕ
 task_count plan n o = get_or plan (o + n + 1) 0
 
-abbrev pub told_word : List ℕ → ℕ → ℕ → ℕ
-told_word plan n o = get_or plan (o + n + 2) 0
-
--- that symbol, as a list
-abbrev pub told_list : ℕ → List ℕ
-told_list zero = []
-told_list (suc r) = r ∷ []
-
 abbrev pub task_at : List ℕ → ℕ → ℕ → ℕ → ℕ
-task_at plan n o j = get_or plan (o + n + 3 + j) 0
+task_at plan n o j = get_or plan (o + n + 2 + j) 0
 
 abbrev pub takers_at : List ℕ → ℕ → ℕ → ℕ
-takers_at plan n o = o + n + 3 + task_count plan n o
+takers_at plan n o = o + n + 2 + task_count plan n o
 
 abbrev pub taker_count : List ℕ → ℕ → ℕ → ℕ
 taker_count plan n o = get_or plan (takers_at plan n o) 0
@@ -56,8 +38,7 @@ taker_at plan n o j = get_or plan (takers_at plan n o + 1 + j) 0
 pub record Recorded (t mem order : List ℕ) (n : ℕ) (plan : List ℕ) (b o : ℕ) : Type 0 where
   pub fits : o + n ≤ 5120
   pub row : (r v : ℕ) → r < n → word_of t mem b r ≡ suc v → get_or plan (o + r) 0 ≡ v
-  pub opens : words_from plan (o + n + 3) (open_count plan n o) ++ told_list (told_word plan n o) ≡ opens_of t mem b (words_from order 0 n)
-  pub told : (r : ℕ) → told_word plan n o ≡ suc r → (open_count plan n o < task_count plan n o) × Repeats t mem n r (task_at plan n o (open_count plan n o) - 64)
+  pub opens : words_from plan (o + n + 2) (open_count plan n o) ≡ opens_of t mem b (words_from order 0 n)
   pub below : (j : ℕ) → j < open_count plan n o → task_at plan n o j < n
   pub first : open_count plan n o ≤ task_count plan n o
   pub keys : (j : ℕ) → open_count plan n o ≤ j → j < task_count plan n o → (64 ≤ task_at plan n o j) × (task_at plan n o j < 64 + get_or mem count_at 0)

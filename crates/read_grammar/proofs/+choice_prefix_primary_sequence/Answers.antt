@@ -1,17 +1,13 @@
-use Prim.Native.Nat.{◌+◌, ◌-◌, ◌*◌, ◌≤◌}
-use mathlib.Core.Path.{◌≡◌, refl, sym, ap, ◌∙◌}
-use mathlib.Core.Bool.{Bool, true, false, not, ◌||◌}
-use mathlib.Core.List.{List}
+use Prim.Native.Nat.{◌-◌}
+use mathlib.Core.Path.{refl, sym, ap, ◌∙◌}
+use mathlib.Core.Bool.{true, false}
 use native.Mathlib.Omega.{arith}
 use borrow.Author.Tests.{not-true, not-false}
-use lib.ListN.{length}
 use Rattle.read_entries.specs.steps.Entries.{prefix_op}
 use Rattle.read_grammar.specs.steps.Promises.{toks_at}
 use Rattle.read_grammar.specs.laws.Places.{begins-some}
-use Rattle.read_grammar.specs.laws.Glue.{LoopC, loop-c, more-c, end-c, LoopS, loop-s, more-s, end-s, with-pre, without-pre, grouped, kind-there, over-next, long-next, start-in, room}
+use Rattle.read_grammar.specs.laws.Glue.{loop-c, more-c, end-c, loop-s, more-s, end-s, with-pre, without-pre, grouped, kind-there, over-next, long-next, start-in, room}
 use Rattle.read_grammar.specs.laws.Glue.{prim-end, prim-bad, prim-name, prim-terminal, prefix-some, not-zero}
-use borrow.Author.Rules.{rules}
-use Prim.Native.Nat.{ℕ, ◌<◌}
 use Rattle.read_grammar.proofs.+choice_prefix_primary_sequence.Goals as goal
 
 pub choice-sequence-i-requires : goal.choice-sequence-i-requires

@@ -1,17 +1,7 @@
 use Prim.Native.Nat.{◌+◌, ◌-◌, ◌*◌, ◌≤◌}
-use mathlib.Core.Path.{◌≡◌, refl, sym, ap, ◌∙◌}
-use mathlib.Core.Bool.{Bool, true, false, not, ◌||◌}
-use mathlib.Core.List.{List}
-use native.Mathlib.Omega.{arith}
-use borrow.Author.Tests.{not-true, not-false}
+use mathlib.Core.Path.{◌≡◌}
 use lib.ListN.{length}
-use Rattle.read_entries.specs.steps.Entries.{prefix_op}
-use Rattle.read_grammar.specs.steps.Promises.{toks_at}
-use Rattle.read_grammar.specs.laws.Places.{begins-some}
-use Rattle.read_grammar.specs.laws.Glue.{LoopC, loop-c, more-c, end-c, LoopS, loop-s, more-s, end-s, with-pre, without-pre, grouped, kind-there, over-next, long-next, start-in, room}
-use Rattle.read_grammar.specs.laws.Glue.{prim-end, prim-bad, prim-name, prim-terminal, prefix-some, not-zero}
-use borrow.Author.Rules.{rules}
-use Prim.Native.Nat.{ℕ, ◌<◌}
+use Rattle.read_grammar.specs.laws.Glue.{LoopC, LoopS}
 use Rattle.read_grammar.proofs.+choice_prefix_primary_sequence.Given as goal
 
 abbrev pub decreases-choice : goal.decreases-choice

@@ -1,7 +1,6 @@
 use mathlib.Core.Path.{sym, ◌∙◌}
 use native.Mathlib.Omega.{arith}
 use Rattle.read_grammar.specs.laws.Found.{matches-any}
-use borrow.Author.Rules.{rules}
 use Rattle.read_grammar.proofs.any_byte.Goals as goal
 
 pub returns-then-leaf_kind-eq-ANY : goal.returns-then-leaf_kind-eq-ANY

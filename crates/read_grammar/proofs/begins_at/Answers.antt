@@ -1,14 +1,11 @@
-use Prim.Native.Nat.{ℕ, suc, ◌+◌, ◌-◌, ◌*◌, ◌≤◌, ◌<◌}
-use mathlib.Core.Path.{◌≡◌, refl, sym, ap, ◌∙◌}
-use mathlib.Core.Bool.{Bool, true, false, not, ◌||◌}
-use mathlib.Core.List.{List}
+use Prim.Native.Nat.{ℕ, ◌-◌}
+use mathlib.Core.Path.{sym, ap, ◌∙◌}
+use mathlib.Core.Bool.{true, false, not}
 use native.Mathlib.Omega.{arith}
-use lib.ListN.{length}
 use lib.Dec.{eqb}
 use Rattle.read_grammar.specs.steps.Promises.{toks_at}
 use Rattle.read_grammar.specs.laws.Places.{begins-none, begins-part, begins-late, begins-symbol}
 use Rattle.read_grammar.specs.laws.Glue.{kind-there, over-next}
-use borrow.Author.Rules.{rules}
 use Rattle.read_grammar.proofs.begins_at.Goals as goal
 
 pub returns-then-kind-eq-END : goal.returns-then-kind-eq-END

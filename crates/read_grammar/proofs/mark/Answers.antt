@@ -1,14 +1,11 @@
-use Prim.Native.Nat.{ℕ, suc, ◌+◌, ◌-◌, ◌*◌, ◌≤◌, ◌<◌}
-use mathlib.Core.Path.{◌≡◌, refl, sym, ap, ◌∙◌}
-use mathlib.Core.Bool.{Bool, true, false, not, ◌||◌}
-use mathlib.Core.List.{List}
+use Prim.Native.Nat.{◌-◌}
+use mathlib.Core.Path.{sym, ap, ◌∙◌}
+use mathlib.Core.Bool.{Bool, true, false, ◌||◌}
 use native.Mathlib.Omega.{arith}
-use lib.ListN.{length}
 use Rattle.read_syntax.specs.Reader.{is_arrow}
 use Rattle.read_grammar.specs.steps.Promises.{toks_at}
 use Rattle.read_grammar.specs.laws.Glue.{room}
 use Rattle.read_grammar.specs.laws.Marks.{mark-end, mark-other, mark-full, mark-yes, mark-no}
-use borrow.Author.Rules.{rules}
 use Rattle.read_grammar.proofs.mark.Goals as goal
 
 pub returns-then-kind-eq-END : goal.returns-then-kind-eq-END

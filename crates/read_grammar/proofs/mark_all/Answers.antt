@@ -1,12 +1,9 @@
-use Prim.Native.Nat.{ℕ, suc, ◌+◌, ◌-◌, ◌*◌, ◌≤◌, ◌<◌}
-use mathlib.Core.Path.{◌≡◌, refl, sym, ap, ◌∙◌}
-use mathlib.Core.Bool.{Bool, true, false, not, ◌||◌}
-use mathlib.Core.List.{List}
+use Prim.Native.Nat.{◌-◌}
+use mathlib.Core.Path.{refl, ◌∙◌}
+use mathlib.Core.Bool.{true, false}
 use native.Mathlib.Omega.{arith}
-use lib.ListN.{length}
 use Rattle.read_grammar.specs.laws.Glue.{strict}
-use Rattle.read_grammar.specs.laws.Marks.{LoopN, loop-n, more-n, end-n}
-use borrow.Author.Rules.{rules}
+use Rattle.read_grammar.specs.laws.Marks.{loop-n, more-n, end-n}
 use Rattle.read_grammar.proofs.mark_all.Goals as goal
 
 pub loop-i-init : goal.loop-i-init

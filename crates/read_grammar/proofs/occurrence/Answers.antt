@@ -1,6 +1,5 @@
 use mathlib.Core.Path.{sym, ◌∙◌}
 use Rattle.read_grammar.specs.laws.Found.{occurs, occurs-full}
-use borrow.Author.Rules.{rules}
 use Rattle.read_grammar.proofs.occurrence.Goals as goal
 
 pub returns-then-expressions-eq-TOO_MANY_EXPRESSIONS : goal.returns-then-expressions-eq-TOO_MANY_EXPRESSIONS

@@ -1,11 +1,6 @@
-use Prim.Native.Nat.{ℕ, suc, ◌+◌, ◌-◌, ◌*◌, ◌≤◌, ◌<◌}
-use mathlib.Core.Path.{◌≡◌, refl, sym, ap, ◌∙◌}
-use mathlib.Core.Bool.{Bool, true, false, not, ◌||◌}
-use mathlib.Core.List.{List}
-use native.Mathlib.Omega.{arith}
-use lib.ListN.{length}
+use Prim.Native.Nat.{◌-◌}
+use mathlib.Core.Bool.{true, false}
 use Rattle.read_grammar.specs.laws.Glue.{over-end, over-next}
-use borrow.Author.Rules.{rules}
 use Rattle.read_grammar.proofs.over.Goals as goal
 
 pub returns-then-kind-eq-END : goal.returns-then-kind-eq-END

@@ -1,13 +1,10 @@
-use Prim.Native.Nat.{ℕ, suc, ◌+◌, ◌-◌, ◌*◌, ◌≤◌, ◌<◌}
-use mathlib.Core.Path.{◌≡◌, refl, sym, ap, ◌∙◌}
-use mathlib.Core.Bool.{Bool, true, false, not, ◌||◌}
-use mathlib.Core.List.{List}
+use Prim.Native.Nat.{◌-◌}
+use mathlib.Core.Path.{refl, ap, ◌∙◌}
+use mathlib.Core.Bool.{true, false}
 use native.Mathlib.Omega.{arith}
-use lib.ListN.{length}
 use Rattle.read_grammar.specs.laws.Places.{kind_l}
 use Rattle.read_grammar.specs.laws.Glue.{kind-there, no-token}
-use Rattle.read_grammar.specs.laws.Rules.{LoopR, loop-r, more-r, end-r}
-use borrow.Author.Rules.{rules}
+use Rattle.read_grammar.specs.laws.Rules.{loop-r, more-r, end-r}
 use Rattle.read_grammar.proofs.rules.Goals as goal
 
 pub loop-mode-init : goal.loop-mode-init

@@ -1,12 +1,8 @@
-use Prim.Native.Nat.{ℕ, suc, ◌+◌, ◌-◌, ◌*◌, ◌≤◌, ◌<◌}
-use mathlib.Core.Path.{◌≡◌, refl, sym, ap, ◌∙◌}
-use mathlib.Core.Bool.{Bool, true, false, not, ◌||◌}
-use mathlib.Core.List.{List}
-use native.Mathlib.Omega.{arith}
-use lib.ListN.{length}
+use Prim.Native.Nat.{◌-◌}
+use mathlib.Core.Path.{ap, ◌∙◌}
+use mathlib.Core.Bool.{true, false}
 use Rattle.read_entries.specs.steps.Entries.{suffix_op}
 use Rattle.read_grammar.specs.laws.Glue.{kind-there, over-next, suffix-some, suf-no, suf-yes}
-use borrow.Author.Rules.{rules}
 use Rattle.read_grammar.proofs.suffix.Goals as goal
 
 pub returns-then-p-eq0 : goal.returns-then-p-eq0

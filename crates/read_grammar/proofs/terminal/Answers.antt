@@ -1,8 +1,7 @@
-use Prim.Native.Nat.{ℕ, suc, ◌+◌, ◌-◌, ◌*◌, ◌≤◌, ◌<◌}
-use mathlib.Core.Path.{◌≡◌, refl, sym, ap, ◌∙◌}
+use Prim.Native.Nat.{◌-◌}
+use mathlib.Core.Path.{sym, ◌∙◌}
 use native.Mathlib.Omega.{arith}
 use Rattle.read_grammar.specs.laws.Found.{matches, matches-full}
-use borrow.Author.Rules.{rules}
 use Rattle.read_grammar.proofs.terminal.Goals as goal
 
 pub returns-then-terminals-eq-TOO_MANY : goal.returns-then-terminals-eq-TOO_MANY

@@ -1,14 +1,11 @@
-use mathlib.Core.Path.{◌≡◌, refl, sym, ap, ◌∙◌}
-use mathlib.Core.List.{List}
-use Prim.Native.Nat.{ℕ, ◌+◌, ◌≤◌, ◌<◌}
+use mathlib.Core.Path.{sym, ap, ◌∙◌}
+use Prim.Native.Nat.{ℕ}
 use native.Mathlib.Omega.{arith}
 use lib.Dec.{eqb}
-use lib.ListN.{length, get_or}
 use Rattle.read_tokens.specs.declared.Token.{Token}
 use Rattle.read_tokens.specs.Token as spec
-use Rattle.read_tokens.specs.steps.Code.{kind_of, coded}
+use Rattle.read_tokens.specs.steps.Code.{kind_of}
 use Rattle.read_tokens.proofs.TokenSteps.{token-moved, byte_inside, less-at}
-use borrow.Author.Rules.{rules}
 use Rattle.read_tokens.proofs.arrow_at.Goals as goal
 
 pub overflow_add-i : goal.overflow_add-i

@@ -1,7 +1,6 @@
 use mathlib.Core.Path.{refl, ◌∙◌}
 use Rattle.read_tokens.proofs.LiteralSteps.{bad-is}
 use Rattle.read_tokens.proofs.ClassSteps.{token-bad, token-class}
-use borrow.Author.Rules.{rules}
 use Rattle.read_tokens.proofs.class_token.Goals as goal
 
 pub class_end-next-requires : goal.class_end-next-requires

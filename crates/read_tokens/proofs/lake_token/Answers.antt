@@ -1,10 +1,8 @@
-use mathlib.Core.Path.{◌≡◌, refl, sym, ap, ◌∙◌}
+use mathlib.Core.Path.{sym, ◌∙◌}
 use native.Mathlib.Omega.{arith}
-use Prim.Native.Nat.{ℕ, suc, ◌+◌, ◌-◌, ◌≤◌}
 use Rattle.read_tokens.proofs.CharSteps.{inside}
 use Rattle.read_tokens.proofs.LiteralSteps.{bad-is}
 use Rattle.read_tokens.proofs.TokenSteps.{lake-end, lake-first, lake-open, lake-is}
-use borrow.Author.Rules.{rules}
 use Rattle.read_tokens.proofs.lake_token.Goals as goal
 
 pub returns-then-text-from : goal.returns-then-text-from

@@ -1,12 +1,11 @@
-use mathlib.Core.Path.{◌≡◌, refl, sym, ap, ◌∙◌}
-use Prim.Native.Nat.{ℕ, suc, ◌+◌, ◌-◌, ◌≤◌}
-use lib.ListN.{length, drop, get_or}
-use Rattle.read_tokens.specs.steps.Code.{coded, made, named}
+use mathlib.Core.Path.{sym, ap, ◌∙◌}
+use Prim.Native.Nat.{suc}
+use lib.ListN.{drop}
+use Rattle.read_tokens.specs.steps.Code.{coded}
 use Rattle.read_tokens.specs.declared.Mode.{Mode}
 use Rattle.read_tokens.specs.Tokens.{angle}
 use Rattle.read_tokens.proofs.LiteralSteps.{bad-is}
 use Rattle.read_tokens.proofs.TokenSteps.{less-arrow, less-plain, less-lake}
-use borrow.Author.Rules.{rules}
 use Rattle.read_tokens.proofs.less_token.Goals as goal
 
 pub returns-then-b-eq45 : goal.returns-then-b-eq45

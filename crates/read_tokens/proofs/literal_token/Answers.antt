@@ -1,13 +1,11 @@
-use mathlib.Core.Path.{◌≡◌, refl, sym, ap, ◌∙◌}
-use Prim.Native.Nat.{ℕ, suc, ◌+◌, ◌-◌, ◌≤◌}
-use lib.ListN.{length, drop, get_or}
-use Rattle.read_tokens.specs.steps.Code.{coded, made, named}
+use mathlib.Core.Path.{ap, ◌∙◌}
+use Prim.Native.Nat.{ℕ}
+use Rattle.read_tokens.specs.steps.Code.{coded}
 use native.Mathlib.Numerals.{add-one}
 use Rattle.read_tokens.specs.Chars.{single, Body}
 use Rattle.read_tokens.specs.Tokens.{literal_by}
 use Rattle.read_tokens.specs.laws.Passing.{from}
 use Rattle.read_tokens.proofs.LiteralSteps.{bad-is, literal-none, literal-some}
-use borrow.Author.Rules.{rules}
 use Rattle.read_tokens.proofs.literal_token.Goals as goal
 
 pub returns-then-count-eq0 : goal.returns-then-count-eq0

@@ -1,6 +1,5 @@
-use mathlib.Core.Path.{◌≡◌, refl, sym, ap, ◌∙◌}
+use mathlib.Core.Path.{◌∙◌}
 use Rattle.read_tokens.proofs.TokenSteps.{name-is}
-use borrow.Author.Rules.{rules}
 use Rattle.read_tokens.proofs.name_token.Goals as goal
 
 pub returns : goal.returns

@@ -1,11 +1,5 @@
-use mathlib.Core.Path.{◌≡◌, refl, ◌∙◌}
-use mathlib.Core.Bool.{false}
-use Prim.Native.Nat.{◌-◌}
-use native.Mathlib.Omega.{arith}
-use lib.ListN.{length, drop}
-use Rattle.read_tokens.specs.Tokens.{skip}
+use mathlib.Core.Path.{refl, ◌∙◌}
 use Rattle.read_tokens.proofs.TokenSteps.{space-more}
-use borrow.Author.Rules.{rules}
 use Rattle.read_tokens.proofs.spaces.Goals as goal
 
 pub loop-i-init : goal.loop-i-init

@@ -1,11 +1,8 @@
-use mathlib.Core.Path.{◌≡◌, refl, ◌∙◌}
+use mathlib.Core.Path.{◌≡◌}
 use mathlib.Core.Bool.{false}
 use Prim.Native.Nat.{◌-◌}
-use native.Mathlib.Omega.{arith}
 use lib.ListN.{length, drop}
 use Rattle.read_tokens.specs.Tokens.{skip}
-use Rattle.read_tokens.proofs.TokenSteps.{space-more}
-use borrow.Author.Rules.{rules}
 use Rattle.read_tokens.proofs.spaces.Given as goal
 
 abbrev pub invariant-loop-i : goal.invariant-loop-i

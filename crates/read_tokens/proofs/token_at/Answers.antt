@@ -1,4 +1,3 @@
-use borrow.Author.Rules.{rules}
 use Rattle.read_tokens.proofs.token_at.Goals as goal
 
 pub returns : goal.returns

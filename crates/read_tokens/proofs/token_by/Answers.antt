@@ -10,7 +10,6 @@ use Rattle.read_tokens.specs.Tokens.{skip, by_kind, name_span, token_at}
 use Rattle.read_tokens.specs.Kinds.{kind_at}
 use Rattle.read_tokens.proofs.LiteralSteps.{bad-is}
 use Rattle.read_tokens.proofs.TokenSteps.{token_end, token-is, one-is, bad_kind}
-use borrow.Author.Rules.{rules}
 use Rattle.read_tokens.proofs.token_by.Goals as goal
 
 -- What all arms share: the byte at the place behind the blanks has the kind k.

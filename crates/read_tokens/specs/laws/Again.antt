@@ -1,6 +1,6 @@
 -- What a token holds is read again from the text by its place: a name's bytes stand there, a literal's are those of its characters one after the
 -- other, a class's marks are those of the class at its `[`. Assumes nothing.
-use Rattle.std.specs.Prelude.{ℕ, zero, suc, ◌+◌, ◌≤◌, ◌<◌, ◌≡◌, Bool, eqb, length}
+use Rattle.std.specs.Prelude.{ℕ, zero, suc, ◌+◌, ◌≡◌, Bool, eqb, length}
 use Rattle.std.proofs.Math.Path.{refl, ap}
 use Rattle.std.proofs.Common.{sym, ◌∙◌, subst, arith, drop-drop}
 use Rattle.std.proofs.Math.Bool.{true, false}
@@ -12,28 +12,8 @@ use Rattle.read_tokens.specs.Kinds.{kind_at}
 use Rattle.read_tokens.specs.declared.Mode.{Mode}
 use Rattle.read_tokens.specs.declared.Mode.TheVariants.{Lake, Plain}
 use Rattle.read_tokens.specs.Token.{Symbol, name, lake, Leaf, any, literal, class, Tok, symbol, leaf, pre, suf, arrow, slash, opens, closes, bad, Token}
-use Rattle.read_tokens.specs.Chars.{Char, char, Range, range, Item, single, listed, Body, shut, broken, also, by_width, shut_by, body}
-use Rattle.read_tokens.specs.Tokens.{
-  tok,
-  bad_at,
-  skip,
-  name_byte,
-  name_span,
-  lake_by,
-  angle,
-  low_of,
-  literal_by,
-  some_true,
-  class_marks,
-  class_token,
-  class_by,
-  bracket,
-  pre_of,
-  suf_of,
-  by_kind,
-  token_from,
-  token_at,
-}
+use Rattle.read_tokens.specs.Chars.{char, Range, range, single, listed, Body, shut, broken, also, by_width, shut_by, body}
+use Rattle.read_tokens.specs.Tokens.{skip, name_byte, name_span, lake_by, angle, low_of, literal_by, some_true, class_marks, class_token, class_by, bracket, by_kind, token_from, token_at}
 use Rattle.read_tokens.specs.laws.Tests.{by-test, by_cond}
 use Rattle.read_tokens.specs.laws.Passing.{from, passed}
 use Rattle.read_tokens.specs.steps.Code.{literal_from, class_is, class_at, Class}

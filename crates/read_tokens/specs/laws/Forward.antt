@@ -11,7 +11,7 @@ use Rattle.read_tokens.specs.declared.Mode.{Mode}
 use Rattle.read_tokens.specs.declared.Mode.TheVariants.{Lake, Plain}
 use Rattle.read_tokens.specs.Token.{name, lake, any, Tok, symbol, leaf, pre, suf, arrow, slash, opens, closes, bad, Token, Lexeme}
 use Rattle.read_tokens.specs.Chars.{Range, Item, single, listed, Body, shut, broken, also, by_width, shut_by, body}
-use Rattle.read_tokens.specs.Tokens.{tok, blank_by, skip, name_byte, name_span, lake_by, angle, literal_by, within, some_true, class_marks, class_token, class_by, bracket, pre_of, suf_of, by_kind, token_from, token_at, lexeme, by_end, lexemes_from}
+use Rattle.read_tokens.specs.Tokens.{tok, blank_by, skip, name_byte, name_span, lake_by, angle, literal_by, some_true, class_marks, class_token, class_by, bracket, pre_of, suf_of, by_kind, token_from, token_at, lexeme, by_end, lexemes_from}
 use Rattle.read_tokens.specs.laws.Tests.{by-test, by_cond}
 
 -- ── where a literal's or a class's body ends ──

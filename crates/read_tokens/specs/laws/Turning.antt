@@ -1,6 +1,6 @@
 -- Marks by place: turned one after the other, all are turned; looked at one after the other, one is set or none. Assumes nothing.
 use Rattle.std.specs.Prelude.{ℕ, zero, suc, ◌+◌, ◌≤◌, ◌<◌, ◌≡◌, refl, Bool, true, false, not, ◌||◌, List, [], ◌∷◌, ◌++◌, ◌⊎◌, length, get_or, set}
-use Rattle.std.proofs.Common.{sym, ap, ◌∙◌, append-nil, append_assoc, inl, inr, arith, eq-or-lt_of_le, length-append}
+use Rattle.std.proofs.Common.{sym, ap, ◌∙◌, append_assoc, inl, inr, arith, eq-or-lt_of_le, length-append}
 use Rattle.std.proofs.Math.Seq.{get_or-append_seam, set-append_seam}
 use Rattle.read_tokens.specs.laws.Marks.{turn_all}
 use Rattle.read_tokens.specs.Tokens.{some_true}

@@ -1,5 +1,5 @@
 -- A character lies within the text. Assumes nothing.
-use Rattle.std.specs.Prelude.{ℕ, zero, suc, ◌+◌, ◌≤◌, ◌≡◌, refl, Bool, true, false, cond, ◌&&◌, List, [], ◌∷◌, eqb, leb, length, drop, get_or}
+use Rattle.std.specs.Prelude.{ℕ, ◌+◌, ◌≤◌, ◌≡◌, refl, Bool, true, false, cond, ◌&&◌, List, [], ◌∷◌, eqb, leb, length, drop, get_or}
 use Rattle.std.proofs.Common.{arith, length-drop}
 use Rattle.read_tokens.specs.Bounds.{first_octal}
 use Rattle.read_tokens.specs.Chars.{Char, octal, octals, letters, four, char}

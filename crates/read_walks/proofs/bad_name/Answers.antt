@@ -10,7 +10,6 @@ use Rattle.read_syntax.specs.Reading.{before}
 use Rattle.read_walks.specs.steps.Names.{bytes_at, symbol_by, reserved_by, walk_to}
 use Rattle.read_tokens.specs.laws.Here.{here}
 use Rattle.read_walks.specs.laws.Offences.{not-symbol, inside, reserved-here, used-here, left_here}
-use borrow.Author.Rules.{rules}
 use Rattle.read_walks.proofs.bad_name.Goals as goal
 
 pub returns-then-kind-gt2 : goal.returns-then-kind-gt2

@@ -1,17 +1,15 @@
-use Prim.Native.Nat.{ℕ, ◌-◌, ◌≤◌}
-use mathlib.Core.Path.{◌≡◌, refl, sym, ap, ◌∙◌}
+use Prim.Native.Nat.{ℕ, ◌-◌}
+use mathlib.Core.Path.{refl, sym, ap, ◌∙◌}
 use mathlib.Core.Bool.{Bool, ◌||◌}
 use native.Mathlib.Omega.{arith}
-use lib.ListN.{length}
 use Rattle.read_tokens.specs.declared.Token.{Token}
 use Rattle.read_tokens.specs.Tokens.{token_at, lexemes}
 use Rattle.read_tokens.specs.laws.Forward.{lexemes_at}
 use Rattle.grammar.specs.Same.{same_symbol, is_in}
-use Rattle.read_syntax.specs.Reading.{before, lefts_in}
+use Rattle.read_syntax.specs.Reading.{lefts_in}
 use Rattle.read_walks.specs.steps.Names.{bytes_at, symbol_by}
 use Rattle.read_tokens.specs.laws.Here.{is-end, is-token, here}
 use Rattle.read_walks.specs.laws.Hits.{all_none, all-next}
-use borrow.Author.Rules.{rules}
 use Rattle.read_walks.proofs.has_rule.Goals as goal
 
 pub loop-mode-init : goal.loop-mode-init

@@ -5,7 +5,6 @@ use borrow.Author.Tests.{not-true, not-false}
 use Rattle.grammar.specs.Same.{same_bytes}
 use Rattle.read_walks.specs.steps.Names.{bytes_at}
 use Rattle.read_walks.specs.laws.Hits.{other-kind, other-size, not_left, by_bytes, start-inside, name-inside}
-use borrow.Author.Rules.{rules}
 use Rattle.read_walks.proofs.hit.Goals as goal
 
 pub returns-then-k-kind : goal.returns-then-k-kind

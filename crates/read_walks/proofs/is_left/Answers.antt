@@ -1,6 +1,5 @@
 use mathlib.Core.Path.{◌∙◌}
 use Rattle.read_walks.specs.laws.Names.{left_is}
-use borrow.Author.Rules.{rules}
 use Rattle.read_walks.proofs.is_left.Goals as goal
 
 pub returns : goal.returns

@@ -7,7 +7,6 @@ use Rattle.read_tokens.specs.Tokens.{token_at, lexemes}
 use Rattle.read_tokens.specs.laws.Forward.{lexemes_at}
 use Rattle.read_syntax.specs.Reading.{before, lefts_in, lacks}
 use Rattle.read_walks.specs.laws.Offences.{no_name, no-use, name-use, use-inside}
-use borrow.Author.Rules.{rules}
 use Rattle.read_walks.proofs.lacking.Goals as goal
 
 pub returns-then-kind-ne1 : goal.returns-then-kind-ne1

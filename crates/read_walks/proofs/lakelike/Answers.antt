@@ -6,7 +6,6 @@ use lib.ListN.{get_or}
 use lib.Dec.{eqb}
 use borrow.Author.Tests.{eq-eqb, ne_eqb, eqb-true, eqb-false}
 use Rattle.read_walks.specs.laws.Offences.{too_short, six}
-use borrow.Author.Rules.{rules}
 use Rattle.read_walks.proofs.lakelike.Goals as goal
 
 last_one : (x : ℕ) → eqb x 95 ≡ (eqb 95 x && true)

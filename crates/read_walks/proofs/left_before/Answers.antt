@@ -1,14 +1,11 @@
-use Prim.Native.Nat.{◌-◌, ◌≤◌}
+use Prim.Native.Nat.{◌-◌}
 use mathlib.Core.Path.{sym, ap, ◌∙◌, subst}
 use native.Mathlib.Omega.{arith}
-use lib.ListN.{length}
 use Rattle.read_tokens.specs.declared.Token.{Token}
 use Rattle.read_tokens.specs.Tokens.{token_at}
-use Rattle.read_syntax.specs.Reading.{before}
 use Rattle.read_walks.specs.steps.Names.{bytes_at, symbol_by}
 use Rattle.read_tokens.specs.laws.Here.{is-end, is-token, here}
 use Rattle.read_walks.specs.laws.Hits.{Looking, look-start, look-end, look_none, look_hit, look-on}
-use borrow.Author.Rules.{rules}
 use Rattle.read_walks.proofs.left_before.Goals as goal
 
 pub loop-i-init : goal.loop-i-init

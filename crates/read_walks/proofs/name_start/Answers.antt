@@ -1,5 +1,4 @@
 use borrow.Author.Tests.{eq-eqb, ne_eqb}
-use borrow.Author.Rules.{rules}
 use Rattle.read_walks.proofs.name_start.Goals as goal
 
 pub returns-then-kind-eq2 : goal.returns-then-kind-eq2

@@ -1,7 +1,6 @@
 use mathlib.Core.Path.{sym, ap, ◌∙◌}
 use Rattle.read_tokens.specs.declared.Mode.{Mode}
 use Rattle.read_walks.specs.steps.Names.{bytes_at, reserved_by}
-use borrow.Author.Rules.{rules}
 use Rattle.read_walks.proofs.reserved_name.Goals as goal
 
 pub lakelike-requires : goal.lakelike-requires

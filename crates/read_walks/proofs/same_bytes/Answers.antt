@@ -1,10 +1,7 @@
-use Prim.Native.Nat.{◌+◌, ◌-◌, ◌≤◌}
-use mathlib.Core.Path.{◌≡◌, sym, ◌∙◌}
+use Prim.Native.Nat.{◌-◌}
+use mathlib.Core.Path.{sym, ◌∙◌}
 use native.Mathlib.Omega.{arith}
-use Rattle.grammar.specs.Same.{same_bytes}
-use Rattle.read_walks.specs.steps.Names.{bytes_at}
 use Rattle.read_walks.specs.laws.Names.{same_start, same_stop, same-on, same_end}
-use borrow.Author.Rules.{rules}
 use Rattle.read_walks.proofs.same_bytes.Goals as goal
 
 pub loop-i-init : goal.loop-i-init

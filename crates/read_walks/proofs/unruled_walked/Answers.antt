@@ -1,7 +1,6 @@
-use Prim.Native.Nat.{ℕ, ◌-◌, ◌≤◌}
-use mathlib.Core.Path.{◌≡◌, refl, sym, ap, ◌∙◌}
+use Prim.Native.Nat.{ℕ, ◌-◌}
+use mathlib.Core.Path.{refl, sym, ap, ◌∙◌}
 use native.Mathlib.Omega.{arith}
-use lib.ListN.{length}
 use Rattle.read_tokens.specs.declared.Token.{Token}
 use Rattle.read_tokens.specs.Tokens.{token_at, lexemes}
 use Rattle.read_tokens.specs.laws.Forward.{lexemes_at}
@@ -9,7 +8,6 @@ use Rattle.read_syntax.specs.Reading.{lefts_in, unruled}
 use Rattle.read_walks.specs.steps.Names.{placed}
 use Rattle.read_tokens.specs.laws.Here.{is-end, is-token, here}
 use Rattle.read_walks.specs.laws.Offences.{none-lacks, this-lacks, later-lacks}
-use borrow.Author.Rules.{rules}
 use Rattle.read_walks.proofs.unruled_walked.Goals as goal
 
 pub loop-mode-init : goal.loop-mode-init

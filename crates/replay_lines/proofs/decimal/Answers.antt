@@ -1,11 +1,8 @@
-use Prim.Native.Nat.{ℕ, ◌+◌, ◌-◌, ◌*◌, ◌/◌, ◌%◌, ◌≤◌, ◌<◌}
-use mathlib.Core.Path.{◌≡◌, refl, sym, ap, ◌∙◌}
-use mathlib.Core.Bool.{Bool, true, false}
+use Prim.Native.Nat.{◌-◌}
+use mathlib.Core.Path.{refl, ◌∙◌}
+use mathlib.Core.Bool.{true, false}
 use native.Mathlib.Omega.{arith}
-use lib.ListN.{length, get_or, drop}
-use Rattle.replay_lines.specs.steps.Fields.{field, number_from}
 use Rattle.replay_lines.specs.laws.Fields.{number_more, decimal-past, decimal-none, decimal-is}
-use borrow.Author.Rules.{rules}
 use Rattle.replay_lines.proofs.decimal.Goals as goal
 
 pub returns-then-s-to : goal.returns-then-s-to

@@ -1,11 +1,6 @@
-use Prim.Native.Nat.{ℕ, ◌+◌, ◌-◌, ◌*◌, ◌/◌, ◌%◌, ◌≤◌, ◌<◌}
-use mathlib.Core.Path.{◌≡◌, refl, sym, ap, ◌∙◌}
-use mathlib.Core.Bool.{Bool, true, false}
-use native.Mathlib.Omega.{arith}
-use lib.ListN.{length, get_or, drop}
+use Prim.Native.Nat.{◌-◌, ◌≤◌}
+use mathlib.Core.Path.{◌≡◌}
 use Rattle.replay_lines.specs.steps.Fields.{field, number_from}
-use Rattle.replay_lines.specs.laws.Fields.{number_more, decimal-past, decimal-none, decimal-is}
-use borrow.Author.Rules.{rules}
 use Rattle.replay_lines.proofs.decimal.Given as goal
 
 abbrev pub invariant-loop-i : goal.invariant-loop-i

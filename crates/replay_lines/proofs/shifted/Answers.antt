@@ -1,6 +1,5 @@
 use native.Mathlib.Omega.{arith}
 use Rattle.replay_lines.specs.laws.Fields.{shift-low, shift-high, shift-large, shift-on}
-use borrow.Author.Rules.{rules}
 use Rattle.replay_lines.proofs.shifted.Goals as goal
 
 pub returns-then-b-lt48 : goal.returns-then-b-lt48

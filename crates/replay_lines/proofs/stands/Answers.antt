@@ -1,10 +1,7 @@
-use Prim.Native.Nat.{ℕ, ◌+◌, ◌-◌, ◌≤◌, ◌<◌}
-use mathlib.Core.Path.{◌≡◌, refl, sym, ap, ◌∙◌}
+use Prim.Native.Nat.{◌-◌}
+use mathlib.Core.Path.{sym, ◌∙◌}
 use native.Mathlib.Omega.{arith}
-use lib.ListN.{length, get_or, drop}
-use Rattle.replay_lines.specs.steps.Fields.{begins}
 use Rattle.replay_lines.specs.laws.Fields.{word_more, word-differs, word-done, word-short, word-start}
-use borrow.Author.Rules.{rules}
 use Rattle.replay_lines.proofs.stands.Goals as goal
 
 pub returns-then-word-eq0 : goal.returns-then-word-eq0

@@ -1,10 +1,7 @@
-use Prim.Native.Nat.{ℕ, ◌+◌, ◌-◌, ◌≤◌, ◌<◌}
-use mathlib.Core.Path.{◌≡◌, refl, sym, ap, ◌∙◌}
-use native.Mathlib.Omega.{arith}
-use lib.ListN.{length, get_or, drop}
+use Prim.Native.Nat.{◌+◌, ◌-◌, ◌≤◌}
+use mathlib.Core.Path.{◌≡◌}
+use lib.ListN.{length, drop}
 use Rattle.replay_lines.specs.steps.Fields.{begins}
-use Rattle.replay_lines.specs.laws.Fields.{word_more, word-differs, word-done, word-short, word-start}
-use borrow.Author.Rules.{rules}
 use Rattle.replay_lines.proofs.stands.Given as goal
 
 abbrev pub invariant-loop-i : goal.invariant-loop-i

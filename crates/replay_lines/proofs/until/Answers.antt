@@ -1,11 +1,7 @@
-use Prim.Native.Nat.{ℕ, ◌+◌, ◌-◌, ◌*◌, ◌/◌, ◌%◌, ◌≤◌, ◌<◌}
-use mathlib.Core.Path.{◌≡◌, refl, sym, ap, ◌∙◌}
-use mathlib.Core.Bool.{Bool, true, false}
+use Prim.Native.Nat.{◌-◌}
+use mathlib.Core.Bool.{true, false}
 use native.Mathlib.Omega.{arith}
-use lib.ListN.{length, get_or, drop}
-use Rattle.replay_lines.specs.steps.Fields.{to_space}
 use Rattle.replay_lines.specs.laws.Fields.{at-space, no-space, no_more}
-use borrow.Author.Rules.{rules}
 use Rattle.replay_lines.proofs.until.Goals as goal
 
 pub returns-then-s-i-eq32 : goal.returns-then-s-i-eq32

@@ -1,11 +1,7 @@
-use Prim.Native.Nat.{ℕ, ◌+◌, ◌-◌, ◌*◌, ◌/◌, ◌%◌, ◌≤◌, ◌<◌}
-use mathlib.Core.Path.{◌≡◌, refl, sym, ap, ◌∙◌}
-use mathlib.Core.Bool.{Bool, true, false}
-use native.Mathlib.Omega.{arith}
-use lib.ListN.{length, get_or, drop}
+use Prim.Native.Nat.{◌+◌, ◌-◌, ◌≤◌}
+use mathlib.Core.Path.{◌≡◌}
+use lib.ListN.{length, drop}
 use Rattle.replay_lines.specs.steps.Fields.{to_space}
-use Rattle.replay_lines.specs.laws.Fields.{at-space, no-space, no_more}
-use borrow.Author.Rules.{rules}
 use Rattle.replay_lines.proofs.until.Given as goal
 
 abbrev pub invariant-loop-i : goal.invariant-loop-i

@@ -1,8 +1,7 @@
 -- Refusals 4 and 5 by the symbols of the tokens: nothing is refused just where no name is reserved, no left side stands twice, and every nonterminal has a rule. Assumes nothing.
 use Rattle.std.specs.Prelude.{ℕ, ◌≡◌, refl, Bool, not, ◌||◌}
-use Rattle.std.proofs.Common.{ap, ap₂, ◌∙◌, true≢false, arith}
+use Rattle.std.proofs.Common.{ap, ap₂, ◌∙◌}
 use Rattle.std.proofs.Math.Bool.{true, false}
-use Rattle.std.proofs.lemmas.Bool.{false≢true}
 use mathlib.Core.List.{List, [], ◌∷◌}
 use Rattle.std.proofs.Math.Option.{Option, none, some}
 use Rattle.base_facts.specs.laws.Options.{some-none}

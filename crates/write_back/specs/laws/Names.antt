@@ -1,7 +1,7 @@
 -- The names of an accepted grammar are distinct, and stay so as plain names: no name begins with `lake__` where lakes are. Assumes nothing.
 use Rattle.std.specs.Prelude.{ℕ, zero, suc, ◌<◌, ◌≡◌, Bool, true, false, ◌||◌, length, get_or}
 use Rattle.std.proofs.Math.Path.{refl}
-use Rattle.std.proofs.Common.{sym, ap, ap₂, ◌∙◌, true≢false, arith}
+use Rattle.std.proofs.Common.{sym, ap, ap₂, ◌∙◌, arith}
 use mathlib.Core.List.{List, [], ◌∷◌, ◌++◌, map}
 use Rattle.base_facts.specs.laws.Bools.{or-fails, or-holds}
 use Rattle.read_tokens.specs.declared.Mode.{Mode}

@@ -1,8 +1,7 @@
-use Prim.Native.Nat.{ℕ, ◌+◌, ◌-◌, ◌*◌, ◌≤◌, ◌<◌}
-use mathlib.Core.Path.{◌≡◌, refl, sym, ap, ◌∙◌, subst}
+use Prim.Native.Nat.{◌-◌}
+use mathlib.Core.Path.{sym, ap, ◌∙◌}
 use native.Mathlib.Omega.{arith}
 use Rattle.write_exp.specs.laws.Trees.{level_by, kind-level, zero-level, tight, suffixes, prefixes}
-use borrow.Author.Rules.{rules}
 use Rattle.write_exp.proofs.level_of.Goals as goal
 
 pub returns-then-x-eq0 : goal.returns-then-x-eq0

@@ -1,4 +1,3 @@
-use borrow.Author.Rules.{rules}
 use Rattle.grammar_table.proofs.records.store_body.Goals as goal
 
 pub returns : goal.returns

@@ -3,7 +3,6 @@ use mathlib.Core.Path.{ap, ◌∙◌}
 use mathlib.Core.List.{List}
 use lib.ListN.{set}
 use Rattle.grammar_table.specs.Table.{expressions_at, expression_words}
-use borrow.Author.Rules.{rules}
 use Rattle.grammar_table.proofs.records.store_expression.Goals as goal
 
 pub returns : goal.returns

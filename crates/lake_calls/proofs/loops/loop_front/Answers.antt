@@ -1,10 +1,7 @@
 use Prim.Native.Nat.{ℕ}
-use mathlib.Core.Path.{◌≡◌, sym, ◌∙◌, subst}
-use native.Mathlib.Omega.{arith}
-use lib.ListN.{length, take}
+use mathlib.Core.Path.{sym, ◌∙◌, subst}
 use lib.Seq.{length-take-le}
 use Rattle.lake_calls.specs.steps.Marks.{Looped}
-use borrow.Author.Rules.{rules}
 use Rattle.lake_calls.proofs.loops.loop_front.Goals as goal
 
 pub slice_bounds-loop_in-end-2 : goal.slice_bounds-loop_in-end-2

@@ -1,6 +1,5 @@
 use lib.ListN.{length}
 use Rattle.lake_calls.specs.laws.LoopsLoops.{looped}
-use borrow.Author.Rules.{rules}
 use Rattle.lake_calls.proofs.loops.loop_in.Goals as goal
 
 pub returns : goal.returns

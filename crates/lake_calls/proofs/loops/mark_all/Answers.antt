@@ -1,12 +1,10 @@
-use Prim.Native.Nat.{ℕ, ◌+◌, ◌-◌, ◌≤◌, ◌<◌}
+use Prim.Native.Nat.{ℕ, ◌-◌}
 use mathlib.Core.Path.{◌≡◌, refl, sym, ap, ◌∙◌, subst}
-use mathlib.Core.Bool.{Bool, true, false}
-use mathlib.Core.List.{List}
+use mathlib.Core.Bool.{Bool, false}
 use native.Mathlib.Omega.{arith}
-use lib.ListN.{length, get_or, set, replicate, length-set, length-replicate}
+use lib.ListN.{length, replicate, length-replicate}
 use Rattle.lake_calls.specs.steps.Marks.{After}
 use Rattle.lake_calls.specs.laws.Marks.{round-more}
-use borrow.Author.Rules.{rules}
 use Rattle.lake_calls.proofs.loops.mark_all.Goals as goal
 
 pub loop-k-init : goal.loop-k-init

@@ -1,12 +1,7 @@
-use Prim.Native.Nat.{ℕ, ◌+◌, ◌-◌, ◌≤◌, ◌<◌}
-use mathlib.Core.Path.{◌≡◌, refl, sym, ap, ◌∙◌, subst}
-use mathlib.Core.Bool.{Bool, true, false}
-use mathlib.Core.List.{List}
-use native.Mathlib.Omega.{arith}
-use lib.ListN.{length, get_or, set, replicate, length-set, length-replicate}
+use Prim.Native.Nat.{◌-◌, ◌≤◌}
+use mathlib.Core.Path.{◌≡◌}
+use lib.ListN.{length}
 use Rattle.lake_calls.specs.steps.Marks.{After}
-use Rattle.lake_calls.specs.laws.Marks.{round-more}
-use borrow.Author.Rules.{rules}
 use Rattle.lake_calls.proofs.loops.mark_all.Given as goal
 
 abbrev pub invariant-loop-k : goal.invariant-loop-k

@@ -1,10 +1,8 @@
-use Prim.Native.Nat.{ℕ, ◌+◌, ◌-◌, ◌≤◌, ◌<◌}
-use mathlib.Core.Path.{◌≡◌, refl, sym, ap, ◌∙◌, subst}
-use mathlib.Core.Bool.{Bool, true, false}
-use mathlib.Core.List.{List}
+use Prim.Native.Nat.{ℕ, ◌-◌}
+use mathlib.Core.Path.{refl, subst}
+use mathlib.Core.Bool.{false}
 use native.Mathlib.Omega.{arith}
-use lib.ListN.{length, get_or, set, replicate, length-set, length-replicate}
-use Rattle.read_tokens.specs.Token.{Leaf}
+use lib.ListN.{length, length-set}
 use Rattle.grammar_table.specs.Table.{symbol_word}
 use Rattle.grammar.specs.Empty.{has_empty}
 use Rattle.lake_rules.specs.Beginning.{marked}
@@ -12,8 +10,6 @@ use Rattle.grammar_table.specs.Trees.{tree_of}
 use Rattle.base_rounds.specs.laws.Fill.{fill_more}
 use Rattle.grammar_table.specs.laws.Places.{is-up_to}
 use Rattle.lake_calls.specs.steps.Firsts.{Firsts}
-use Rattle.lake_calls.specs.steps.Marks.{SoundIn}
-use borrow.Author.Rules.{rules}
 use Rattle.lake_calls.proofs.loops.mark_round.Goals as goal
 
 pub loop-i-init : goal.loop-i-init

@@ -1,19 +1,13 @@
-use Prim.Native.Nat.{ℕ, ◌+◌, ◌-◌, ◌≤◌, ◌<◌}
-use mathlib.Core.Path.{◌≡◌, refl, sym, ap, ◌∙◌, subst}
-use mathlib.Core.Bool.{Bool, true, false}
-use mathlib.Core.List.{List}
-use native.Mathlib.Omega.{arith}
-use lib.ListN.{length, get_or, set, replicate, length-set, length-replicate}
+use Prim.Native.Nat.{ℕ, ◌-◌, ◌≤◌, ◌<◌}
+use mathlib.Core.Path.{◌≡◌}
+use mathlib.Core.Bool.{false}
+use lib.ListN.{length, get_or}
 use Rattle.read_tokens.specs.Token.{Leaf}
 use Rattle.grammar_table.specs.Table.{symbol_word}
 use Rattle.grammar.specs.Empty.{has_empty}
 use Rattle.lake_rules.specs.Beginning.{marked}
 use Rattle.grammar_table.specs.Trees.{tree_of}
-use Rattle.base_rounds.specs.laws.Fill.{fill_more}
-use Rattle.grammar_table.specs.laws.Places.{is-up_to}
-use Rattle.lake_calls.specs.steps.Firsts.{Firsts}
 use Rattle.lake_calls.specs.steps.Marks.{SoundIn}
-use borrow.Author.Rules.{rules}
 use Rattle.lake_calls.proofs.loops.mark_round.Given as goal
 
 abbrev pub invariant-loop-i : goal.invariant-loop-i

@@ -1,5 +1,4 @@
 use Rattle.lake_calls.specs.laws.LoopsLoops.{looped-all}
-use borrow.Author.Rules.{rules}
 use Rattle.lake_calls.proofs.loops.table_loop.Goals as goal
 
 pub returns : goal.returns

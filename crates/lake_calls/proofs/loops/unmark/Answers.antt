@@ -1,12 +1,10 @@
-use Prim.Native.Nat.{ℕ, ◌+◌, ◌-◌, ◌≤◌, ◌<◌}
-use mathlib.Core.Path.{◌≡◌, refl, sym, ap, ◌∙◌, subst}
-use mathlib.Core.Bool.{Bool, true, false}
-use mathlib.Core.List.{List}
+use Prim.Native.Nat.{◌-◌}
+use mathlib.Core.Path.{refl}
+use mathlib.Core.Bool.{false}
 use native.Mathlib.Omega.{arith}
-use lib.ListN.{length, get_or, set, replicate, length-set, length-replicate}
+use lib.ListN.{length, length-set}
 use Rattle.base_rounds.specs.laws.Fill.{fill_more}
 use Rattle.lake_sets.specs.laws.Fills.{is-replicate}
-use borrow.Author.Rules.{rules}
 use Rattle.lake_calls.proofs.loops.unmark.Goals as goal
 
 pub loop-r-init : goal.loop-r-init

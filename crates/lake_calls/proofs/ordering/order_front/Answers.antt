@@ -1,11 +1,7 @@
 use Rattle.lake_calls.specs.laws.Ordering.{of-count}
-use Prim.Native.Nat.{ℕ}
-use mathlib.Core.Path.{◌≡◌, sym, ◌∙◌, subst}
+use mathlib.Core.Path.{sym, ◌∙◌}
 use native.Mathlib.Omega.{arith}
-use lib.ListN.{length, take}
 use lib.Seq.{length-take-le}
-use Rattle.lake_calls.specs.steps.Ordering.{OrderedIn}
-use borrow.Author.Rules.{rules}
 use Rattle.lake_calls.proofs.ordering.order_front.Goals as goal
 
 pub slice_bounds-order_in-end-2 : goal.slice_bounds-order_in-end-2

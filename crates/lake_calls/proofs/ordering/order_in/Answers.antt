@@ -1,8 +1,6 @@
-use mathlib.Core.Path.{◌≡◌, sym, ◌∙◌}
 use native.Mathlib.Omega.{arith}
 use lib.ListN.{length}
 use Rattle.lake_calls.specs.laws.Ordering.{order-made}
-use borrow.Author.Rules.{rules}
 use Rattle.lake_calls.proofs.ordering.order_in.Goals as goal
 
 pub returns : goal.returns

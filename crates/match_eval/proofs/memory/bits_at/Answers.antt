@@ -1,9 +1,8 @@
-use mathlib.Core.Path.{◌≡◌, ap, ◌∙◌}
+use mathlib.Core.Path.{ap, ◌∙◌}
 use Prim.Native.Nat.{ℕ, ◌+◌, ◌*◌, ◌/◌, ◌^◌}
 use lib.Bits.{and_mask}
 use Rattle.base_words.specs.Set.{bit}
 use Rattle.match_eval.specs.laws.Said.{two-bits}
-use borrow.Author.Rules.{rules}
 use Rattle.match_eval.proofs.memory.bits_at.Goals as goal
 
 pub returns : goal.returns

@@ -1,6 +1,5 @@
 use native.Mathlib.Omega.{arith}
 use Prim.Native.Nat.{◌+◌}
-use borrow.Author.Rules.{rules}
 use Rattle.match_eval.proofs.memory.known.Goals as goal
 
 pub returns-then-k-eq0 : goal.returns-then-k-eq0

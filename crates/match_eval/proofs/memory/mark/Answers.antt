@@ -8,7 +8,6 @@ use lib.Dec.{lit<}
 use lib.Seq.{set_out, set-get_or}
 use lib.Pow.{shl_exact}
 use lib.Bits.{bit_or, or_zero_r}
-use borrow.Author.Rules.{rules}
 use Rattle.match_eval.proofs.memory.mark.Goals as goal
 
 -- `1 << k` does not wrap below 32

@@ -1,7 +1,6 @@
 use native.Mathlib.Omega.{arith}
 use mathlib.Core.Path.{◌∙◌}
 use Rattle.match_eval.specs.laws.Said.{said-is, said-end, said-past}
-use borrow.Author.Rules.{rules}
 use Rattle.match_eval.proofs.memory.said.Goals as goal
 
 pub returns-then-b-ge-BYTES : goal.returns-then-b-ge-BYTES

@@ -1,7 +1,5 @@
-use native.Mathlib.Omega.{arith}
 use mathlib.Core.Path.{sym, ◌∙◌}
 use Rattle.match_eval.specs.laws.Said.{spoken, spoken-none}
-use borrow.Author.Rules.{rules}
 use Rattle.match_eval.proofs.memory.say.Goals as goal
 
 pub returns-then-w-eq0 : goal.returns-then-w-eq0

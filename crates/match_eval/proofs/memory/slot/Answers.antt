@@ -1,8 +1,7 @@
 use native.Mathlib.Omega.{arith}
 use native.Mathlib.Nat.{mul-le-mul}
-use Prim.Native.Nat.{◌+◌, ◌-◌, ◌*◌, ◌≤◌, ◌<◌}
-use lib.Bits.{bit_and, and_le_r}
-use borrow.Author.Rules.{rules}
+use Prim.Native.Nat.{◌-◌, ◌*◌, ◌≤◌}
+use lib.Bits.{and_le_r}
 use Rattle.match_eval.proofs.memory.slot.Goals as goal
 
 pub overflow_sub-result : goal.overflow_sub-result

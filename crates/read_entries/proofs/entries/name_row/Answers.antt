@@ -1,13 +1,10 @@
-use Prim.Native.Nat.{ℕ, suc, ◌+◌, ◌-◌, ◌*◌, ◌≤◌, ◌<◌}
-use mathlib.Core.Path.{◌≡◌, refl, sym, ap, ◌∙◌}
-use mathlib.Core.List.{List, map}
-use native.Mathlib.Omega.{arith}
-use lib.ListN.{length, length-set, replicate, set}
-use lib.Seq.{sets}
+use Prim.Native.Nat.{ℕ, ◌+◌, ◌-◌}
+use mathlib.Core.Path.{sym, ap, ◌∙◌}
+use mathlib.Core.List.{List}
+use lib.ListN.{length-set, replicate, set}
 use Rattle.grammar_table.specs.Table.{symbol_words, words_from}
 use Rattle.grammar_table.specs.laws.Words.{words-none}
 use Rattle.read_entries.proofs.Steps.{store-whole, store-none, words-whole, name-on, grown, name-row-is}
-use borrow.Author.Rules.{rules}
 use Rattle.read_entries.proofs.entries.name_row.Goals as goal
 
 pub loop-i-init : goal.loop-i-init

@@ -1,13 +1,8 @@
-use Prim.Native.Nat.{ℕ, suc, ◌+◌, ◌-◌, ◌*◌, ◌≤◌, ◌<◌}
-use mathlib.Core.Path.{◌≡◌, refl, sym, ap, ◌∙◌}
-use mathlib.Core.List.{List, map}
-use native.Mathlib.Omega.{arith}
-use lib.ListN.{length, length-set, replicate, set}
+use Prim.Native.Nat.{◌+◌, ◌-◌}
+use mathlib.Core.Path.{◌≡◌}
+use lib.ListN.{length}
 use lib.Seq.{sets}
 use Rattle.grammar_table.specs.Table.{symbol_words, words_from}
-use Rattle.grammar_table.specs.laws.Words.{words-none}
-use Rattle.read_entries.proofs.Steps.{store-whole, store-none, words-whole, name-on, grown, name-row-is}
-use borrow.Author.Rules.{rules}
 use Rattle.read_entries.proofs.entries.name_row.Given as goal
 
 abbrev pub invariant-loop-i : goal.invariant-loop-i

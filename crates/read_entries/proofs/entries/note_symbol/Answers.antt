@@ -1,10 +1,8 @@
-use Prim.Native.Nat.{ℕ, suc, ◌+◌, ◌-◌, ◌*◌, ◌≤◌, ◌<◌}
-use mathlib.Core.Path.{◌≡◌, refl, sym, ap, ◌∙◌, subst}
-use mathlib.Core.List.{List, map}
+use Prim.Native.Nat.{ℕ, ◌-◌}
+use mathlib.Core.Path.{subst}
+use mathlib.Core.List.{List}
 use Rattle.grammar_table.specs.Table.{symbols_at, symbol_words, symbol_key}
 use Rattle.grammar_table.specs.steps.Rows.{Noted}
-use native.Mathlib.Omega.{arith}
-use borrow.Author.Rules.{rules}
 use Rattle.read_entries.proofs.entries.note_symbol.Goals as goal
 
 pub returns : goal.returns

@@ -1,13 +1,12 @@
-use Prim.Native.Nat.{ℕ, suc, ◌+◌, ◌-◌, ◌*◌, ◌≤◌, ◌<◌}
-use mathlib.Core.Path.{◌≡◌, refl, sym, ap, ◌∙◌}
-use mathlib.Core.List.{List, map}
+use Prim.Native.Nat.{ℕ, ◌-◌}
+use mathlib.Core.Path.{ap, ◌∙◌}
+use mathlib.Core.List.{List}
 use Rattle.grammar_table.specs.Table.{symbols_at, symbol_words, symbol_key}
 use Rattle.grammar_table.specs.steps.Rows.{cap, seek}
 use Rattle.grammar_table.specs.laws.Caps.{cap-le}
 use Rattle.grammar_table.specs.laws.Seeks.{seek-within}
 use Rattle.read_entries.specs.steps.Entries.{symbol_at}
 use native.Mathlib.Omega.{arith}
-use borrow.Author.Rules.{rules}
 use Rattle.read_entries.proofs.entries.symbol_number.Goals as goal
 
 pub find-requires : goal.find-requires

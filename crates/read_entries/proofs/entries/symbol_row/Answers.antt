@@ -1,10 +1,7 @@
-use Prim.Native.Nat.{ℕ, suc, ◌+◌, ◌-◌, ◌*◌, ◌≤◌, ◌<◌}
-use mathlib.Core.Path.{◌≡◌, refl, sym, ap, ◌∙◌}
-use mathlib.Core.List.{List, map}
+use Prim.Native.Nat.{ℕ, ◌+◌, ◌-◌}
+use mathlib.Core.Path.{ap, ◌∙◌}
 use Rattle.grammar_table.specs.Table.{words_from}
 use Rattle.read_entries.specs.steps.Entries.{symbol_row}
-use native.Mathlib.Omega.{arith}
-use borrow.Author.Rules.{rules}
 use Rattle.read_entries.proofs.entries.symbol_row.Goals as goal
 
 pub returns : goal.returns

@@ -1,11 +1,8 @@
-use Prim.Native.Nat.{ℕ, ◌+◌, ◌-◌, ◌≤◌}
+use Prim.Native.Nat.{ℕ, ◌-◌}
 use mathlib.Core.Path.{◌≡◌, sym, ap, ◌∙◌}
 use native.Mathlib.Omega.{arith}
 use Rattle.read_entries.specs.steps.Leaves.{zeros}
-use Rattle.grammar.specs.Same.{same_bytes}
-use Rattle.grammar_table.specs.Table.{words_from}
 use Rattle.read_entries.proofs.Steps.{zeros-at, zeros-none, same_whole, same-on, same-no, same_none}
-use borrow.Author.Rules.{rules}
 use Rattle.read_entries.proofs.leaves.are_zeros.Goals as goal
 
 pub loop-i-init : goal.loop-i-init

@@ -1,11 +1,8 @@
-use Prim.Native.Nat.{ℕ, ◌+◌, ◌-◌, ◌≤◌}
-use mathlib.Core.Path.{◌≡◌, sym, ap, ◌∙◌}
-use native.Mathlib.Omega.{arith}
+use Prim.Native.Nat.{◌+◌, ◌-◌, ◌≤◌}
+use mathlib.Core.Path.{◌≡◌}
 use Rattle.read_entries.specs.steps.Leaves.{zeros}
 use Rattle.grammar.specs.Same.{same_bytes}
 use Rattle.grammar_table.specs.Table.{words_from}
-use Rattle.read_entries.proofs.Steps.{zeros-at, zeros-none, same_whole, same-on, same-no, same_none}
-use borrow.Author.Rules.{rules}
 use Rattle.read_entries.proofs.leaves.are_zeros.Given as goal
 
 abbrev pub invariant-loop-i : goal.invariant-loop-i

@@ -1,7 +1,6 @@
 use Prim.Native.Nat.{◌-◌}
 use mathlib.Core.Path.{refl, ap}
 use Rattle.read_tokens.specs.steps.Code.{Class}
-use borrow.Author.Rules.{rules}
 use Rattle.read_entries.proofs.leaves.class_marks.Goals as goal
 
 pub class_end-next-requires : goal.class_end-next-requires

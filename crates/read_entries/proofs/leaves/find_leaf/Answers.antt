@@ -1,11 +1,8 @@
-use Prim.Native.Nat.{ℕ, ◌+◌, ◌-◌, ◌*◌, ◌≤◌}
+use Prim.Native.Nat.{ℕ, ◌+◌, ◌-◌, ◌*◌}
 use mathlib.Core.Path.{◌≡◌, sym, ap, ◌∙◌}
 use native.Mathlib.Omega.{arith}
-use Rattle.grammar_table.specs.Table.{terminals_at, terminal_words, terminal_key}
-use Rattle.grammar_table.specs.steps.Rows.{seek}
+use Rattle.grammar_table.specs.Table.{terminals_at, terminal_words}
 use Rattle.grammar_table.specs.laws.Seeks.{seek-whole, seek_hit, seek-on, seek-end, left-on}
-use Rattle.read_entries.specs.steps.Leaves.{leaf_words}
-use borrow.Author.Rules.{rules}
 use Rattle.read_entries.proofs.leaves.find_leaf.Goals as goal
 
 pub loop-i-init : goal.loop-i-init

@@ -1,13 +1,7 @@
-use Prim.Native.Nat.{◌+◌, ◌-◌}
-use mathlib.Core.Path.{◌≡◌, refl, sym, ◌∙◌}
-use mathlib.Core.List.{map}
+use Prim.Native.Nat.{◌-◌}
+use mathlib.Core.Path.{refl, sym, ◌∙◌}
 use native.Mathlib.Omega.{arith}
-use lib.ListN.{drop}
-use Rattle.grammar.specs.Same.{same_bytes}
-use Rattle.grammar_table.specs.Table.{words_from}
-use Rattle.read_entries.specs.steps.Entries.{bit_of}
 use Rattle.read_entries.proofs.Steps.{marks-at, marks-none, same_whole, same-on, same-no, same_none}
-use borrow.Author.Rules.{rules}
 use Rattle.read_entries.proofs.leaves.is_class.Goals as goal
 
 pub loop-i-init : goal.loop-i-init

@@ -1,13 +1,10 @@
 use Prim.Native.Nat.{◌+◌, ◌-◌}
-use mathlib.Core.Path.{◌≡◌, refl, sym, ◌∙◌}
+use mathlib.Core.Path.{◌≡◌}
 use mathlib.Core.List.{map}
-use native.Mathlib.Omega.{arith}
 use lib.ListN.{drop}
 use Rattle.grammar.specs.Same.{same_bytes}
 use Rattle.grammar_table.specs.Table.{words_from}
 use Rattle.read_entries.specs.steps.Entries.{bit_of}
-use Rattle.read_entries.proofs.Steps.{marks-at, marks-none, same_whole, same-on, same-no, same_none}
-use borrow.Author.Rules.{rules}
 use Rattle.read_entries.proofs.leaves.is_class.Given as goal
 
 abbrev pub invariant-loop-i : goal.invariant-loop-i

@@ -4,7 +4,6 @@ use mathlib.Core.List.{List}
 use Rattle.grammar.specs.Same.{same_bytes}
 use Rattle.grammar_table.specs.Table.{words_from}
 use Rattle.read_entries.proofs.Steps.{leaf-kind, leaf-length, leaf-content, content-class, content-other}
-use borrow.Author.Rules.{rules}
 use Rattle.read_entries.proofs.leaves.is_leaf.Goals as goal
 
 pub returns-then-word-kind : goal.returns-then-word-kind

@@ -1,11 +1,9 @@
-use Prim.Native.Nat.{◌-◌, ◌≤◌}
+use Prim.Native.Nat.{◌-◌}
 use mathlib.Core.Path.{sym, ap, ◌∙◌}
 use native.Mathlib.Omega.{arith}
-use lib.ListN.{length}
 use Rattle.read_tokens.specs.declared.chars.Char.{Char}
 use Rattle.read_tokens.specs.laws.Widths.{width-inside}
-use Rattle.read_entries.proofs.Steps.{Unread, unread-whole, unread-on, unread-not, unread-none}
-use borrow.Author.Rules.{rules}
+use Rattle.read_entries.proofs.Steps.{unread-whole, unread-on, unread-not, unread-none}
 use Rattle.read_entries.proofs.leaves.is_literal.Goals as goal
 
 pub loop-left-init : goal.loop-left-init

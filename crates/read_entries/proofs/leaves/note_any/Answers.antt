@@ -7,7 +7,6 @@ use Rattle.grammar_table.specs.Table.{terminals_at, terminal_words, terminal_key
 use lib.ListN.{length-replicate}
 use Rattle.grammar_table.specs.steps.Rows.{Noted}
 use Rattle.read_entries.specs.laws.Decoded.{decoded-any}
-use borrow.Author.Rules.{rules}
 use Rattle.read_entries.proofs.leaves.note_any.Goals as goal
 
 pub note_words-requires : goal.note_words-requires

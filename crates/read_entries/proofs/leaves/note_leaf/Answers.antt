@@ -11,7 +11,6 @@ use Rattle.grammar_table.specs.laws.Caps.{cap-le}
 use Rattle.read_entries.specs.steps.Leaves.{leaf_words}
 use Rattle.read_tokens.specs.laws.Classes.{at-256}
 use Rattle.read_entries.specs.laws.Decoded.{decoded-literal, decoded-class, decoded-other}
-use borrow.Author.Rules.{rules}
 use Rattle.read_entries.proofs.leaves.note_leaf.Goals as goal
 
 pub note_words-requires : goal.note_words-requires

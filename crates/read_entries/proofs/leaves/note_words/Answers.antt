@@ -8,7 +8,6 @@ use Rattle.read_entries.specs.steps.Leaves.{leaf_words}
 use Rattle.grammar_table.specs.laws.Caps.{cap-le}
 use Rattle.grammar_table.specs.laws.Seeks.{noted-known, noted-added, noted-over}
 use Rattle.read_entries.proofs.Steps.{leaf-added}
-use borrow.Author.Rules.{rules}
 use Rattle.read_entries.proofs.leaves.note_words.Goals as goal
 
 pub find_leaf-r-requires : goal.find_leaf-r-requires

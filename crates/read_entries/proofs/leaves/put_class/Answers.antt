@@ -1,12 +1,9 @@
-use Prim.Native.Nat.{◌+◌, ◌-◌}
-use mathlib.Core.Path.{◌≡◌, refl, sym, ◌∙◌}
+use Prim.Native.Nat.{◌-◌}
+use mathlib.Core.Path.{refl, sym, ◌∙◌}
 use mathlib.Core.List.{map}
 use native.Mathlib.Omega.{arith}
-use lib.ListN.{drop}
-use lib.Seq.{sets}
 use Rattle.read_entries.specs.steps.Entries.{bit_of}
 use Rattle.read_entries.proofs.Steps.{marks-at, marks-none, store-whole, store-next, store-none, kept-length}
-use borrow.Author.Rules.{rules}
 use Rattle.read_entries.proofs.leaves.put_class.Goals as goal
 
 pub loop-i-init : goal.loop-i-init

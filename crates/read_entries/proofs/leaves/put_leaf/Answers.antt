@@ -1,7 +1,6 @@
 use Prim.Native.Nat.{◌-◌}
 use native.Mathlib.Omega.{arith}
 use Rattle.read_entries.proofs.Steps.{content-class, content-other, leaf-stored}
-use borrow.Author.Rules.{rules}
 use Rattle.read_entries.proofs.leaves.put_leaf.Goals as goal
 
 pub put-requires-2 : goal.put-requires-2

@@ -1,14 +1,12 @@
-use Prim.Native.Nat.{ℕ, ◌+◌, ◌-◌, ◌≤◌}
+use Prim.Native.Nat.{ℕ, ◌+◌, ◌-◌}
 use mathlib.Core.Path.{◌≡◌, sym, ap, ◌∙◌}
 use mathlib.Core.List.{List}
 use native.Mathlib.Omega.{arith}
-use lib.ListN.{length}
 use lib.Seq.{sets}
 use Rattle.read_tokens.specs.declared.chars.Char.{Char}
 use Rattle.read_tokens.specs.laws.Widths.{width-inside}
 use Rattle.read_entries.specs.steps.Leaves.{zeros, spelled}
 use Rattle.read_entries.proofs.Steps.{spelled_at, spelled_none, store-whole, store-next, kept-length}
-use borrow.Author.Rules.{rules}
 use Rattle.read_entries.proofs.leaves.put_literal.Goals as goal
 
 pub loop-i-init : goal.loop-i-init

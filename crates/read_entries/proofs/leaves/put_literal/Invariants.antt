@@ -1,14 +1,8 @@
-use Prim.Native.Nat.{ℕ, ◌+◌, ◌-◌, ◌≤◌}
-use mathlib.Core.Path.{◌≡◌, sym, ap, ◌∙◌}
-use mathlib.Core.List.{List}
-use native.Mathlib.Omega.{arith}
+use Prim.Native.Nat.{◌+◌, ◌-◌, ◌≤◌}
+use mathlib.Core.Path.{◌≡◌}
 use lib.ListN.{length}
 use lib.Seq.{sets}
-use Rattle.read_tokens.specs.declared.chars.Char.{Char}
-use Rattle.read_tokens.specs.laws.Widths.{width-inside}
-use Rattle.read_entries.specs.steps.Leaves.{zeros, spelled}
-use Rattle.read_entries.proofs.Steps.{spelled_at, spelled_none, store-whole, store-next, kept-length}
-use borrow.Author.Rules.{rules}
+use Rattle.read_entries.specs.steps.Leaves.{spelled}
 use Rattle.read_entries.proofs.leaves.put_literal.Given as goal
 
 abbrev pub invariant-loop-i : goal.invariant-loop-i

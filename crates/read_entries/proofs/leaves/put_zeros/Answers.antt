@@ -1,10 +1,8 @@
-use Prim.Native.Nat.{ℕ, ◌+◌, ◌-◌, ◌≤◌}
+use Prim.Native.Nat.{ℕ, ◌-◌}
 use mathlib.Core.Path.{◌≡◌, sym, ap, ◌∙◌}
 use native.Mathlib.Omega.{arith}
 use Rattle.read_entries.specs.steps.Leaves.{zeros}
-use lib.Seq.{sets}
 use Rattle.read_entries.proofs.Steps.{zeros-at, zeros-none, store-whole, store-next, store-none, kept-length}
-use borrow.Author.Rules.{rules}
 use Rattle.read_entries.proofs.leaves.put_zeros.Goals as goal
 
 pub loop-k-init : goal.loop-k-init

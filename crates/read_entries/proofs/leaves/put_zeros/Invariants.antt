@@ -1,10 +1,7 @@
-use Prim.Native.Nat.{ℕ, ◌+◌, ◌-◌, ◌≤◌}
-use mathlib.Core.Path.{◌≡◌, sym, ap, ◌∙◌}
-use native.Mathlib.Omega.{arith}
+use Prim.Native.Nat.{◌+◌, ◌-◌, ◌≤◌}
+use mathlib.Core.Path.{◌≡◌}
 use Rattle.read_entries.specs.steps.Leaves.{zeros}
 use lib.Seq.{sets}
-use Rattle.read_entries.proofs.Steps.{zeros-at, zeros-none, store-whole, store-next, store-none, kept-length}
-use borrow.Author.Rules.{rules}
 use Rattle.read_entries.proofs.leaves.put_zeros.Given as goal
 
 abbrev pub invariant-loop-k : goal.invariant-loop-k

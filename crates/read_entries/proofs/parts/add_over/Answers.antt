@@ -1,9 +1,6 @@
-use Prim.Native.Nat.{ℕ, suc, ◌+◌, ◌-◌, ◌*◌, ◌≤◌, ◌<◌}
-use mathlib.Core.Path.{◌≡◌, refl, sym, ap, ◌∙◌}
-use mathlib.Core.List.{List, map}
-use native.Mathlib.Omega.{arith}
+use Prim.Native.Nat.{ℕ, ◌-◌}
+use mathlib.Core.Path.{refl, ap, ◌∙◌}
 use Rattle.read_entries.proofs.Steps.{pushed-args}
-use borrow.Author.Rules.{rules}
 use Rattle.read_entries.proofs.parts.add_over.Goals as goal
 
 pub returns : goal.returns

@@ -1,9 +1,5 @@
-use Prim.Native.Nat.{ℕ, suc, ◌+◌, ◌-◌, ◌*◌, ◌≤◌, ◌<◌}
-use mathlib.Core.Path.{◌≡◌, refl, sym, ap, ◌∙◌}
-use mathlib.Core.List.{List, map}
-use native.Mathlib.Omega.{arith}
+use Prim.Native.Nat.{◌-◌}
 use Rattle.read_entries.proofs.Steps.{pushed-in, pushed-over}
-use borrow.Author.Rules.{rules}
 use Rattle.read_entries.proofs.parts.add_part.Goals as goal
 
 pub returns-then-c-lt1024 : goal.returns-then-c-lt1024

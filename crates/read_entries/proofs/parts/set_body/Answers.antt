@@ -1,9 +1,5 @@
-use Prim.Native.Nat.{ℕ, suc, ◌+◌, ◌-◌, ◌*◌, ◌≤◌, ◌<◌}
-use mathlib.Core.Path.{◌≡◌, refl, sym, ap, ◌∙◌}
-use mathlib.Core.List.{List, map}
-use native.Mathlib.Omega.{arith}
+use Prim.Native.Nat.{◌-◌}
 use Rattle.read_entries.proofs.Steps.{bodied-in, bodied-out}
-use borrow.Author.Rules.{rules}
 use Rattle.read_entries.proofs.parts.set_body.Goals as goal
 
 pub returns-then-k-lt64 : goal.returns-then-k-lt64

@@ -1,10 +1,7 @@
-use mathlib.Core.Path.{◌≡◌, refl, sym, ap, ◌∙◌, subst}
-use native.Mathlib.Omega.{arith}
-use borrow.Author.Tests.{not-true, not-false}
+use borrow.Author.Tests.{not-false}
 use Rattle.read_order.specs.steps.Order.{symbol_in}
 use Rattle.read_order.specs.laws.Order.{fits_word}
 use Rattle.read_names.specs.laws.Marks.{entered-lost, entered-bad, entered-fine}
-use borrow.Author.Rules.{rules}
 use Rattle.read_names.proofs.lefts.enter.Goals as goal
 
 pub same_name-requires : goal.same_name-requires

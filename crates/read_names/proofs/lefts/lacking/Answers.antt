@@ -1,11 +1,10 @@
-use Prim.Native.Nat.{ℕ, ◌+◌, ◌-◌, ◌≤◌, ◌<◌}
-use mathlib.Core.Path.{◌≡◌, refl, sym, ap, ◌∙◌, subst}
+use mathlib.Core.List.{[]}
+use Prim.Native.Nat.{◌-◌}
+use mathlib.Core.Path.{sym, ◌∙◌}
 use native.Mathlib.Omega.{arith}
 use borrow.Author.Tests.{not-true, not-false}
 use Rattle.read_walks.specs.laws.Offences.{use-inside}
 use Rattle.read_names.specs.laws.Marks.{used-other, used-left, used-lost, used-out, used-known, used-bad}
-use mathlib.Core.List.{[]}
-use borrow.Author.Rules.{rules}
 use Rattle.read_names.proofs.lefts.lacking.Goals as goal
 
 pub returns-then-kind-ne1 : goal.returns-then-kind-ne1

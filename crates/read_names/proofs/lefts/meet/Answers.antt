@@ -1,12 +1,11 @@
-use Prim.Native.Nat.{ℕ, ◌+◌, ◌-◌, ◌≤◌, ◌<◌}
-use mathlib.Core.Path.{◌≡◌, refl, sym, ap, ◌∙◌, subst}
+use Prim.Native.Nat.{◌-◌}
+use mathlib.Core.Path.{refl, sym, ◌∙◌}
 use mathlib.Core.Bool.{true≢false}
 use native.Mathlib.Omega.{arith}
 use borrow.Author.Tests.{not-true, not-false}
 use Rattle.read_tokens.specs.laws.Here.{here}
 use Rattle.read_walks.specs.laws.Offences.{inside}
 use Rattle.read_names.specs.laws.Marks.{met-other, met-lost, met-use, met-reserved, met-out, met-enter, used-other, used-left, out-unused}
-use borrow.Author.Rules.{rules}
 use Rattle.read_names.proofs.lefts.meet.Goals as goal
 
 pub returns-then-kind-gt2 : goal.returns-then-kind-gt2

@@ -1,9 +1,7 @@
-use Prim.Native.Nat.{ℕ, ◌+◌, ◌-◌, ◌≤◌, ◌<◌}
-use mathlib.Core.Path.{◌≡◌, refl, sym, ap, ◌∙◌, subst}
+use Prim.Native.Nat.{◌-◌}
 use native.Mathlib.Omega.{arith}
 use Rattle.read_tokens.specs.laws.Here.{here}
 use Rattle.read_names.specs.laws.Sweeps.{place_none, place-some}
-use borrow.Author.Rules.{rules}
 use Rattle.read_names.proofs.lefts.place_of.Goals as goal
 
 pub returns-then-t-eq0 : goal.returns-then-t-eq0

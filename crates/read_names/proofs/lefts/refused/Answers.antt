@@ -1,13 +1,11 @@
 use Prim.Native.Nat.{◌-◌}
 use mathlib.Core.Path.{sym, subst}
 use native.Mathlib.Omega.{arith}
-use lib.ListN.{length}
 use Rattle.grammar_table.specs.Table.{table_words}
 use Rattle.read_order.specs.steps.Order.{InText, Fits}
-use Rattle.read_names.specs.steps.Lefts.{second4, lacks5, Upto}
+use Rattle.read_names.specs.steps.Lefts.{second4, lacks5}
 use Rattle.read_order.specs.laws.Order.{fits-none, fits-new}
 use Rattle.read_names.specs.laws.Sweeps.{upto-none, upto_next, upto_all, swept-low, second_none, unruled-says}
-use borrow.Author.Rules.{rules}
 use Rattle.read_names.proofs.lefts.refused.Goals as goal
 
 pub loop-passed-init : goal.loop-passed-init

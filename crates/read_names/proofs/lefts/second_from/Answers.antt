@@ -1,10 +1,9 @@
 use Prim.Native.Nat.{◌-◌}
 use mathlib.Core.Path.{sym, subst}
 use native.Mathlib.Omega.{arith}
-use Rattle.read_order.specs.steps.Order.{InText, Fits}
-use Rattle.read_names.specs.steps.Lefts.{second4, Upto}
+use Rattle.read_order.specs.steps.Order.{InText}
+use Rattle.read_names.specs.steps.Lefts.{second4}
 use Rattle.read_names.specs.laws.Sweeps.{upto_next, upto_all, swept-low, second-says}
-use borrow.Author.Rules.{rules}
 use Rattle.read_names.proofs.lefts.second_from.Goals as goal
 
 pub loop-passed-init : goal.loop-passed-init

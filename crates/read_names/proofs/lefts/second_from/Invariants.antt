@@ -1,10 +1,6 @@
 use Prim.Native.Nat.{◌-◌}
-use mathlib.Core.Path.{sym, subst}
-use native.Mathlib.Omega.{arith}
 use Rattle.read_order.specs.steps.Order.{InText, Fits}
 use Rattle.read_names.specs.steps.Lefts.{second4, Upto}
-use Rattle.read_names.specs.laws.Sweeps.{upto_next, upto_all, swept-low, second-says}
-use borrow.Author.Rules.{rules}
 use Rattle.read_names.proofs.lefts.second_from.Given as goal
 
 abbrev pub invariant-loop-passed : goal.invariant-loop-passed

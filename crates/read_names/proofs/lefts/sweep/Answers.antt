@@ -1,13 +1,11 @@
-use Prim.Native.Nat.{ℕ, ◌+◌, ◌-◌, ◌≤◌, ◌<◌}
-use mathlib.Core.Path.{◌≡◌, refl, sym, ap, ◌∙◌, subst}
+use Prim.Native.Nat.{◌-◌}
+use mathlib.Core.Path.{refl}
 use mathlib.Core.Bool.{false, true≢false}
 use native.Mathlib.Omega.{arith}
-use lib.ListN.{length, get_or}
 use Rattle.read_tokens.specs.laws.Here.{here}
 use Rattle.read_order.specs.steps.Order.{within}
 use Rattle.read_names.specs.steps.Lefts.{lacks5}
-use Rattle.read_names.specs.laws.Sweeps.{Going, going, swept-end, swept-limit, Sweeping, sweeping, sweep-end, sweep-bad, sweep-next, sweep-limit, uses-next}
-use borrow.Author.Rules.{rules}
+use Rattle.read_names.specs.laws.Sweeps.{going, swept-end, swept-limit, sweeping, sweep-end, sweep-bad, sweep-next, sweep-limit, uses-next}
 use Rattle.read_names.proofs.lefts.sweep.Goals as goal
 
 pub loop-at-init : goal.loop-at-init

@@ -1,4 +1,4 @@
-use mathlib.Core.Path.{◌≡◌, refl, sym, ap, ◌∙◌, subst}
+use mathlib.Core.Path.{refl, subst}
 use native.Mathlib.Omega.{arith}
 use Prim.Native.Nat.{ℕ}
 use lib.ListN.{length}
@@ -8,7 +8,6 @@ use Rattle.read_order.specs.steps.Order.{within}
 use Rattle.read_names.specs.steps.Lefts.{Swept4, lacks5}
 use Rattle.read_names.specs.laws.Sweeps.{swept-sooner}
 use Rattle.read_names.specs.laws.Marks.{knows-none}
-use borrow.Author.Rules.{rules}
 use Rattle.read_names.proofs.lefts.unruled_in.Goals as goal
 
 pub sweep-r-requires : goal.sweep-r-requires

@@ -1,12 +1,10 @@
-use Prim.Native.Nat.{ℕ, ◌+◌, ◌-◌, ◌≤◌, ◌<◌}
-use mathlib.Core.Path.{◌≡◌, refl, sym, ap, ◌∙◌, subst}
+use Prim.Native.Nat.{◌-◌}
+use mathlib.Core.Path.{refl}
 use native.Mathlib.Omega.{arith}
-use lib.ListN.{length, get_or}
 use Rattle.read_tokens.specs.laws.Here.{here}
 use Rattle.read_order.specs.steps.Order.{within}
 use Rattle.read_names.specs.steps.Lefts.{lacks5}
-use Rattle.read_names.specs.laws.Sweeps.{Going, going, swept-end, swept-limit, uses-bad, uses-next}
-use borrow.Author.Rules.{rules}
+use Rattle.read_names.specs.laws.Sweeps.{going, swept-end, swept-limit, uses-bad, uses-next}
 use Rattle.read_names.proofs.lefts.uses.Goals as goal
 
 pub loop-at-init : goal.loop-at-init

@@ -1,12 +1,10 @@
-use Prim.Native.Nat.{ℕ, ◌<◌}
-use mathlib.Core.Path.{◌≡◌}
-use mathlib.Core.Bool.{Bool}
-use mathlib.Core.List.{List, [], ◌∷◌}
+use mathlib.Core.List.{[]}
+use Prim.Native.Nat.{ℕ}
+use mathlib.Core.List.{List, ◌∷◌}
 use lib.Dec.{eqb, eqb→eq}
 use lib.ListN.{get_or}
-use Rattle.read_tokens.specs.laws.All.{all, all-at}
+use Rattle.read_tokens.specs.laws.All.{all-at}
 use Rattle.read_syntax.specs.steps.Numbers.{kind_class}
-use borrow.Author.Rules.{rules}
 use Rattle.read_syntax.proofs.syntax.class.Goals as goal
 
 table : List ℕ

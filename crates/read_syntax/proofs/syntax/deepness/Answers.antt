@@ -1,6 +1,5 @@
 use native.Mathlib.Omega.{arith}
 use Rattle.read_syntax.specs.laws.Automaton.{deep_one}
-use borrow.Author.Rules.{rules}
 use Rattle.read_syntax.proofs.syntax.deepness.Goals as goal
 
 pub returns : goal.returns

@@ -1,4 +1,3 @@
-use borrow.Author.Rules.{rules}
 use Rattle.read_syntax.proofs.syntax.next.Goals as goal
 
 pub returns : goal.returns

@@ -1,20 +1,15 @@
-use Prim.Native.Nat.{ℕ, ◌-◌, ◌≤◌, ◌<◌}
-use mathlib.Core.Path.{◌≡◌, refl, sym, ap, ◌∙◌}
-use mathlib.Core.Option.{Option, none, some}
+use Prim.Native.Nat.{ℕ, ◌-◌}
+use mathlib.Core.Path.{refl, sym, ap, ◌∙◌}
 use native.Mathlib.Omega.{arith}
 use lib.ListN.{length}
 use Rattle.read_tokens.specs.declared.Token.{Token}
 use Rattle.read_tokens.specs.Tokens.{token_at, lexemes}
 use Rattle.read_tokens.specs.laws.Forward.{lexemes_at}
-use Rattle.read_syntax.specs.Machine.{judge, start}
-use Rattle.read_syntax.specs.Reading.{offence}
-use Rattle.grammar.specs.Refusal.{Refusal, refusal}
-use Rattle.read_syntax.specs.steps.Numbers.{state_of, next_of, deep, judged_at}
+use Rattle.read_syntax.specs.steps.Numbers.{state_of, next_of, deep}
 use Rattle.read_syntax.specs.steps.Found.{found}
 use Rattle.read_syntax.specs.laws.Automaton.{walk_is, next_le, moved-le, kind-small}
 use Rattle.read_tokens.specs.laws.Here.{here}
 use Rattle.read_syntax.specs.laws.Turns.{end-well, end-badly, class-below, dead, over-wide, walks-on, stays-flat}
-use borrow.Author.Rules.{rules}
 use Rattle.read_syntax.proofs.syntax.offending.Goals as goal
 
 pub loop-mode-init : goal.loop-mode-init

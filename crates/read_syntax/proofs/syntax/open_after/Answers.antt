@@ -1,6 +1,5 @@
 use native.Mathlib.Omega.{arith}
 use Rattle.read_syntax.specs.laws.Automaton.{moved-arrow, moved_open, moved-close, moved-else}
-use borrow.Author.Rules.{rules}
 use Rattle.read_syntax.proofs.syntax.open_after.Goals as goal
 
 pub returns-then-k-eq4 : goal.returns-then-k-eq4

@@ -1,6 +1,5 @@
 use mathlib.Core.Path.{sym, ap}
 use Rattle.read_tokens.specs.Bounds.{open_bound}
-use borrow.Author.Rules.{rules}
 use Rattle.read_syntax.proofs.syntax.open_bound.Goals as goal
 
 pub returns-in-Lake : goal.returns-in-Lake

@@ -1,9 +1,7 @@
-use mathlib.Core.Path.{refl}
 use native.Mathlib.Omega.{arith}
 use borrow.Author.Tests.{le-leb, lt-leb, eq-eqb, ne_eqb}
 use Rattle.read_tokens.specs.Bounds.{literal_bound}
 use Rattle.read_syntax.specs.steps.Numbers.{over_by}
-use borrow.Author.Rules.{rules}
 use Rattle.read_syntax.proofs.syntax.over.Goals as goal
 
 pub returns-then-kind-le2 : goal.returns-then-kind-le2

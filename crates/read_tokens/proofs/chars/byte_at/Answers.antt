@@ -1,8 +1,7 @@
-use mathlib.Core.Path.{◌≡◌, refl, sym, ap, ◌∙◌}
+use mathlib.Core.Path.{sym, ◌∙◌}
 use native.Mathlib.Omega.{arith}
 use lib.ListN.{get_or-eq_default}
 use Rattle.read_tokens.proofs.CharSteps.{get_d-inside}
-use borrow.Author.Rules.{rules}
 use Rattle.read_tokens.proofs.chars.byte_at.Goals as goal
 
 pub returns-then-at-text : goal.returns-then-at-text

@@ -1,8 +1,6 @@
-use mathlib.Core.Path.{◌≡◌, refl, sym, ap, ◌∙◌}
-use native.Mathlib.Omega.{arith}
+use mathlib.Core.Path.{ap, ◌∙◌}
 use Rattle.read_tokens.specs.steps.Code.{char_of}
 use Rattle.read_tokens.proofs.CharSteps.{char-end, char_is}
-use borrow.Author.Rules.{rules}
 use Rattle.read_tokens.proofs.chars.char_at.Goals as goal
 
 pub returns-then-text-at : goal.returns-then-text-at

@@ -1,8 +1,6 @@
-use mathlib.Core.Path.{◌≡◌, refl, sym, ap, ◌∙◌}
-use native.Mathlib.Omega.{arith}
+use mathlib.Core.Path.{sym, ap, ◌∙◌}
 use Rattle.read_tokens.specs.steps.Code.{char_of}
 use Rattle.read_tokens.proofs.CharSteps.{four-end, four-raw, four-octal, four-letter}
-use borrow.Author.Rules.{rules}
 use Rattle.read_tokens.proofs.chars.char_of.Goals as goal
 
 pub returns-then-b-eq256 : goal.returns-then-b-eq256

@@ -1,4 +1,4 @@
-use mathlib.Core.Path.{◌≡◌, refl, sym, ap, ◌∙◌}
+use mathlib.Core.Path.{refl}
 use native.Mathlib.Omega.{arith}
 use Rattle.read_tokens.proofs.CharSteps.{octal-low, octal-high}
 use Rattle.read_tokens.proofs.chars.digit_of.Goals as goal

@@ -1,4 +1,4 @@
-use mathlib.Core.Path.{◌≡◌, refl, sym, ap, ◌∙◌}
+use mathlib.Core.Path.{sym}
 use native.Mathlib.Omega.{arith}
 use Rattle.read_tokens.proofs.CharSteps.{octal-yes, octal-below, octal-above}
 use Rattle.read_tokens.proofs.chars.is_octal.Goals as goal

@@ -1,4 +1,4 @@
-use mathlib.Core.Path.{◌≡◌, refl, sym, ap, ◌∙◌}
+use mathlib.Core.Path.{ap}
 use Rattle.read_tokens.specs.Chars.{letters}
 use Rattle.read_tokens.specs.steps.Code.{char_of}
 use Rattle.read_tokens.proofs.CharSteps.{letters-no, letters-at}

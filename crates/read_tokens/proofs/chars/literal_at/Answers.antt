@@ -1,13 +1,7 @@
-use mathlib.Core.Path.{◌≡◌, refl, sym, ap, ◌∙◌}
+use mathlib.Core.Path.{refl, sym, ◌∙◌}
 use native.Mathlib.Omega.{arith}
-use Prim.Native.Nat.{◌+◌, ◌-◌, ◌≤◌}
-use lib.ListN.{length, drop, get_or}
-use Rattle.read_tokens.specs.Chars.{single, char}
-use Rattle.read_tokens.specs.steps.Code.{counted}
-use Rattle.read_tokens.specs.laws.Passing.{from}
 use Rattle.read_tokens.specs.laws.Widths.{width-inside}
 use Rattle.read_tokens.proofs.LiteralSteps.{width_of, at-end, at-quote, no_char, one_char}
-use borrow.Author.Rules.{rules}
 use Rattle.read_tokens.proofs.chars.literal_at.Goals as goal
 
 pub loop-i-init : goal.loop-i-init

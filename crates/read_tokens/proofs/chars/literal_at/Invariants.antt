@@ -1,13 +1,9 @@
-use mathlib.Core.Path.{◌≡◌, refl, sym, ap, ◌∙◌}
-use native.Mathlib.Omega.{arith}
+use mathlib.Core.Path.{◌≡◌}
 use Prim.Native.Nat.{◌+◌, ◌-◌, ◌≤◌}
-use lib.ListN.{length, drop, get_or}
-use Rattle.read_tokens.specs.Chars.{single, char}
+use lib.ListN.{length}
+use Rattle.read_tokens.specs.Chars.{single}
 use Rattle.read_tokens.specs.steps.Code.{counted}
 use Rattle.read_tokens.specs.laws.Passing.{from}
-use Rattle.read_tokens.specs.laws.Widths.{width-inside}
-use Rattle.read_tokens.proofs.LiteralSteps.{width_of, at-end, at-quote, no_char, one_char}
-use borrow.Author.Rules.{rules}
 use Rattle.read_tokens.proofs.chars.literal_at.Given as goal
 
 abbrev pub invariant-loop-i : goal.invariant-loop-i

@@ -1,9 +1,8 @@
-use mathlib.Core.Path.{◌≡◌, refl, sym, ap, ◌∙◌}
+use mathlib.Core.Path.{refl, sym, ap, ◌∙◌}
 use native.Mathlib.Omega.{arith}
 use borrow.Author.Tests.{not-true, not-false}
 use Rattle.read_tokens.specs.steps.Code.{char_of}
-use Rattle.read_tokens.proofs.CharSteps.{octals-1, octals-2, octals-2', octals-3, octal-high}
-use borrow.Author.Rules.{rules}
+use Rattle.read_tokens.proofs.CharSteps.{octals-1, octals-2, octals-2', octals-3}
 use Rattle.read_tokens.proofs.chars.octal_of.Goals as goal
 
 pub digit_of-x-requires : goal.digit_of-x-requires

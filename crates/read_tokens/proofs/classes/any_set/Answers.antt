@@ -1,10 +1,6 @@
-use mathlib.Core.Path.{◌≡◌, refl, sym, ap, ◌∙◌}
+use mathlib.Core.Path.{refl, ◌∙◌}
 use native.Mathlib.Omega.{arith}
-use Prim.Native.Nat.{ℕ, suc, ◌+◌, ◌-◌, ◌≤◌}
-use lib.ListN.{length, drop, get_or}
-use Rattle.read_tokens.specs.laws.Turning.{some_from}
 use Rattle.read_tokens.proofs.ClassSteps.{mark-yes, mark-no, mark-end}
-use borrow.Author.Rules.{rules}
 use Rattle.read_tokens.proofs.classes.any_set.Goals as goal
 
 pub loop-i-init : goal.loop-i-init

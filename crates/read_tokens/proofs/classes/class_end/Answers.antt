@@ -1,9 +1,8 @@
 use mathlib.Core.Path.{sym, ap, ◌∙◌}
 use native.Mathlib.Omega.{arith}
-use Prim.Native.Nat.{ℕ, ◌+◌, ◌-◌}
+use Prim.Native.Nat.{ℕ, ◌+◌}
 use Rattle.read_tokens.specs.steps.Code.{caret_at}
 use Rattle.read_tokens.proofs.ClassSteps.{class-none, class-caret, class-raw, caret-inside, filled_none, filled-as, class-ended}
-use borrow.Author.Rules.{rules}
 use Rattle.read_tokens.proofs.classes.class_end.Goals as goal
 
 pub returns-then-text-at : goal.returns-then-text-at

@@ -1,14 +1,12 @@
 use mathlib.Core.Path.{sym, ap, ◌∙◌}
 use mathlib.Core.Bool.{Bool}
 use mathlib.Core.List.{List}
-use Prim.Native.Nat.{◌-◌}
 use Rattle.read_tokens.specs.Chars.{listed}
 use Rattle.read_tokens.specs.Tokens.{class_token, class_by}
 use Rattle.read_tokens.specs.laws.Turning.{some_from}
 use Rattle.read_tokens.specs.steps.Code.{class_is}
 use Rattle.read_tokens.specs.laws.Passing.{from}
 use Rattle.read_tokens.proofs.ClassSteps.{nothing-listed, broken-is, plain-is, turned-is, filled_none, filled-as, unmarked}
-use borrow.Author.Rules.{rules}
 use Rattle.read_tokens.proofs.classes.class_from.Goals as goal
 
 pub returns-then-b-eq93 : goal.returns-then-b-eq93

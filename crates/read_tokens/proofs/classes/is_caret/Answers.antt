@@ -1,10 +1,6 @@
-use mathlib.Core.Path.{◌≡◌, refl, sym, ap, ◌∙◌}
-use mathlib.Core.Bool.{Bool, true, false}
-use Prim.Native.Nat.{ℕ, suc, ◌+◌, ◌-◌, ◌≤◌}
-use lib.Dec.{eqb}
+use mathlib.Core.Path.{sym, ap}
 use Rattle.read_tokens.specs.declared.Mode.{Mode}
 use Rattle.read_tokens.specs.steps.Code.{caret_at}
-use borrow.Author.Rules.{rules}
 use Rattle.read_tokens.proofs.classes.is_caret.Goals as goal
 
 pub returns-in-Lake : goal.returns-in-Lake

@@ -1,12 +1,11 @@
-use mathlib.Core.Path.{◌≡◌, refl, sym, ap, ◌∙◌}
+use mathlib.Core.Path.{sym, ap, ◌∙◌}
 use native.Mathlib.Omega.{arith}
-use Prim.Native.Nat.{ℕ, suc, ◌+◌, ◌-◌, ◌≤◌}
+use Prim.Native.Nat.{◌+◌}
 use Rattle.read_tokens.specs.declared.classes.Item.{Item}
 use Rattle.read_tokens.specs.laws.Widths.{width-inside}
 use Rattle.read_tokens.proofs.CharSteps.{inside}
 use Rattle.read_tokens.proofs.LiteralSteps.{width_of, byte_of}
 use Rattle.read_tokens.proofs.ClassSteps.{item-none, item-single, item-cut, item_back, item-range}
-use borrow.Author.Rules.{rules}
 use Rattle.read_tokens.proofs.classes.item_at.Goals as goal
 
 pub returns-then-w-eq0 : goal.returns-then-w-eq0

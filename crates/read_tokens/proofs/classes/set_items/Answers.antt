@@ -1,9 +1,5 @@
-use mathlib.Core.Path.{◌≡◌, refl, sym, ap, ◌∙◌}
 use native.Mathlib.Omega.{arith}
-use Prim.Native.Nat.{ℕ, suc, ◌+◌, ◌-◌, ◌≤◌}
-use lib.ListN.{length, drop, get_or}
-use Rattle.read_tokens.proofs.ClassSteps.{To, at-end, at-close, no_item, one-item, to_same, to-on}
-use borrow.Author.Rules.{rules}
+use Rattle.read_tokens.proofs.ClassSteps.{at-end, at-close, no_item, one-item, to_same, to-on}
 use Rattle.read_tokens.proofs.classes.set_items.Goals as goal
 
 pub loop-i-init : goal.loop-i-init

@@ -1,9 +1,6 @@
-use mathlib.Core.Path.{◌≡◌, refl, sym, ap, ◌∙◌}
-use native.Mathlib.Omega.{arith}
-use Prim.Native.Nat.{ℕ, suc, ◌+◌, ◌-◌, ◌≤◌}
-use lib.ListN.{length, drop, get_or}
-use Rattle.read_tokens.proofs.ClassSteps.{To, at-end, at-close, no_item, one-item, to_same, to-on}
-use borrow.Author.Rules.{rules}
+use Prim.Native.Nat.{◌-◌, ◌≤◌}
+use lib.ListN.{length}
+use Rattle.read_tokens.proofs.ClassSteps.{To}
 use Rattle.read_tokens.proofs.classes.set_items.Given as goal
 
 abbrev pub invariant-loop-i : goal.invariant-loop-i

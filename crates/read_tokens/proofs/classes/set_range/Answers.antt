@@ -1,9 +1,6 @@
-use mathlib.Core.Path.{◌≡◌, refl, sym, ap, ◌∙◌}
+use mathlib.Core.Path.{refl, ◌∙◌}
 use native.Mathlib.Omega.{arith}
-use Prim.Native.Nat.{ℕ, suc, ◌+◌, ◌-◌, ◌≤◌}
-use Rattle.read_tokens.specs.laws.Marks.{paint}
 use Rattle.read_tokens.proofs.ClassSteps.{paint-one, paint-none}
-use borrow.Author.Rules.{rules}
 use Rattle.read_tokens.proofs.classes.set_range.Goals as goal
 
 pub loop-b-init : goal.loop-b-init

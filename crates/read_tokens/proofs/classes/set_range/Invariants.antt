@@ -1,9 +1,6 @@
-use mathlib.Core.Path.{◌≡◌, refl, sym, ap, ◌∙◌}
-use native.Mathlib.Omega.{arith}
-use Prim.Native.Nat.{ℕ, suc, ◌+◌, ◌-◌, ◌≤◌}
+use mathlib.Core.Path.{◌≡◌}
+use Prim.Native.Nat.{suc, ◌-◌}
 use Rattle.read_tokens.specs.laws.Marks.{paint}
-use Rattle.read_tokens.proofs.ClassSteps.{paint-one, paint-none}
-use borrow.Author.Rules.{rules}
 use Rattle.read_tokens.proofs.classes.set_range.Given as goal
 
 abbrev pub invariant-loop-b : goal.invariant-loop-b

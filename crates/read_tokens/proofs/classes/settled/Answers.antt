@@ -1,6 +1,5 @@
 use mathlib.Core.Path.{sym, ◌∙◌}
 use Rattle.read_tokens.proofs.ClassSteps.{settled-yes, settled-no, filled_none, filled_is}
-use borrow.Author.Rules.{rules}
 use Rattle.read_tokens.proofs.classes.settled.Goals as goal
 
 pub returns-then-some_set : goal.returns-then-some_set

@@ -1,7 +1,6 @@
 use native.Mathlib.Omega.{arith}
 use mathlib.Core.Path.{sym}
 use Rattle.read_tokens.specs.laws.Turning.{some_at}
-use borrow.Author.Rules.{rules}
 use Rattle.read_tokens.proofs.classes.some_set.Goals as goal
 
 pub returns-then-marks-hint : goal.returns-then-marks-hint

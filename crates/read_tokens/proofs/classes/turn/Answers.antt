@@ -1,9 +1,6 @@
-use mathlib.Core.Path.{◌≡◌, refl, sym, ap, ◌∙◌}
+use mathlib.Core.Path.{refl, ◌∙◌}
 use native.Mathlib.Omega.{arith}
-use Prim.Native.Nat.{ℕ, suc, ◌+◌, ◌-◌, ◌≤◌}
-use Rattle.read_tokens.specs.laws.Turning.{turn_from}
 use Rattle.read_tokens.proofs.ClassSteps.{turn_one, turn-none}
-use borrow.Author.Rules.{rules}
 use Rattle.read_tokens.proofs.classes.turn.Goals as goal
 
 pub loop-i-init : goal.loop-i-init

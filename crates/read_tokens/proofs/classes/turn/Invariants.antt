@@ -1,9 +1,6 @@
-use mathlib.Core.Path.{◌≡◌, refl, sym, ap, ◌∙◌}
-use native.Mathlib.Omega.{arith}
-use Prim.Native.Nat.{ℕ, suc, ◌+◌, ◌-◌, ◌≤◌}
+use mathlib.Core.Path.{◌≡◌}
+use Prim.Native.Nat.{◌-◌}
 use Rattle.read_tokens.specs.laws.Turning.{turn_from}
-use Rattle.read_tokens.proofs.ClassSteps.{turn_one, turn-none}
-use borrow.Author.Rules.{rules}
 use Rattle.read_tokens.proofs.classes.turn.Given as goal
 
 abbrev pub invariant-loop-i : goal.invariant-loop-i

@@ -1,4 +1,3 @@
-use borrow.Author.Rules.{rules}
 use Rattle.read_tokens.proofs.kinds.kind_of.Goals as goal
 
 pub returns : goal.returns

@@ -1,4 +1,5 @@
-use mathlib.Core.List.{List, [], ◌∷◌}
+use mathlib.Core.List.{[]}
+use mathlib.Core.List.{List, ◌∷◌}
 use mathlib.Core.Bool.{Bool}
 use Prim.Native.Nat.{ℕ}
 use lib.Dec.{eqb, eqb→eq}

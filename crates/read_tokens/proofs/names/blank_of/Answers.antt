@@ -1,6 +1,4 @@
-use mathlib.Core.Path.{◌≡◌, refl, sym, ap, ◌∙◌}
 use borrow.Author.Tests.{eq-eqb, ne_eqb}
-use borrow.Author.Rules.{rules}
 use Rattle.read_tokens.proofs.names.blank_of.Goals as goal
 
 pub returns-then-b-eq10 : goal.returns-then-b-eq10

@@ -1,12 +1,6 @@
-use mathlib.Core.Path.{◌≡◌, refl, sym, ap, ◌∙◌}
+use mathlib.Core.Path.{refl, sym, ◌∙◌}
 use borrow.Author.Tests.{eq-eqb, ne_eqb}
-use native.Mathlib.Omega.{arith}
-use mathlib.Core.Bool.{true, false}
-use Prim.Native.Nat.{◌+◌, ◌-◌, ◌≤◌}
-use lib.ListN.{length, drop, get_or}
-use Rattle.read_tokens.specs.Tokens.{skip}
 use Rattle.read_tokens.proofs.TokenSteps.{skip-end, skip_stop, skip-more}
-use borrow.Author.Rules.{rules}
 use Rattle.read_tokens.proofs.names.blanks.Goals as goal
 
 pub loop-i-init : goal.loop-i-init

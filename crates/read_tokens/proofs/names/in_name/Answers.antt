@@ -1,6 +1,4 @@
-use mathlib.Core.Path.{◌≡◌, refl, sym, ap, ◌∙◌}
 use borrow.Author.Tests.{eq-eqb, ne_eqb}
-use borrow.Author.Rules.{rules}
 use Rattle.read_tokens.proofs.names.in_name.Goals as goal
 
 pub returns-then-k-eq-LETTER : goal.returns-then-k-eq-LETTER

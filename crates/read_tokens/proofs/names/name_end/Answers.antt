@@ -1,11 +1,6 @@
-use mathlib.Core.Path.{◌≡◌, refl, sym, ap, ◌∙◌}
+use mathlib.Core.Path.{refl, sym, ◌∙◌}
 use borrow.Author.Tests.{not-true, not-false}
-use native.Mathlib.Omega.{arith}
-use Prim.Native.Nat.{◌+◌, ◌-◌, ◌≤◌}
-use lib.ListN.{length, drop, get_or}
-use Rattle.read_tokens.specs.Tokens.{name_span}
 use Rattle.read_tokens.proofs.TokenSteps.{span-end, span-stop, span_more}
-use borrow.Author.Rules.{rules}
 use Rattle.read_tokens.proofs.names.name_end.Goals as goal
 
 pub loop-i-init : goal.loop-i-init

@@ -1,11 +1,7 @@
-use mathlib.Core.Path.{◌≡◌, refl, sym, ap, ◌∙◌}
-use borrow.Author.Tests.{not-true, not-false}
-use native.Mathlib.Omega.{arith}
-use Prim.Native.Nat.{◌+◌, ◌-◌, ◌≤◌}
-use lib.ListN.{length, drop, get_or}
+use mathlib.Core.Path.{◌≡◌}
+use Prim.Native.Nat.{◌+◌, ◌-◌}
+use lib.ListN.{length, drop}
 use Rattle.read_tokens.specs.Tokens.{name_span}
-use Rattle.read_tokens.proofs.TokenSteps.{span-end, span-stop, span_more}
-use borrow.Author.Rules.{rules}
 use Rattle.read_tokens.proofs.names.name_end.Given as goal
 
 abbrev pub invariant-loop-i : goal.invariant-loop-i

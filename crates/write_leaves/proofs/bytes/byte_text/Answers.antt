@@ -1,11 +1,8 @@
-use Prim.Native.Nat.{ℕ, ◌≤◌, ◌<◌}
-use mathlib.Core.Path.{◌≡◌, refl, sym, ap, ◌∙◌}
-use mathlib.Core.List.{List, [], ◌∷◌}
+use mathlib.Core.Path.{sym, ap}
 use native.Mathlib.Omega.{arith}
 use Rattle.write_rules.specs.Writing.{byte_text}
 use Rattle.write_leaves.specs.laws.Pen.{penned-is}
 use Rattle.write_leaves.specs.laws.Bytes.{raw, printable, control, middle}
-use borrow.Author.Rules.{rules}
 use Rattle.write_leaves.proofs.bytes.byte_text.Goals as goal
 
 pub emit2-requires : goal.emit2-requires

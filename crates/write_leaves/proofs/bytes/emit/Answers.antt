@@ -1,12 +1,12 @@
-use Prim.Native.Nat.{ℕ, ◌+◌, ◌≤◌, ◌<◌}
-use mathlib.Core.Path.{◌≡◌, refl, sym, ap, ◌∙◌, subst}
+use mathlib.Core.List.{[]}
+use Prim.Native.Nat.{◌+◌}
+use mathlib.Core.Path.{sym, subst}
 use mathlib.Core.Bool.{Bool}
-use mathlib.Core.List.{List, [], ◌∷◌}
+use mathlib.Core.List.{◌∷◌}
 use native.Mathlib.Omega.{arith}
-use lib.ListN.{length, set}
-use Rattle.write_leaves.specs.steps.Pen.{most, Penned}
+use lib.ListN.{set}
+use Rattle.write_leaves.specs.steps.Pen.{Penned}
 use Rattle.write_leaves.specs.laws.Pen.{byte-on, byte_past, byte-counted, byte-most}
-use borrow.Author.Rules.{rules}
 use Rattle.write_leaves.proofs.bytes.emit.Goals as goal
 
 pub returns-then-at-ge9223372036854775808 : goal.returns-then-at-ge9223372036854775808

@@ -1,12 +1,5 @@
-use Prim.Native.Nat.{ℕ, ◌≤◌, ◌<◌}
-use mathlib.Core.Path.{◌≡◌, refl, sym, ap, ◌∙◌, subst}
-use mathlib.Core.Bool.{Bool}
-use mathlib.Core.List.{List, [], ◌∷◌}
 use native.Mathlib.Omega.{arith}
-use lib.ListN.{length, set}
-use Rattle.write_leaves.specs.steps.Pen.{most, Penned}
 use Rattle.write_leaves.specs.laws.Pen.{on, penned-most}
-use borrow.Author.Rules.{rules}
 use Rattle.write_leaves.proofs.bytes.emit2.Goals as goal
 
 pub emit-i-requires : goal.emit-i-requires

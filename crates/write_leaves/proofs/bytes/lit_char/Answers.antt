@@ -1,11 +1,7 @@
-use Prim.Native.Nat.{ℕ, ◌≤◌, ◌<◌}
-use mathlib.Core.Path.{◌≡◌, refl, sym, ap, ◌∙◌}
-use mathlib.Core.List.{List, [], ◌∷◌}
-use native.Mathlib.Omega.{arith}
+use mathlib.Core.Path.{sym, ap}
 use Rattle.write_rules.specs.Writing.{lit_char}
 use Rattle.write_leaves.specs.laws.Pen.{penned-is}
 use Rattle.write_leaves.specs.laws.Bytes.{plain-lit}
-use borrow.Author.Rules.{rules}
 use Rattle.write_leaves.proofs.bytes.lit_char.Goals as goal
 
 pub emit2-requires : goal.emit2-requires

@@ -1,20 +1,10 @@
-use Prim.Native.Nat.{ℕ, ◌+◌, ◌-◌, ◌≤◌, ◌<◌}
-use mathlib.Core.Path.{◌≡◌, refl, sym, ap, ◌∙◌, subst}
-use mathlib.Core.List.{List, [], ◌∷◌, ◌++◌, map}
-use native.Mathlib.Omega.{arith}
-use lib.ListN.{length, get_or}
-use Rattle.grammar_table.specs.Table.{words_from}
-use Rattle.write_leaves.specs.steps.Pen.{most, Penned}
-use Rattle.write_leaves.specs.steps.Printed.{low}
+use Prim.Native.Nat.{◌-◌, ◌≤◌, ◌<◌}
+use mathlib.Core.Path.{◌≡◌}
 use mathlib.Core.Option.{none}
 use Rattle.grammar_table.specs.Table.{marks_from}
-use Rattle.write_rules.specs.Writing.{runs, runs_text, run_text}
-use Rattle.read_tokens.specs.Chars.{range}
-use mathlib.Core.Bool.{Bool}
+use Rattle.write_rules.specs.Writing.{runs, runs_text}
 use Rattle.write_leaves.specs.steps.Printed.{rest_of}
-use Rattle.write_leaves.specs.laws.Pen.{Along, along-start, along-on, along-end, along-is}
-use Rattle.write_leaves.specs.laws.Leaves.{class-start, class-end, class-last}
-use borrow.Author.Rules.{rules}
+use Rattle.write_leaves.specs.laws.Pen.{Along}
 use Rattle.write_leaves.proofs.leaves.class_runs.Given as goal
 
 abbrev pub invariant-loop-b : goal.invariant-loop-b

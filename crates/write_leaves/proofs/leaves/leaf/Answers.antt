@@ -1,15 +1,13 @@
-use Prim.Native.Nat.{ℕ, ◌+◌, ◌-◌, ◌*◌, ◌≤◌, ◌<◌}
-use mathlib.Core.Path.{◌≡◌, refl, sym, ap, ◌∙◌, subst}
+use Prim.Native.Nat.{ℕ, ◌-◌}
+use mathlib.Core.Path.{ap}
 use native.Mathlib.Omega.{arith}
 use mathlib.Core.List.{map}
 use mathlib.Core.Option.{none}
 use Rattle.grammar_table.specs.Table.{words_from, marks_from}
 use Rattle.write_rules.specs.Writing.{lit_chars, runs, runs_text}
 use Rattle.write_leaves.specs.steps.Printed.{low}
-use Rattle.write_leaves.specs.steps.Pen.{most, Penned}
 use Rattle.write_leaves.specs.laws.Pen.{on, penned-is, penned-most}
 use Rattle.write_leaves.specs.laws.Names.{any-text, literal-text, class-text}
-use borrow.Author.Rules.{rules}
 use Rattle.write_leaves.proofs.leaves.leaf.Goals as goal
 
 pub returns-then-k-eq-ANY : goal.returns-then-k-eq-ANY

@@ -1,17 +1,11 @@
-use Prim.Native.Nat.{ℕ, ◌+◌, ◌-◌, ◌≤◌, ◌<◌}
-use mathlib.Core.Path.{◌≡◌, refl, sym, ap, ◌∙◌, subst}
-use mathlib.Core.List.{List, [], ◌∷◌, ◌++◌, map}
+use mathlib.Core.List.{[]}
+use Prim.Native.Nat.{◌-◌}
+use mathlib.Core.Path.{refl, sym, ◌∙◌}
 use native.Mathlib.Omega.{arith}
-use lib.ListN.{length, get_or}
-use Rattle.grammar_table.specs.Table.{words_from}
-use Rattle.write_leaves.specs.steps.Pen.{most, Penned}
-use Rattle.write_leaves.specs.steps.Printed.{low}
 use Rattle.write_rules.specs.Writing.{run_text}
 use Rattle.read_tokens.specs.Chars.{range}
-use Rattle.write_leaves.specs.steps.Turned.{Turned}
 use Rattle.write_leaves.specs.laws.Pen.{penned-none}
 use Rattle.write_leaves.specs.laws.Leaves.{opens, goes_on, stays, closes}
-use borrow.Author.Rules.{rules}
 use Rattle.write_leaves.proofs.leaves.mark.Goals as goal
 
 pub overflow_add-i : goal.overflow_add-i

@@ -1,15 +1,8 @@
-use Prim.Native.Nat.{ℕ, ◌+◌, ◌-◌, ◌≤◌, ◌<◌}
-use mathlib.Core.Path.{◌≡◌, refl, sym, ap, ◌∙◌, subst}
-use mathlib.Core.Bool.{Bool}
-use mathlib.Core.List.{List, [], ◌∷◌, ◌++◌, map}
-use native.Mathlib.Omega.{arith}
-use lib.ListN.{length, get_or}
+use Prim.Native.Nat.{◌+◌, ◌-◌, ◌≤◌}
+use mathlib.Core.List.{map}
 use Rattle.grammar_table.specs.Table.{words_from}
-use Rattle.write_leaves.specs.steps.Pen.{most, Penned}
 use Rattle.write_leaves.specs.steps.Printed.{low}
-use Rattle.write_leaves.specs.laws.Pen.{Along, along-start, along-on, along-end, along-is}
-use Rattle.write_leaves.specs.laws.Leaves.{name-more, name-end, words-start}
-use borrow.Author.Rules.{rules}
+use Rattle.write_leaves.specs.laws.Pen.{Along}
 use Rattle.write_leaves.proofs.leaves.name_bytes.Given as goal
 
 abbrev pub invariant-loop-j : goal.invariant-loop-j

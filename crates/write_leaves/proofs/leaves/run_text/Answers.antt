@@ -1,15 +1,8 @@
-use Prim.Native.Nat.{ℕ, ◌+◌, ◌-◌, ◌≤◌, ◌<◌}
-use mathlib.Core.Path.{◌≡◌, refl, sym, ap, ◌∙◌, subst}
-use mathlib.Core.List.{List, [], ◌∷◌, ◌++◌, map}
+use Prim.Native.Nat.{◌-◌}
 use native.Mathlib.Omega.{arith}
-use lib.ListN.{length, get_or}
-use Rattle.grammar_table.specs.Table.{words_from}
-use Rattle.write_leaves.specs.steps.Pen.{most, Penned}
-use Rattle.write_leaves.specs.steps.Printed.{low}
 use Rattle.write_rules.specs.Writing.{class_char}
 use Rattle.write_leaves.specs.laws.Pen.{on, penned-is, penned-most}
 use Rattle.write_leaves.specs.laws.Leaves.{one_byte, more_bytes}
-use borrow.Author.Rules.{rules}
 use Rattle.write_leaves.proofs.leaves.run_text.Goals as goal
 
 pub class_char-requires : goal.class_char-requires

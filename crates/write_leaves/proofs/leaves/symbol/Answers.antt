@@ -1,13 +1,11 @@
-use Prim.Native.Nat.{ℕ, ◌+◌, ◌-◌, ◌*◌, ◌≤◌, ◌<◌}
-use mathlib.Core.Path.{◌≡◌, refl, sym, ap, ◌∙◌, subst}
+use Prim.Native.Nat.{ℕ, ◌-◌}
+use mathlib.Core.Path.{ap}
 use native.Mathlib.Omega.{arith}
 use mathlib.Core.List.{map}
 use Rattle.grammar_table.specs.Table.{words_from}
 use Rattle.write_leaves.specs.steps.Printed.{low}
-use Rattle.write_leaves.specs.steps.Pen.{most, Penned}
 use Rattle.write_leaves.specs.laws.Pen.{on, penned-is, penned-most}
 use Rattle.write_leaves.specs.laws.Names.{name-text, plain-text, lake-text}
-use borrow.Author.Rules.{rules}
 use Rattle.write_leaves.proofs.leaves.symbol.Goals as goal
 
 pub name_bytes-requires : goal.name_bytes-requires
