@@ -12,7 +12,6 @@ import os
 import platform
 import random
 import re
-import shutil
 import subprocess
 import sys
 import tempfile
@@ -27,6 +26,7 @@ import records
 import stack
 import trees
 from matcher import Matcher, plain_text
+from packages import lacks
 from programs import TOP, Programs
 
 MADE = os.path.join(TOP, "target", "library")
@@ -54,15 +54,10 @@ def run(words, seconds=600, **more):
 # ── what is needed, and what is tested ──
 def install():
     """Whether all commands are there, after an attempt to install those that are not."""
-    missing = [command for command in PACKAGES if not shutil.which(command)]
-    if missing:
-        packages = sum((PACKAGES[command] for command in missing), [])
-        for words in (["update"], ["install", "-y", "--no-install-recommends", *packages]):
-            run(["apt-get", *words], env={**os.environ, "DEBIAN_FRONTEND": "noninteractive"})
-    missing = [command for command in missing if not shutil.which(command)]
-    if missing:
-        wrong(f"not there, and not to be installed: {' '.join(missing)}")
-    return not missing
+    problem = lacks(PACKAGES)
+    if problem:
+        wrong(problem)
+    return not problem
 
 
 def build():
