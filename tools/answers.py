@@ -66,6 +66,7 @@ class Names:
         self.settled = set(map(norm, table["settled"]))
         self.params = table["params"]
         self.cycle = False
+        self.by_place = False
         self.lost = []
 
     def chain(self, place):
@@ -98,9 +99,9 @@ class Names:
         order = chain[ups : ups + 1] + chain[ups + 1 :] + chain[:ups][::-1]
         # a step's number may have moved: the place says which is meant
         there = chain[ups][2][0] if ups < len(chain) else ""
-        if there and norm(there) != norm(step) and plain(there) == plain(step):
+        if self.by_place and there and norm(there) != norm(step) and plain(there) == plain(step):
             step = there
-        elif not any(norm(p[2][0]) == norm(step) or self.arms.get(p[0]) for p in chain):
+        elif self.by_place and not any(norm(p[2][0]) == norm(step) or self.arms.get(p[0]) for p in chain):
             step = next((p[2][0] for p in order if plain(p[2][0]) == plain(step)), step)
         for p in order:
             arm = self.arms.get(p[0])
@@ -192,11 +193,24 @@ def pruned(text):
 
 
 def turn(path, crate, table):
+    """Steps go by their names; where a name is not found, their numbers have moved, and all go by their places."""
+    with open(path, encoding="utf-8") as f:
+        text = f.read()
+    said, lost = turn_by(path, crate, table, False)
+    if lost:
+        with open(path, "w", encoding="utf-8") as f:
+            f.write(text)
+        said, _ = turn_by(path, crate, table, True)
+    return said
+
+
+def turn_by(path, crate, table, by_place):
     with open(path, encoding="utf-8") as f:
         text = f.read()
     folder = os.path.dirname(path)
     inner = folder.split("/proofs/", 1)[1].replace("/", ".")
     names = Names(table)
+    names.by_place = by_place
     uses, made, answers, invariants, kept, comments = [], {}, [], [], [], []
     said = []
     for block in blocks(text):
@@ -291,7 +305,7 @@ def turn(path, crate, table):
         with open(os.path.join(folder, "Invariants.antt"), "w", encoding="utf-8") as f:
             f.write(pruned("\n".join(rattle + [f"use {own}.Given as goal", "", "\n\n".join(invariants), ""])))
     os.remove(path)
-    return said
+    return said, names.lost
 
 
 def turn_cycle(path, crate, tables):

@@ -5,7 +5,7 @@ use native.Mathlib.Numerals.{add-one}
 use lib.ListN.{length}
 use Rattle.grammar.specs.Exp.{Exp}
 use Rattle.grammar_table.specs.Table.{right_of, node_by, leaf_in}
-use Rattle.match_eval.specs.Eval.{leaf_at, ev, rep}
+use Rattle.match_eval.specs.Eval.{ev, rep}
 use Rattle.match_eval.specs.laws.Within.{ev-within, rep-within}
 use Rattle.match_eval.specs.laws.EvalSteps.{seq-left, seq-right, seq-both, alt-left, alt-right, plus-ends, plus-takes, opt-fails, opt-takes, ahead-fails, ahead-takes, never-takes}
 use Rattle.match_eval.specs.laws.EvalSteps.{never-fails, rep-ends, rep-none, rep-more}

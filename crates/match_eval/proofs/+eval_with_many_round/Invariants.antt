@@ -2,7 +2,7 @@ use mathlib.Core.Path.{◌≡◌}
 use lib.ListN.{length}
 use Rattle.match_eval.specs.Eval.{ev, rep}
 use Rattle.grammar_table.specs.Trees.{tree_of}
-use Prim.Native.Nat.{ℕ, ◌+◌, ◌-◌, ◌≤◌}
+use Prim.Native.Nat.{ℕ, ◌+◌, ◌≤◌}
 use Rattle.match_eval.proofs.+eval_with_many_round.Given as goal
 
 abbrev pub decreases-eval_with : goal.decreases-eval_with

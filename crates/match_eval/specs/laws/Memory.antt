@@ -1,10 +1,9 @@
 -- What is remembered stays right: when cells before it change, and when an entry is made. Assumes nothing.
 use Rattle.std.specs.Prelude.{ℕ, zero, suc, ◌+◌, ◌-◌, ◌*◌, ◌≤◌, ◌<◌, ◌≡◌, List, ◌⊎◌, get_or, length, set, replicate}
 use Rattle.std.proofs.Math.Path.{refl, ap}
-use Rattle.std.proofs.Common.{sym, ◌∙◌, subst, inl, inr, arith, add-one, suc-mul, mul-le-mul_right, length-set, get_or-set_same, get_or-set_other}
+use Rattle.std.proofs.Common.{sym, ◌∙◌, inl, inr, arith, add-one, suc-mul, mul-le-mul_right, get_or-set_same, get_or-set_other}
 use Rattle.std.proofs.Math.Decide.{ℕ_discrete}
 use Rattle.base_facts.specs.laws.Numbers.{lt-or-ge}
-use Rattle.std.proofs.Math.ListN.{get_or-eq_default}
 use Rattle.std.proofs.Math.Seq.{set_out}
 use Rattle.grammar.specs.Exp.{Exp}
 use Rattle.match_eval.specs.Eval.{ev, rep, plus_of}
@@ -12,10 +11,10 @@ use Rattle.match_eval.specs.laws.Within.{ev-within, rep-within}
 use Rattle.grammar_table.specs.Table.{op_of, left_of, node_by, symbol_word}
 use Rattle.grammar_table.specs.Trees.{tree_of, below}
 use Rattle.match_eval.specs.steps.Firsts.{byte_at, said_at, said_of, word_of, Heard, Sure}
-use Rattle.match_eval.specs.steps.Memory.{count_at, keys_at, seen_at, entries_at, rounds_of, Key, Alike, Words, Ready, Told, Knows}
+use Rattle.match_eval.specs.steps.Memory.{keys_at, entries_at, rounds_of, Alike, Words, Ready, Told, Knows}
 use Rattle.match_eval.specs.laws.Evaluated.{node-ev}
 use Rattle.match_eval.specs.laws.EvalSteps.{plus-takes, rep-ends, rep-more}
-use Rattle.match_eval.specs.laws.Said.{said-small, said_same, said-blank}
+use Rattle.match_eval.specs.laws.Said.{said-small, said-blank}
 use Rattle.match_eval.specs.laws.Frame.{rounds-same, rep-enough}
 
 -- ── what is said ──

@@ -1,10 +1,9 @@
 -- What is said where a byte stands: the bits of the memory, read and added. Assumes nothing.
 use Rattle.std.specs.Prelude.{ℕ, zero, suc, ◌+◌, ◌*◌, ◌/◌, ◌%◌, ◌^◌, ◌≤◌, ◌<◌, max, ◌≡◌, refl, Bool, cond, ◌&&◌, List, ◌⊎◌, ltb, get_or, length, set}
-use Rattle.std.proofs.Common.{sym, ap, ap₂, ◌∙◌, subst, inl, inr, arith, zero-mul, one-mul, shr-shr, length-set, get_or-set_same, get_or-set_other, ltb-true, lt-ltb, le-ltb}
+use Rattle.std.proofs.Common.{sym, ap, ap₂, ◌∙◌, subst, inl, inr, arith, zero-mul, one-mul, shr-shr, length-set, get_or-set_same, get_or-set_other, lt-ltb, le-ltb}
 use Rattle.std.proofs.Math.Bool.{and-false}
 use Rattle.std.proofs.Math.Nat.{max-zero}
 use Rattle.std.specs.Int.Bits.{bit_or, or_zero_r}
-use Rattle.base_facts.specs.laws.Bools.{and_parts}
 use Rattle.base_facts.specs.laws.Numbers.{same?, lt-or-ge}
 use Rattle.base_words.specs.Set.{bit}
 use Rattle.base_words.specs.laws.Members.{bit-lt, bit-or, bit-pow-same, bit-pow-other}

@@ -1,7 +1,6 @@
 -- An expression takes no more than is left of the text, whatever the cells hold (01, Meaning of a match: "on a prefix of the text").
 -- Assumes nothing.
 use Rattle.std.specs.Prelude.{ℕ, zero, suc, ◌+◌, ◌-◌, ◌*◌, ◌≤◌, ◌≡◌, refl, Bool, true, false, cond, ◌&&◌, List, [], ◌∷◌, leb, ltb, eqb, length, get_or}
-use Rattle.std.proofs.lemmas.Bool.{false≢true}
 use Rattle.std.proofs.Common.{arith, ltb-true, leb-true}
 use Rattle.base_facts.specs.laws.Bools.{and_parts}
 use Rattle.read_tokens.specs.Token.{Leaf, any, literal, class}

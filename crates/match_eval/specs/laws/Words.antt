@@ -1,6 +1,6 @@
 -- What bytes decide is said of one part after the other, and what was said before stays right. Assumes nothing.
-use Rattle.std.specs.Prelude.{ℕ, suc, ◌+◌, ◌*◌, ◌≤◌, ◌<◌, ◌≡◌, List, ◌⊎◌, get_or, length, set}
-use Rattle.std.proofs.Common.{ap, ◌∙◌, subst, sym as flip, inl, inr, arith, length-set, get_or-set_other}
+use Rattle.std.specs.Prelude.{ℕ, suc, ◌+◌, ◌≤◌, ◌<◌, ◌≡◌, List, ◌⊎◌, get_or, length, set}
+use Rattle.std.proofs.Common.{◌∙◌, subst, sym as flip, inl, inr, arith, length-set, get_or-set_other}
 use Rattle.grammar_table.specs.Trees.{tree_of}
 use Rattle.match_eval.specs.steps.Firsts.{said_at, said_of, Sure}
 use Rattle.match_eval.specs.steps.Memory.{count_at, keys_at, seen_at, entries_at, Key, Words, Fresh, Ready, Roomy, Spoken}

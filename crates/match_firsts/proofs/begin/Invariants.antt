@@ -1,4 +1,4 @@
-use Prim.Native.Nat.{◌-◌, ◌≤◌}
+use Prim.Native.Nat.{◌≤◌}
 use Rattle.match_firsts.proofs.begin.Given as goal
 
 abbrev pub invariant-loop-y : goal.invariant-loop-y

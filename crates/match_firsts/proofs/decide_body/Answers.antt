@@ -1,6 +1,5 @@
 use native.Mathlib.Omega.{arith}
 use mathlib.Core.Path.{refl, ◌∙◌}
-use Prim.Native.Nat.{◌-◌}
 use Rattle.match_firsts.proofs.decide_body.Goals as goal
 
 pub body-last-requires : goal.body-last-requires

@@ -1,7 +1,7 @@
 use native.Mathlib.Omega.{arith}
 use mathlib.Core.Path.{sym, subst}
 use mathlib.Core.List.{List}
-use Prim.Native.Nat.{ℕ, ◌-◌}
+use Prim.Native.Nat.{ℕ}
 use Rattle.match_eval.specs.steps.Memory.{Ready}
 use Rattle.match_eval.specs.laws.Words.{ready-seen}
 use Rattle.match_firsts.proofs.decide_once.Goals as goal

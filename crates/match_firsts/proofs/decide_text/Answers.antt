@@ -1,6 +1,5 @@
 use native.Mathlib.Omega.{arith}
 use mathlib.Core.Path.{refl, ◌∙◌}
-use Prim.Native.Nat.{◌-◌}
 use Rattle.match_firsts.proofs.decide_text.Goals as goal
 
 pub loop-p-init : goal.loop-p-init

@@ -1,6 +1,6 @@
 -- What the byte at a place decides, operator by operator. Assumes nothing.
-use Prim.Native.Nat.{ℕ, zero, suc, ◌+◌, ◌-◌, ◌*◌, ◌≤◌, ◌<◌}
-use Rattle.std.specs.Prelude.{◌≡◌, Bool, true, false, not, List, ◌⊎◌, eqb, ltb, length, get_or}
+use Prim.Native.Nat.{ℕ, zero, suc, ◌+◌, ◌-◌, ◌≤◌, ◌<◌}
+use Rattle.std.specs.Prelude.{◌≡◌, Bool, true, false, not, List, eqb, ltb, length, get_or}
 use Rattle.std.proofs.Math.Path.{refl, ap, sym as flip}
 use Rattle.std.proofs.Common.{◌∙◌, subst, ⊎_elim, ltb-true, ltb-false, eq-eqb, ne_eqb}
 use native.Mathlib.Omega.{arith}
@@ -13,11 +13,11 @@ use Rattle.grammar_table.specs.Trees.{tree_of, below}
 use Rattle.grammar_table.specs.laws.Trees.{node_at, node-never}
 use Rattle.grammar_table.specs.laws.Places.{get_d_any}
 use Rattle.grammar_table.specs.laws.Leaves.{marks-at, words-length}
-use Rattle.match_eval.specs.Eval.{join_of, seq_of, alt_of, rep, plus_of, opt_of, ahead_of, never_of, ev, leaf_at}
+use Rattle.match_eval.specs.Eval.{join_of, seq_of, alt_of, opt_of, ahead_of, never_of, ev, leaf_at}
 use Rattle.match_eval.specs.laws.EvalSteps.{any-takes, literal-takes, literal-fails, class-takes, class-fails, cell-is, rep-ends, plus-ends}
 use Rattle.match_eval.specs.laws.Leaves.{lit-ends, lit-differs, lit-goes, lit-done}
 use Rattle.match_firsts.specs.steps.Firm.{Firm}
-use Rattle.match_eval.specs.steps.Firsts.{byte_at, word_of, Heard, LeafSure, Sure, Guards}
+use Rattle.match_eval.specs.steps.Firsts.{byte_at, word_of, LeafSure, Sure, Guards}
 
 -- a byte stands within the text
 inside : (s : List ℕ) (p b : ℕ) → byte_at s p ≡ b → b < 256 → p < length s

@@ -1,4 +1,3 @@
-use Prim.Native.Nat.{◌-◌}
 use Rattle.match_keys.proofs.+same.Given as goal
 
 abbrev pub decreases-same : goal.decreases-same

@@ -1,5 +1,4 @@
 use native.Mathlib.Omega.{arith}
-use Prim.Native.Nat.{◌-◌}
 use Rattle.match_keys.proofs.find.Goals as goal
 
 pub overflow_add-k : goal.overflow_add-k

@@ -1,5 +1,5 @@
 -- Parts of a table with the same tree, and their keys. Assumes nothing.
-use Rattle.std.specs.Prelude.{ℕ, zero, suc, ◌+◌, ◌-◌, ◌*◌, ◌≤◌, ◌<◌, ◌≡◌, refl, List, ◌⊎◌, get_or, length, set, replicate}
+use Rattle.std.specs.Prelude.{ℕ, zero, suc, ◌+◌, ◌-◌, ◌≤◌, ◌<◌, ◌≡◌, refl, List, ◌⊎◌, get_or, length, set, replicate}
 use Rattle.std.proofs.Common.{ap, ap₂, ◌∙◌, subst, sym as flip, inl, inr, arith, length-set, get_or-set_same, get_or-set_other}
 use Rattle.std.proofs.Math.Decide.{ℕ_discrete}
 use Rattle.std.proofs.lemmas.List.{length-replicate}
@@ -9,7 +9,7 @@ use Rattle.grammar_table.specs.Table.{op_of, left_of, right_of, leaf_in, node_by
 use Rattle.grammar_table.specs.Trees.{tree_of, below}
 use Rattle.grammar_table.specs.laws.Trees.{node_at}
 use Rattle.match_eval.specs.steps.Firsts.{parts}
-use Rattle.match_eval.specs.steps.Memory.{count_at, keys_at, parts_at, seen_at, entries_at, Key, Found, Fresh}
+use Rattle.match_eval.specs.steps.Memory.{count_at, keys_at, parts_at, entries_at, Key, Found, Fresh}
 use Rattle.match_eval.specs.laws.Memory.{zeros, alike-none}
 
 -- ── the same words, the same tree ──

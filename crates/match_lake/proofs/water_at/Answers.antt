@@ -1,7 +1,5 @@
 use native.Mathlib.Omega.{arith}
-use Prim.Native.Nat.{◌-◌}
 use mathlib.Core.Path.{sym, ◌∙◌}
-use mathlib.Core.Bool.{false}
 use Rattle.match_lake.specs.laws.Asks.{water-found, water-missing, not-before}
 use Rattle.match_lake.proofs.water_at.Goals as goal
 

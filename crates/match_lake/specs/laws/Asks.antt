@@ -1,5 +1,5 @@
 -- The lake question step by step, in the words that code has read from a table. Assumes nothing.
-use Rattle.std.specs.Prelude.{ℕ, zero, suc, ◌+◌, ◌-◌, ◌*◌, ◌≤◌, ◌<◌, ◌≡◌, Bool, ◌&&◌, ltb, drop}
+use Rattle.std.specs.Prelude.{ℕ, zero, suc, ◌+◌, ◌≤◌, ◌<◌, ◌≡◌, Bool, ◌&&◌, ltb, drop}
 use Rattle.std.proofs.Math.Path.{refl, ap, sym as flip}
 use Rattle.std.proofs.Common.{ap₂, ◌∙◌, subst, arith, add-one, drop_of_length-le, drop-cons, eq-eqb, ne_eqb, lt-ltb, le-ltb, ltb-true, ltb-false}
 use Rattle.std.proofs.Math.Bool.{true, false, not, cond}
@@ -7,7 +7,7 @@ use mathlib.Core.List.{List, [], ◌∷◌, ◌++◌}
 use Rattle.std.proofs.Math.Option.{Option, none}
 use Rattle.std.proofs.Math.Dec.{eqb}
 use Rattle.std.proofs.Math.ListN.{length, get_or, get_or-eq_default}
-use Rattle.read_tokens.specs.Token.{Symbol, Leaf, name, lake, any}
+use Rattle.read_tokens.specs.Token.{Symbol, Leaf, name, any}
 use Rattle.grammar.specs.Exp.{Exp, sym, ter}
 use Rattle.grammar.specs.Same.{same_symbol, index_of}
 use Rattle.grammar.specs.Numbers.{Grammar, is_lake}

@@ -1,5 +1,5 @@
 -- A table that holds a grammar: the grammar that is read from it is this one. Assumes nothing.
-use Rattle.std.specs.Prelude.{ℕ, ◌-◌, ◌≤◌, ◌<◌, ◌≡◌, Bool}
+use Rattle.std.specs.Prelude.{ℕ, ◌≤◌, ◌<◌, ◌≡◌, Bool}
 use Rattle.std.proofs.Math.Path.{sym}
 use Rattle.std.proofs.Common.{ap, ◌∙◌, arith}
 use Rattle.std.proofs.Math.Bool.{true, false}
@@ -10,7 +10,7 @@ use Rattle.read_tokens.specs.Token.{Symbol, Leaf}
 use Rattle.grammar.specs.Exp.{Exp}
 use Rattle.grammar.specs.Numbers.{Grammar, is_lake}
 use Rattle.grammar.specs.Lakes.{step_one}
-use Rattle.grammar_table.specs.Table.{up_to, name_in, body_by, body_in, symbol_word, symbol_count, grammar_in}
+use Rattle.grammar_table.specs.Table.{up_to, name_in, body_in, symbol_word, symbol_count, grammar_in}
 use Rattle.grammar_table.specs.Holds.{Holds, present}
 use Rattle.grammar_table.specs.laws.Lists.{up-length, is_up}
 use Rattle.grammar.specs.Numbers.{terminal_in}

@@ -1,4 +1,4 @@
-use Prim.Native.Nat.{◌+◌, ◌-◌, ◌≤◌}
+use Prim.Native.Nat.{◌+◌, ◌≤◌}
 use Rattle.match_parts.proofs.put_list.Given as goal
 
 abbrev pub invariant-loop-e : goal.invariant-loop-e

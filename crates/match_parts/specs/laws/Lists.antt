@@ -1,16 +1,16 @@
 -- Lists of parts, checked and run step by step as code does it. Assumes nothing.
-use Prim.Native.Nat.{ℕ, zero, suc, ◌+◌, ◌-◌, ◌*◌, ◌≤◌, ◌<◌}
+use Prim.Native.Nat.{ℕ, zero, suc, ◌+◌, ◌-◌, ◌≤◌, ◌<◌}
 use Rattle.std.specs.Prelude.{◌≡◌, Bool, List, eqb, get_or}
 use Rattle.std.proofs.Math.Path.{refl, sym, ap}
 use Rattle.std.proofs.Common.{◌∙◌, subst, eq-eqb, ne_eqb}
 use Rattle.std.proofs.Math.Bool.{true, false}
 use native.Mathlib.Omega.{arith}
 use Rattle.std.proofs.Math.Numerals.{add-one}
-use Rattle.grammar_table.specs.Table.{op_of, left_of, right_of, symbol_word, node_by, leaf_in}
+use Rattle.grammar_table.specs.Table.{op_of, left_of, right_of, node_by, leaf_in}
 use Rattle.grammar_table.specs.Trees.{tree_of, below}
 use Rattle.match_eval.specs.Eval.{join_of, seq_of, alt_of, ev}
 use Rattle.match_eval.specs.laws.Evaluated.{node-ev}
-use Rattle.match_eval.specs.steps.Memory.{count_at, keys_at, parts_at, Front}
+use Rattle.match_eval.specs.steps.Memory.{count_at, parts_at, Front}
 use Rattle.match_parts.specs.steps.Lists.{choice_at, join_by, taken_by, run_of, list_of, Listed, Above, AllListed}
 
 -- the first part: nothing has been taken

@@ -4,7 +4,6 @@ use Rattle.std.proofs.Math.Path.{refl, ap, sym as flip}
 use Rattle.std.proofs.Common.{◌∙◌, arith}
 use Rattle.std.proofs.Math.Logic.{inl, inr}
 use Rattle.grammar.specs.Exp.{Exp, alt}
-use Rattle.grammar_table.specs.Table.{leaf_in}
 use Rattle.match_meaning.specs.Meaning.{Node}
 use Rattle.match_eval.specs.Eval.{ev}
 use Rattle.match_list.specs.Nodes.{walk_of}

@@ -1,8 +1,8 @@
 -- The step of each kind of expression, in the words that code has. Assumes nothing.
-use Prim.Native.Nat.{ℕ, zero, suc, ◌+◌, ◌-◌, ◌*◌, ◌≤◌, ◌<◌}
+use Prim.Native.Nat.{ℕ, zero, suc, ◌+◌, ◌-◌, ◌≤◌, ◌<◌}
 use Rattle.std.specs.Prelude.{◌≡◌, Bool, cond, ◌⊎◌}
 use Rattle.std.proofs.Math.Path.{refl}
-use Rattle.std.proofs.Common.{ap, subst, ◌∙◌, sym as flip, inl, inr, arith}
+use Rattle.std.proofs.Common.{ap, ◌∙◌, sym as flip, inl, inr, arith}
 use Rattle.std.proofs.Math.Bool.{true, false}
 use mathlib.Core.List.{List, [], ◌∷◌}
 use Rattle.std.proofs.Math.Dec.{ltb}
@@ -16,7 +16,7 @@ use Rattle.match_eval.specs.laws.Within.{ev-within}
 use Rattle.match_eval.specs.laws.EvalSteps.{seq-left, seq-right, seq-both, plus-fails, plus-takes, opt-fails, opt-takes, rep-ends, cell-past}
 use Rattle.match_list.specs.laws.NodeSteps.{seq-both as list-both, opt_none as list-none, opt-some as list-some, ahead_none, never-none, rep-ends as list-ends}
 use Rattle.grammar_table.specs.Trees.{tree_of}
-use Rattle.match_walks.specs.steps.Tasks.{Task, walk, again, enter, under, walked, takes, nodes, after, rank, cost, cost_of, Step}
+use Rattle.match_walks.specs.steps.Tasks.{walk, again, enter, under, walked, takes, nodes, after, rank, cost, cost_of, Step}
 use Rattle.match_desk.specs.steps.Desk.{Silent}
 use Rattle.match_desk.specs.steps.Parts.{shape, Made}
 use Rattle.match_desk.specs.laws.Parts.{shaped}
