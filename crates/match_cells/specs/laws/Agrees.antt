@@ -1,6 +1,6 @@
 -- Where the cells are right, evaluation and the rules agree: what `ev` says is derived, and nothing else is.
 -- Assumes nothing.
-use Rattle.std.specs.Prelude.{ℕ, suc, ◌+◌, ◌*◌, ◌≤◌, ◌<◌, ◌≡◌, Bool, ◌&&◌, ◌||◌, ◌⊎◌, ltb, get_or}
+use Rattle.std.specs.Prelude.{ℕ, suc, ◌+◌, ◌*◌, ◌≤◌, ◌<◌, ◌≡◌, Bool, ◌||◌, ◌⊎◌, ltb, get_or}
 use Rattle.std.proofs.Math.Path.{refl}
 use Rattle.std.proofs.Common.{subst, ◌∙◌, sym as flip, arith, eq-or-lt_of_le, ltb-true, ltb-false}
 use Rattle.std.proofs.Math.Bool.{true, false}

@@ -1,5 +1,5 @@
 -- Where there is no loop, filling by rank puts first-called symbols first: the order of `plain` is one that `filling` can rely on. Assumes nothing.
-use Prim.Native.Nat.{ℕ, zero, suc, ◌+◌, ◌^◌, ◌≤◌, ◌<◌}
+use Prim.Native.Nat.{ℕ, zero, suc, ◌+◌, ◌^◌, ◌<◌}
 use Rattle.std.specs.Prelude.{◌≡◌, Bool, true, false, ◌⊎◌, length, get_or, eqb}
 use Rattle.std.proofs.Math.Path.{refl, ap}
 use Rattle.std.proofs.Common.{◌∙◌, subst, sym as flip, inl, inr, ⊎_elim, eq-or-lt_of_le, eqb-true, eq-eqb}

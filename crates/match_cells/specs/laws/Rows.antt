@@ -2,15 +2,15 @@
 use Prim.Native.Nat.{ℕ, zero, suc, ◌+◌, ◌-◌, ◌*◌, ◌≤◌, ◌<◌}
 use Rattle.std.specs.Prelude.{◌≡◌}
 use Rattle.std.proofs.Math.Path.{refl, sym, ap}
-use Rattle.std.proofs.Common.{◌∙◌, subst}
-use mathlib.Core.List.{List, [], ◌∷◌}
+use Rattle.std.proofs.Common.{◌∙◌}
+use mathlib.Core.List.{List, ◌∷◌}
 use native.Mathlib.Omega.{arith}
 use Rattle.std.proofs.Math.ListN.{length, get_or, set}
 use Rattle.grammar.specs.Exp.{Exp}
 use Rattle.grammar_table.specs.Table.{symbol_word, symbol_count, words_from}
 use Rattle.grammar_table.specs.laws.Lists.{up-length, up_at}
 use Rattle.match_eval.specs.Eval.{nowhere, body_of, ev}
-use Rattle.match_cells.specs.Cells.{body_takes, row_of, fill_of, cells}
+use Rattle.match_cells.specs.Cells.{body_takes, row_of, fill_of}
 use Rattle.grammar_table.specs.Trees.{tree_of, bodies_of}
 use Rattle.grammar_table.specs.laws.Leaves.{words_more}
 

@@ -1,5 +1,5 @@
 -- The tasks of a place, one after the other as code does them. Assumes nothing.
-use Rattle.std.specs.Prelude.{ℕ, suc, ◌+◌, ◌-◌, ◌*◌, ◌≤◌, ◌<◌, ◌≡◌, refl, Bool, true, false, List, ◌⊎◌, get_or, length, set}
+use Rattle.std.specs.Prelude.{ℕ, ◌+◌, ◌-◌, ◌*◌, ◌≤◌, ◌<◌, ◌≡◌, refl, Bool, true, false, List, get_or, length, set}
 use Rattle.std.proofs.Common.{ap, ◌∙◌, subst, sym as flip, true≢false, inl, inr, arith}
 use Rattle.std.proofs.Math.Decide.{ℕ_discrete}
 use Rattle.grammar_table.specs.Table.{symbol_count, symbol_word, words_from}

@@ -2,7 +2,6 @@
 use Rattle.std.specs.Prelude.{ℕ, zero, suc, ◌+◌, ◌-◌, ◌≤◌, ◌<◌, ◌≡◌, true, cond, List, ltb, length, get_or, set, replicate}
 use Rattle.std.proofs.Math.Option.{none}
 use Rattle.grammar_table.specs.Table.{up_to}
-use Rattle.match_meaning.specs.Meaning.{Node}
 use Rattle.match_list.specs.Nodes.{node_at, nodes_at, room_of}
 use Rattle.tree_list.specs.Preorder.{bad_node}
 use Rattle.tree_summary.specs.declared.Summary.{Summary}
