@@ -88,7 +88,7 @@ BELOW = ["grammar", "grammar_table", "base_facts", "base_words", "base_rounds", 
 def missing():
     """What crates.txt and the picture do not have in common."""
     with open(os.path.join(TOP, "crates.txt"), encoding="utf-8") as file:
-        have = set(re.findall(r"(?m)^(\w+):", file.read()))
+        have = set(re.findall(r"(?m)^(\w+)(?: \w+)*:", file.read()))
     drawn = {name for _, names in STAGES.values() for name in names} | set(BELOW)
     staged = {name for name in have if name.split("_")[0] in (*STAGES, "grammar", "base")}
     return sorted((drawn - have) | (staged - drawn))

@@ -6,7 +6,7 @@
    - `cells`, `nodes`, `room`, `records` and `out` overlap neither each other nor what is read;
    - of every record that is lent `present` is 0 or 1 already, as in one of zeros;
    - 360 KiB of stack are free (enough on the worst grammars; gurkenmond.wasm has 4 MiB of its own).
-   No proof covers either: the compiler's back end, the change of target for aarch64 and wasm32, the wrappers. They are tested.
+   No proof covers either: the compiler's back end, the change of target for wasm32, the wrappers. They are tested.
 
    No call allocates, keeps anything, reads a clock or a file, or fails in another way; calls from several threads at once are fine.
    Each fills `out` and returns out[0]: 0; a refusal's number 1 to 17, with its place in out[1]; or GM_NO_MATCH. Numbers not named here are 0.

@@ -144,12 +144,18 @@ def two_meanings():
 @functools.cache
 def crates():
     lines = [line.split("#")[0].split(":") for line in read("crates.txt").split("\n")]
-    return {line[0].strip(): line[1].split() for line in lines if len(line) == 2}
+    return {line[0].split()[0]: line[1].split() for line in lines if len(line) == 2}
+
+
+def one_by_one(text):
+    """With a line `use A::X;` for each name that a `use A::{X, Y};` brings in."""
+    grouped = r"(?m)^[ \t]*((?:pub )?use (?:\w+::)+)\{([^{}]*)\};"
+    return re.sub(grouped, lambda found: "\n".join(f"{found[1]}{name.strip()};" for name in found[2].split(",") if name.strip()), text)
 
 
 @functools.cache
 def source(crate):
-    return bare("\n".join(read(path) for path in files(f"crates/{crate}/src/**/*.rt")))
+    return one_by_one(bare("\n".join(read(path) for path in files(f"crates/{crate}/src/**/*.rt"))))
 
 
 def type_owners(crate, item, seen):
@@ -172,8 +178,8 @@ def type_owners(crate, item, seen):
 
 def edges():
     for crate, needs in crates().items():
-        rest = [path for ending in ("antt", "edit") for path in files(f"crates/{crate}/**/*.{ending}")]
-        named = set(re.findall(r"Rattle·(\w+)", source(crate) + bare("\n".join(map(read, rest)))))
+        rest = [path for folder in ("specs/**/*.antt", "proofs/**/*.antt", "must-fail/*.edit") for path in files(f"crates/{crate}/{folder}")]
+        named = set(re.findall(r"\bRattle\.(\w+)", source(crate) + bare("\n".join(map(read, rest)))))
         named |= set(re.findall(r"(?m)^use (\w+);", source(crate)))
         for owner, item in re.findall(r"(?<![\w:])(\w+)(?:::\w+)*::(\w+)", source(crate)):
             named |= {owner} | type_owners(owner, item, set())
@@ -203,7 +209,7 @@ def tour():
 
 
 def module_file(crate, names):
-    """The file of `Rattle·CRATE.specs.A.B.name`."""
+    """The file of `Rattle.CRATE.specs.A.B.name`."""
     for count in range(len(names), 0, -1):
         path = f"crates/{crate}/specs/{'/'.join(names[:count])}.antt"
         if os.path.exists(os.path.join(TOP, path)):
@@ -217,7 +223,7 @@ def out_of_order():
         if not os.path.exists(os.path.join(TOP, path)):
             yield f"{TOUR}: {path} does not exist"
             continue
-        needs = re.findall(r"Rattle·(\w+)(?:·specs)?\.specs\.([\w.'-]+)", bare(read(path)))
+        needs = re.findall(r"\bRattle\.(\w+)\.specs\.([\w.'-]+)", bare(read(path)))
         for other in sorted({module_file(crate, names.strip(".").split(".")) for crate, names in needs} - {None}):
             if number.get(other, -1) > k:
                 yield f"{TOUR}: {path} needs {other}, which stands below it"

@@ -1,5 +1,5 @@
 #!/usr/bin/env python3
-"""The library for other languages on every target: C on x86-64 and, where the machine is Arm, natively; wasm32 under Node; Python; a page in Chromium.
+"""The library for other languages on every target: C on x86-64 and aarch64, that of the other machine emulated; wasm32 under Node; Python; a page in Chromium.
 
 Nothing proves the back end, the change of target or the wrappers, so each target answers every stored question of `replay`, 10,000 random ones with guards
 around all that is lent, and the worst grammars within the stack that the header asks for. What the tests need is installed from Debian's packages.
@@ -12,7 +12,6 @@ import os
 import platform
 import random
 import re
-import shutil
 import subprocess
 import sys
 import tempfile
@@ -27,19 +26,19 @@ import records
 import stack
 import trees
 from matcher import Matcher, plain_text
+from packages import lacks
 from programs import TOP, Programs
 
 MADE = os.path.join(TOP, "target", "library")
 HERE = os.path.join(TOP, "tests", "library")
-ARM = platform.machine() == "aarch64"
+OTHER = {"x86_64": "aarch64", "aarch64": "x86_64"}[platform.machine()]  # the machine that is emulated
 RANDOM_COUNT, RANDOM_SEED = 10000, 12
 NODE_QUESTIONS, NAME_QUESTIONS, RECORD_QUESTIONS = 1000, 1000, 1000
 STACK_KIB = 360  # what the header asks for, and the harness gives its threads
 WRAPPER_COUNT = 300
 # the commands that the tests call, and Debian's packages that have them
-PACKAGES = {"gcc": ["gcc", "libc6-dev"], "node": ["nodejs"], "chromium": ["chromium"]}
-if platform.machine() != "x86_64":
-    PACKAGES["x86_64-linux-gnu-gcc"] = ["gcc-x86-64-linux-gnu", "libc6-dev-amd64-cross"]
+PACKAGES = {"gcc": ["gcc", "libc6-dev"], "node": ["nodejs"], "chromium": ["chromium"], f"qemu-{OTHER}": ["qemu-user"],
+            f"{OTHER}-linux-gnu-gcc": {"x86_64": ["gcc-x86-64-linux-gnu", "libc6-dev-amd64-cross"], "aarch64": ["gcc-aarch64-linux-gnu", "libc6-dev-arm64-cross"]}[OTHER]}
 problems = []
 
 
@@ -48,41 +47,22 @@ def wrong(what):
     print(f"library: {what}")
 
 
-def run(words, **more):
-    return subprocess.run(words, capture_output=True, timeout=600, **more)
+def run(words, seconds=600, **more):
+    return subprocess.run(words, capture_output=True, timeout=seconds, **more)
 
 
 # ── what is needed, and what is tested ──
-def kit_emulator():
-    guide = subprocess.run(["rt", "doc"], capture_output=True, text=True, check=True).stdout.strip()
-    return os.path.join(os.path.dirname(os.path.dirname(guide)), "on", platform.machine(), "toolchain", "bin", "qemu-x86_64")
-
-
-def emulator():
-    """The words before a program for x86-64: the toolchain's emulator, or Debian's."""
-    if platform.machine() == "x86_64":
-        return []
-    return [kit_emulator() if os.access(kit_emulator(), os.X_OK) else "qemu-x86_64"]
-
-
 def install():
     """Whether all commands are there, after an attempt to install those that are not."""
-    if platform.machine() != "x86_64" and not os.access(kit_emulator(), os.X_OK):
-        PACKAGES["qemu-x86_64"] = ["qemu-user"]
-    missing = [command for command in PACKAGES if not shutil.which(command)]
-    if missing:
-        packages = sum((PACKAGES[command] for command in missing), [])
-        for words in (["update"], ["install", "-y", "--no-install-recommends", *packages]):
-            run(["apt-get", *words], env={**os.environ, "DEBIAN_FRONTEND": "noninteractive"})
-    missing = [command for command in missing if not shutil.which(command)]
-    if missing:
-        wrong(f"not there, and not to be installed: {' '.join(missing)}")
-    return not missing
+    problem = lacks(PACKAGES)
+    if problem:
+        wrong(problem)
+    return not problem
 
 
 def build():
     for target in ("x86_64", "aarch64", "wasm32", "shared"):
-        ended = run([os.path.join(TOP, "build"), target])
+        ended = run([os.path.join(TOP, "build"), target], seconds=3600)
         if ended.returncode:
             wrong(f"./build {target}: {ended.stdout.decode()[-2000:]}{ended.stderr.decode()[-2000:]}")
             return False
@@ -117,12 +97,9 @@ class Target:
 
 
 def targets(folder):
-    found = []
-    if ARM:
-        found.append(Target("x86-64 in C, emulated", [*emulator(), compile_harness(folder, "x86_64")]))
-        found.append(Target("aarch64 in C", [compile_harness(folder, "aarch64")], ["2"]))
-    else:
-        found.append(Target("x86-64 in C", [compile_harness(folder, "x86_64")], ["2"]))
+    own = platform.machine()
+    found = [Target(f"{own} in C", [compile_harness(folder, own)], ["2"]),
+             Target(f"{OTHER} in C, emulated", [f"qemu-{OTHER}", compile_harness(folder, OTHER)])]
     found.append(Target("wasm32 in Node", ["node", os.path.join(HERE, "harness.mjs"), os.path.join(MADE, "gurkenmond.wasm")]))
     return found
 
@@ -138,7 +115,7 @@ def exported():
     types = {"u8": "uint8_t {0}", "usize": "size_t {0}", "&[u8]": "const uint8_t *{0}, size_t {0}_len", "&[u32]": "const uint32_t *{0}, size_t {0}_len",
              "&mut [u8]": "uint8_t *{0}, size_t {0}_len", "&mut [u32]": "uint32_t *{0}, size_t {0}_len",
              "&mut [gurkenmond::Summary]": "gm_summary *{0}, size_t {0}_len"}
-    for name, given, answer in re.findall(r'#\[no_mangle\]\s*pub extern "C" fn (\w+)\((.*?)\) -> (\w+)', read("crates", "library", "src", "lib.rt"), re.S):
+    for name, given, answer in re.findall(r'#\[unsafe\(no_mangle\)\]\s*pub extern "C" fn (\w+)\((.*?)\) -> (\w+)', read("crates", "library", "src", "lib.rt"), re.S):
         parts = []
         for part in given.rstrip(", \n").split(","):
             part_name, kind = part.strip().split(": ")
@@ -149,7 +126,7 @@ def exported():
 
 def check_record():
     """A record has the fields of the proved source, in its order; a `usize` has 64 bits on every target."""
-    struct = re.search(r"#\[repr\(C\)\]\s*pub struct Summary \{(.*?)\}", read("crates", "tree_summary", "src", "lib.rt"), re.S)
+    struct = re.search(r"#\[repr\(C\)\]\s*(?:#\[derive\([^\]]*\)\]\s*)?pub struct Summary \{(.*?)\}", read("crates", "tree_summary", "src", "lib.rt"), re.S)
     fields = [({"usize": "uint64_t", "bool": "uint8_t"}[kind], name) for name, kind in re.findall(r"pub (\w+): (\w+)", struct[1] if struct else "")]
     struct = re.search(r"typedef struct \{(.*?)\} gm_summary;", read("include", "gurkenmond.h"), re.S)
     declared = [(kind, name) for kind, names in re.findall(r"(\w+) ([\w, ]+);", struct[1] if struct else "") for name in names.split(", ")]

@@ -8,10 +8,11 @@ A line `# text: ..` of a grammar is a text for it. A repeat of `peg` with an emp
 import glob
 import os
 import re
-import shutil
 import subprocess
 import sys
 import tempfile
+
+from packages import lacks
 from programs import TOP, Programs
 
 # bytes taken: those read less those left behind the match
@@ -22,38 +23,12 @@ static int come;
 #include "parser.c"
 int main(void) { if (yyparse()) printf("match %d\n", come - yyctx->__limit); else printf("none\n"); return 0; }
 """
-PACKAGES = ["peg", "gcc", "libc6-dev"]
+PACKAGES = {"peg": ["peg"], "gcc": ["gcc", "libc6-dev"]}
 # the text on which the parser of grammar G ran for ever, as long as a lake could take nothing at the text's end
 FIRST_GRAMMAR, FIRST_CUT = "block.peg", b"{a"
 LEAST_CUTS = 100
 # lent to a match of a text cut off: nodes for each of its bytes
 NODES_A_BYTE = 8
-
-
-def apt_get(*words):
-    """What apt-get complains of; None if it did what it was asked."""
-    start = [] if os.geteuid() == 0 else ["sudo", "-n"]
-    quiet = {**os.environ, "DEBIAN_FRONTEND": "noninteractive"}
-    try:
-        ended = subprocess.run([*start, "apt-get", *words], capture_output=True, text=True, errors="replace", timeout=300, env=quiet)
-    except (OSError, subprocess.TimeoutExpired) as problem:
-        return str(problem)
-    return ended.stdout + ended.stderr if ended.returncode else None
-
-
-def there():
-    return shutil.which("peg") and shutil.which("gcc")
-
-
-def lacks():
-    """Why there is no `peg` or no C compiler, after an attempt to install them; None if both are there."""
-    install = ["install", "-y", "--no-install-recommends", *PACKAGES]
-    said = None
-    for words in (install, ["update"], install):
-        if there():
-            return None
-        said = apt_get(*words)
-    return None if there() else said or "apt-get says that they are installed, and they are not on the PATH"
 
 
 def make_parser(folder, written):
@@ -117,9 +92,9 @@ def check(path, programs, folder):
 
 
 def main():
-    problem = lacks()
+    problem = lacks(PACKAGES)
     if problem:
-        print(f"{problem}\npeg: FAILED: the packages {' '.join(PACKAGES)} of Debian are needed, and could not be installed")
+        print(f"{problem}\npeg: FAILED: {' and '.join(PACKAGES)} of Debian are needed, and could not be installed")
         return 1
     paths = sorted(glob.glob(os.path.join(TOP, "tests", "grammars", "*.peg")))
     compared = ends = failed = 0

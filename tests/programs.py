@@ -1,6 +1,5 @@
 """Starts the proved programs on a grammar and a text. `tests/run` has built them."""
 import os
-import platform
 import resource
 import shutil
 import subprocess
@@ -9,14 +8,9 @@ import tempfile
 TOP = os.path.dirname(os.path.dirname(os.path.abspath(__file__)))
 
 
-def starter(stack_kib=None):
-    """The words before a program's path: none on x86-64, else the toolchain's emulator with its C library."""
-    if platform.machine() == "x86_64":
-        return []
-    guide = subprocess.run(["rt", "doc"], capture_output=True, text=True, check=True).stdout.strip()
-    tools = os.path.join(os.path.dirname(os.path.dirname(guide)), "on", platform.machine(), "toolchain")
-    stack = ["-s", str(stack_kib * 1024)] if stack_kib else []
-    return [tools + "/bin/qemu-x86_64", *stack, tools + "/lib/ld-linux-x86-64.so.2", "--library-path", tools + "/lib"]
+def program_file(name):
+    """Where rt leaves a program that it has built."""
+    return os.path.join(TOP, "crates", name, "out", name)
 
 
 class Programs:
@@ -25,7 +19,6 @@ class Programs:
     def __init__(self, stack_kib=None):
         self.folder = tempfile.mkdtemp()
         self.stack_kib = stack_kib
-        self.start = starter(stack_kib)
 
     def __enter__(self):
         return self
@@ -37,11 +30,10 @@ class Programs:
         with open(os.path.join(self.folder, "grammar.peg"), "wb") as file:
             file.write(grammar)
         narrow = None
-        if self.stack_kib and not self.start:
+        if self.stack_kib:
             size = self.stack_kib * 1024
             narrow = lambda: resource.setrlimit(resource.RLIMIT_STACK, (size, size))
-        ended = subprocess.run([*self.start, os.path.join(TOP, "target", "bin", name)], cwd=self.folder,
-                               input=text, capture_output=True, preexec_fn=narrow, timeout=seconds)
+        ended = subprocess.run([program_file(name)], cwd=self.folder, input=text, capture_output=True, preexec_fn=narrow, timeout=seconds)
         if ended.returncode != 0:
             return f"ended with status {ended.returncode}".encode()
         return ended.stdout

@@ -16,7 +16,7 @@ import sys
 import tempfile
 
 from matcher import Reader, symbols_of
-from programs import TOP, Programs
+from programs import TOP, Programs, program_file
 from questions import field
 
 CHANGES = 25  # so many changed texts of each grammar
@@ -349,7 +349,7 @@ def main():
         tried, bad = on_run(programs)
         wrong += bad
     with tempfile.TemporaryDirectory() as folder:
-        ended = subprocess.run([*programs.start, os.path.join(TOP, "target", "bin", "explain")], cwd=folder, capture_output=True, timeout=60)
+        ended = subprocess.run([program_file("explain")], cwd=folder, capture_output=True, timeout=60)
         if ended.stdout != b"unreadable\n":
             wrong += 1
             print(f"refusals: without a file `explain` prints {ended.stdout!r}")

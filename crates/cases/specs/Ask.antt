@@ -1,6 +1,6 @@
 -- Questions to the public definitions, and their answers, so that cases can stand in one table. Assumes nothing: these are definitions.
-use Rattle.std.specs.Prelude.{ℕ, ◌*◌, Bool, false, List, [], ◌∷◌, length, take, replicate}
-use Prim.Native.Char.{Char, code}
+use Rattle.std.specs.Prelude.{ℕ, ◌*◌, Bool, false, List, [], ◌∷◌, take, replicate}
+use Prim.Native.Char.{code}
 use Prim.Native.String.{String, [] as end, ◌∷◌ as ◌then◌}
 use Rattle.std.proofs.Math.Option.{Option, none, some}
 use Rattle.read_tokens.specs.declared.Mode.{Mode}

@@ -2,7 +2,7 @@
 use Rattle.std.specs.Prelude.{ℕ, true, false, List, [], ◌∷◌, ◌++◌}
 use Prim.Native.String.{String}
 use Rattle.read_tokens.specs.declared.Mode.TheVariants.{Lake, Plain}
-use Rattle.gurkenmond.specs.Answers.{Says, refused, nomatch, value}
+use Rattle.gurkenmond.specs.Answers.{refused, nomatch, value}
 use Rattle.cases.specs.Ask.{Asked, Said, Case, bytes, reads, rounds, skips, own, plain, alt, sets, matches, lakes, says, counted, words}
 use Rattle.tree_summary.specs.declared.Summary.{Summary}
 use Rattle.tree_summary.specs.Summary.{absent}

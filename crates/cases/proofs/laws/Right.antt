@@ -1,5 +1,5 @@
 -- THE theorem: the definitions answer every case of the table as it says. It is computed. Assumes nothing.
-use Rattle.std.specs.Prelude.{◌≡◌, refl, List, map}
+use Rattle.std.specs.Prelude.{◌≡◌, refl, map}
 use Rattle.read_tokens.specs.Kinds.{one_of, ranges, kind_at}
 use Rattle.read_tokens.specs.Bounds.{text_bound, name_bound, open_bound, expression_bound, symbol_bound, terminal_bound, literal_bound, plain_bound}
 use Rattle.read_tokens.specs.Bounds.{input_bound, depth_bound, first_octal, raw_from, node_words}
@@ -42,7 +42,7 @@ use Rattle.prepare.specs.Reads.{verdict_of, read_of}
 use Rattle.match_lake.specs.Asking.{none_matches, way_number, way_in}
 use Rattle.gurkenmond.specs.Calls.{sets_of, cannot_skip_of, match_of, lake_of, write_own_of, write_plain_of, write_json_of, read_json_of, summarise_of, spot_of}
 use Rattle.prepare.specs.Prepare.{prepared_by, prepared, refuses}
-use Rattle.cases.specs.Ask.{Said, Case, bytes as text-bytes, answered}
+use Rattle.cases.specs.Ask.{Case, bytes as text-bytes, answered}
 use Rattle.cases.specs.Table.{cases}
 
 pub cases-right : map (λ (c : Case). answered c.asked) cases ≡ map (λ (c : Case). c.said) cases

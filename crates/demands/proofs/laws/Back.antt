@@ -1,6 +1,6 @@
 -- There and back: the plain text of an accepted grammar, read again in plain mode, is accepted and has the same plain bodies; its own text is read as the
 -- same rules. What demand 3 and `own-text-back` (Demands.antt) stand on. Assumes nothing.
-use Rattle.std.specs.Prelude.{ℕ, ◌+◌, ◌*◌, ◌≤◌, ◌<◌, ◌≡◌, Bool, true, false, get_or, ltb}
+use Rattle.std.specs.Prelude.{ℕ, ◌+◌, ◌*◌, ◌≤◌, ◌≡◌, get_or, ltb}
 use Rattle.std.proofs.Math.Path.{refl, sym, ap, ap₂, subst}
 use Rattle.std.proofs.Common.{◌∙◌, arith}
 use mathlib.Core.List.{List}
@@ -15,7 +15,7 @@ use Rattle.grammar.specs.Exp.{Exp, Rule}
 use Rattle.grammar.specs.Syntax.{Rules}
 use Rattle.grammar.specs.Trees.{trees}
 use Rattle.grammar.specs.Numbers.{Grammar, symbols_of, terminals_of, expressions_of, numbered}
-use Rattle.grammar.specs.Refusal.{Refusal, refusal, refuse_if, ◌▸◌}
+use Rattle.grammar.specs.Refusal.{Refusal, refuse_if, ◌▸◌}
 use Rattle.read_syntax.specs.Reading.{too_many, refuses_text, rules_of}
 use Rattle.prepare.specs.steps.Scanned.{scanned}
 use Rattle.prepare.specs.laws.Chain.{text-by-scan}

@@ -2,7 +2,7 @@
 -- holds anywhere (01, Refusal numbers, in order of check; "the table's exact conditions"). Assumes nothing.
 use Rattle.std.specs.Prelude.{ℕ, suc, ◌≤◌, ◌<◌, ◌≡◌, Bool, true, false, not, ◌&&◌, List, [], ◌∷◌, length, ltb, leb}
 use Rattle.std.proofs.Math.Path.{refl, ap, ap₂}
-use Rattle.std.proofs.Common.{sym, ◌∙◌, subst, true≢false, inl, inr, arith, ltb-true, ltb-false, lt-ltb, le-ltb, le-leb, leb-true}
+use Rattle.std.proofs.Common.{sym, ◌∙◌, subst, true≢false, inl, inr, ltb-true, ltb-false, lt-ltb, le-ltb, le-leb, leb-true}
 use Rattle.std.proofs.Math.Option.{Option, none, some}
 use Rattle.base_facts.specs.laws.Bools.{and_parts}
 use Rattle.read_tokens.specs.declared.Mode.{Mode}
@@ -15,7 +15,7 @@ use Rattle.grammar.specs.Refusal.{Refusal, refusal, refuse_if, refuse_at, ◌▸
 use Rattle.read_syntax.specs.Machine.{start, Judged, fine, syntax, wide, judge, place_of}
 use Rattle.read_syntax.specs.Offence.{Judges}
 use Rattle.read_syntax.specs.Grammar.{GrammarOf}
-use Rattle.read_syntax.specs.Reading.{too_long, offence, second, unruled, lefts_in, too_many, refuses_text, rules_of}
+use Rattle.read_syntax.specs.Reading.{too_long, offence, second, unruled, lefts_in, too_many, rules_of}
 use Rattle.read_syntax.specs.steps.Found.{found}
 use Rattle.read_syntax.proofs.laws.Bounds.{judged, one_answer}
 use Rattle.read_syntax.proofs.laws.Grammars.{one-grammar}

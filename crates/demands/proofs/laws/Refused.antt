@@ -1,6 +1,6 @@
 -- What a match, the lake question and the writing calls answer where the first row of their list is found, with all lent memory untouched, and what is known
 -- where none is (01, Refusal numbers: "A refusal that is checked no later than 10 leaves all lent memory untouched"). Assumes nothing.
-use Rattle.std.specs.Prelude.{ℕ, ◌≤◌, ◌≡◌, Bool, true, false, not, ◌&&◌, List, length, ltb}
+use Rattle.std.specs.Prelude.{ℕ, ◌≤◌, ◌≡◌, not, ◌&&◌, List, length, ltb}
 use Rattle.std.proofs.Math.Path.{refl, ap}
 use Rattle.std.proofs.Math.Option.{Option, none, some}
 use Rattle.std.proofs.Math.Dec.{leb}

@@ -1,7 +1,7 @@
 -- The answer of a match, from what a match on a table comes to. Assumes nothing.
 use Rattle.std.specs.Prelude.{ℕ, zero, suc, ◌≡◌, refl, true, List, get_or}
 use Rattle.std.proofs.Math.Path.{sym}
-use Rattle.std.proofs.Common.{ap, ◌∙◌, subst}
+use Rattle.std.proofs.Common.{ap, ◌∙◌}
 use Rattle.std.proofs.Math.Option.{Option, none, some}
 use Rattle.read_tokens.specs.declared.Mode.{Mode}
 use Rattle.grammar.specs.Numbers.{numbered}
@@ -13,7 +13,7 @@ use Rattle.lake_step_two.specs.steps.Stepped.{plain_of}
 use Rattle.match_cells.specs.steps.Runs.{Plain}
 use Rattle.match_list.specs.Nodes.{Listing, all, deep, full, list_of, listing_of, words_of, room_of}
 use Rattle.match_run.specs.declared.Match.{Match}
-use Rattle.match_run.specs.steps.Runs.{Loopless, not_matched, Lent, lent, listed_by, ran_by, ran_after, refuses_room, Ran}
+use Rattle.match_run.specs.steps.Runs.{Loopless, not_matched, Lent, lent, listed_by, ran_by, ran_after, Ran}
 use Rattle.prepare.specs.declared.Counted.{Counted}
 use Rattle.prepare.specs.declared.Verdict.{Verdict}
 use Rattle.prepare.specs.Prepare.{Prepared, prepared, prepared_by, refuses}

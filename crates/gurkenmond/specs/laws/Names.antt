@@ -31,7 +31,7 @@ use Rattle.write_put.specs.declared.Written.{Written}
 use Rattle.gurkenmond.specs.Calls.{SaysText, writing, write_by, is_symbol, symbol_name_of}
 use Rattle.write_put.specs.steps.Puts.{not_written, Put}
 use Rattle.match_ask.specs.laws.Asks.{symbols-of}
-use Rattle.gurkenmond.specs.laws.Writes.{told, says-by, puts, refused-by}
+use Rattle.gurkenmond.specs.laws.Writes.{says-by, puts, refused-by}
 
 -- no name is long
 name-short : (m : Mode) (h : Symbol) → FitName m h → length (symbol_text h) ≤ 1048576

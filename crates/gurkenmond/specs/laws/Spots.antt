@@ -2,13 +2,12 @@
 use Rattle.std.specs.Prelude.{ℕ, ◌<◌, ◌≤◌, ◌≡◌, refl, Bool, true, false, not, List, leb, ltb, length}
 use Rattle.std.proofs.Math.Path.{sym}
 use Rattle.std.proofs.Common.{ap, ap₂, ◌∙◌, lt-ltb, le-ltb, le-leb}
-use Rattle.std.proofs.Math.Option.{Option, none, some}
+use Rattle.std.proofs.Math.Option.{none, some}
 use Rattle.std.proofs.lemmas.Bool.{lt-leb}
 use Rattle.read_tokens.specs.Bounds.{input_bound}
-use Rattle.grammar.specs.Refusal.{Refusal, refusal, refuse_if, ◌▸◌}
-use Rattle.base_lines.specs.Lines.{line_of, column_of, place_at}
+use Rattle.grammar.specs.Refusal.{refusal, refuse_if, ◌▸◌}
+use Rattle.base_lines.specs.Lines.{place_at}
 use Rattle.base_lines.specs.declared.Place.{Place}
-use Rattle.prepare.specs.declared.Verdict.{Verdict}
 use Rattle.prepare.specs.declared.Verdict.TheVariants.{Accepted, Refused}
 use Rattle.gurkenmond.specs.declared.Spot.{Spot}
 use Rattle.gurkenmond.specs.Answers.{verdict_says}

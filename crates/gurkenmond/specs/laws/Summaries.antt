@@ -1,24 +1,21 @@
 -- The records of a node list, from the table that holds an accepted grammar (02, par. 2). Assumes nothing.
-use Rattle.std.specs.Prelude.{ℕ, ◌+◌, ◌<◌, ◌≤◌, ◌≡◌, Bool, true, false, ltb}
+use Rattle.std.specs.Prelude.{ℕ, ◌<◌, ◌≤◌, ◌≡◌, true, ltb}
 use native.Mathlib.Omega.{arith}
 use Rattle.std.proofs.Math.Path.{refl, sym, ap}
-use Rattle.std.proofs.Common.{ap₂, ◌∙◌, lt-ltb, le-ltb, ltb-false}
+use Rattle.std.proofs.Common.{ap₂, ◌∙◌, ltb-false}
 use mathlib.Core.List.{List}
 use Rattle.std.proofs.Math.Option.{Option, none, some}
 use Rattle.std.proofs.Math.ListN.{length}
 use Rattle.read_tokens.specs.declared.Mode.{Mode}
 use Rattle.read_tokens.specs.Bounds.{input_bound, symbol_bound, terminal_bound, expression_bound}
 use Rattle.grammar.specs.Numbers.{symbols_of, terminals_of, expressions_of, numbered}
-use Rattle.grammar.specs.Refusal.{Refusal, refusal, refuse_if, refuse_at, ◌▸◌}
+use Rattle.grammar.specs.Refusal.{Refusal, refuse_if, refuse_at, ◌▸◌}
 use Rattle.grammar_table.specs.Holds.{Holds}
 use Rattle.grammar_table.specs.Table.{symbol_count}
 use Rattle.grammar.specs.Exp.{Rule}
 use Rattle.read_syntax.specs.Reading.{rules_of, too_many}
-use Rattle.match_list.specs.Nodes.{nodes_at, room_of}
 use Rattle.match_ask.specs.laws.Asks.{symbols-of}
 use Rattle.prepare.specs.declared.Counted.{Counted}
-use Rattle.prepare.specs.declared.Verdict.{Verdict}
-use Rattle.prepare.specs.declared.Verdict.TheVariants.{Accepted, Refused}
 use Rattle.prepare.specs.Prepare.{prepared, prepared_by, refuses}
 use Rattle.prepare.specs.Reads.{verdict_of, is_refused, read_of}
 use Rattle.prepare.specs.steps.Scanned.{scanned}
@@ -28,12 +25,11 @@ use Rattle.tree_list.specs.Preorder.{bad_node}
 use Rattle.tree_summary.specs.declared.Plan.{Plan}
 use Rattle.tree_summary.specs.declared.Summary.{Summary}
 use Rattle.tree_summary.specs.declared.Summed.{Summed}
-use Rattle.tree_summary.specs.Summary.{summaries}
 use Rattle.tree_summary.specs.steps.Sweeping.{stepped, Sweepable}
 use Rattle.tree_summary.specs.steps.Judging.{summary_checks, no_plan, plan_by}
 use Rattle.tree_summary.specs.laws.Sweeping.{stepped-all}
 use Rattle.gurkenmond.specs.Answers.{verdict_says}
-use Rattle.gurkenmond.specs.Calls.{Summing, summing, summarise_after, summarise_of, SaysSummed, Spotting, spot_after, spot_of, SaysSpot}
+use Rattle.gurkenmond.specs.Calls.{Summing, summing, summarise_after, summarise_of, SaysSummed}
 use Rattle.gurkenmond.specs.steps.Plans.{plan_of}
 use Rattle.gurkenmond.specs.laws.Verdicts.{handed, if_none, at_none}
 

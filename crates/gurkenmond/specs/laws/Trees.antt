@@ -14,7 +14,7 @@ use Rattle.grammar_table.specs.Holds.{Holds}
 use Rattle.grammar_table.specs.Table.{symbol_count}
 use Rattle.read_syntax.specs.Reading.{rules_of}
 use Rattle.match_meaning.specs.Meaning.{Node}
-use Rattle.match_list.specs.Nodes.{nodes_at, room_of, written}
+use Rattle.match_list.specs.Nodes.{nodes_at, room_of}
 use Rattle.match_ask.specs.laws.Asks.{symbols-of}
 use Rattle.write_leaves.specs.steps.Printed.{called}
 use Rattle.prepare.specs.declared.Counted.{Counted}

@@ -1,6 +1,6 @@
 -- The numbers of a node's text are that part of the input which the public call answers, and what code makes of the node words. Assumes nothing.
-use Rattle.std.specs.Prelude.{ℕ, ◌-◌, ◌*◌, ◌+◌, ◌/◌, ◌<◌, ◌≡◌, refl, Bool, true, false, cond, List, [], length, get_or, take, drop}
-use Rattle.std.proofs.Common.{ap, ◌∙◌, sym as flip}
+use Rattle.std.specs.Prelude.{ℕ, ◌-◌, ◌*◌, ◌+◌, ◌≡◌, refl, Bool, true, false, cond, List, [], length, get_or, take, drop}
+use Rattle.std.proofs.Common.{ap}
 use Rattle.read_tokens.specs.Bounds.{node_words}
 use Rattle.match_meaning.specs.Meaning.{Node}
 use Rattle.match_list.specs.Nodes.{node_at, sound_at, part_of, node_text}

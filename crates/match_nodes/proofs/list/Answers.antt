@@ -10,9 +10,6 @@ use Rattle.match_desk.specs.laws.Learns.{desk-empty}
 use Rattle.match_lone.specs.laws.Lanes.{laid-behind}
 use Rattle.match_nodes.proofs.list.Goals as goal
 
-small : (c : tie.Start) → length c.args.nodes.now / 4 < 4611686018427387904
-small c = omega arith
-
 pub learn_all-requires : goal.learn_all-requires
 learn_all-requires c = (
   c.requires.0.fits,
@@ -34,14 +31,14 @@ pass-v-requires c = (
 
 pub returns-then-v-ge-REFUSED : goal.returns-then-v-ge-REFUSED
 unfolding room_of node_words
-returns-then-v-ge-REFUSED c = let a = pass-refused (room_of
+returns-then-v-ge-REFUSED c = let small : length c.args.nodes.now / 4 < 4611686018427387904 = omega arith in let a = pass-refused (room_of
     c.args.nodes.now)
     c.args.nodes.now _
     c.pass-v.result (list_of (bodies_of
     c.args.t.now)
     c.args.s.now
     c.args.cells.now) (omega
-    (arith, small c.before))
+    (arith, small))
     c.pass-v.ensures.0 c.if-v-ge-REFUSED.true in (c.answer.ensures ∙ a.0, a.1)
 
 pub pass-i-requires : goal.pass-i-requires
@@ -55,15 +52,14 @@ pass-i-requires c = (
 
 pub returns : goal.returns
 unfolding room_of node_words
-returns c = let a = pass-written (room_of
+returns c = let small : length c.args.nodes.now / 4 < 4611686018427387904 = omega arith in let a = pass-written (room_of
     c.args.nodes.now)
     c.args.nodes.now _ c.pass-v.result (list_of
     (bodies_of c.args.t.now)
     c.args.s.now
     c.args.cells.now) (omega (
       arith,
-      small
-          c.before,
+      small,
     )) c.pass-v.ensures.0 _
     c.pass-i.result (omega (arith, c.if-v-ge-REFUSED.false))
     c.pass-i.ensures.0 in (c.answer-2.ensures ∙ a.0, a.1)

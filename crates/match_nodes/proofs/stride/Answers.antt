@@ -1,5 +1,4 @@
 use native.Mathlib.Omega.{arith}
-use Prim.Native.Nat.{◌-◌}
 use mathlib.Core.Path.{refl, ◌∙◌}
 use Rattle.match_nodes.specs.steps.Passes.{out}
 use Rattle.match_nodes.specs.laws.Lanes.{lane-none, lane-on}

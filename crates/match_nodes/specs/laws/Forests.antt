@@ -17,7 +17,6 @@ use Rattle.grammar_table.specs.Holds.{Holds, present, roots_from}
 use Rattle.grammar_table.specs.Trees.{below}
 use Rattle.grammar_table.specs.laws.Places.{up_to-long, up_to-at}
 use Rattle.grammar_table.specs.laws.Parts.{parts-long, size-pos, root-le, total, Seg, seg-left, seg-right, seg-one}
-use Rattle.grammar_table.specs.laws.Trees.{below_in}
 use Rattle.lake_step_one.proofs.laws.Held.{rights-long, expressions-are}
 use Rattle.lake_calls.specs.laws.Rights.{root-at}
 use Rattle.match_desk.specs.steps.Desk.{kind_of, left_part, right_part, Parted, Forest}

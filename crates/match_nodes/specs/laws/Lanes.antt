@@ -1,5 +1,5 @@
 -- Rounds that need no walk: what a byte decides of one, one after the other, and the turn that they are. Assumes nothing.
-use Rattle.std.specs.Prelude.{ℕ, zero, suc, ◌+◌, ◌-◌, ◌*◌, ◌≤◌, ◌<◌, ◌≡◌, length}
+use Rattle.std.specs.Prelude.{ℕ, ◌+◌, ◌≤◌, ◌<◌, ◌≡◌, length}
 use Rattle.std.proofs.Math.Path.{refl, ap, subst, sym as flip}
 use Rattle.std.proofs.Common.{◌∙◌}
 use mathlib.Core.List.{List, [], ◌∷◌, ◌++◌}
@@ -21,7 +21,7 @@ use Rattle.match_walks.specs.laws.Walks.{again-more}
 use Rattle.match_lone.specs.steps.Lone.{Stands, Settles, Lone, Repeated}
 use Rattle.match_nodes.specs.steps.Passes.{Out, out, run}
 use Rattle.match_nodes.specs.steps.Turns.{Ready, State, turns, Turned}
-use Rattle.match_nodes.specs.steps.Lanes.{Laned, Strides}
+use Rattle.match_nodes.specs.steps.Lanes.{Laned}
 use Rattle.match_nodes.specs.laws.Passes.{run-append}
 use Rattle.match_nodes.specs.laws.Turns.{climb-few, symbol-in, under-is}
 

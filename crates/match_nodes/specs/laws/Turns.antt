@@ -23,7 +23,7 @@ use Rattle.match_list.proofs.laws.NodeSteps.{nodes-more, nodes-fails}
 use Rattle.match_nodes.specs.laws.Passes.{run_none, note-deep}
 use Rattle.grammar_table.specs.Trees.{tree_of, bodies_of}
 use Rattle.match_cells.specs.laws.Rows.{bodies-length, body_at}
-use Rattle.match_walks.specs.steps.Tasks.{Task, walk, again, enter, under, takes, walked, nodes, after, Able, listed, AllAble, rank, cost, cost_of, to_do, Step, Moves}
+use Rattle.match_walks.specs.steps.Tasks.{Task, walk, enter, under, takes, walked, nodes, after, listed, AllAble, rank, cost, cost_of, to_do, Moves}
 use Rattle.match_desk.specs.steps.Desk.{returns_at, parent_of, return_of, Desk, Silent}
 use Rattle.match_walks.specs.steps.Waits.{going, waiting, tasks_of, climb}
 use Rattle.match_walks.specs.steps.Walks.{Walkable, Walked, Risen}

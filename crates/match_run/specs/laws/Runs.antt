@@ -10,9 +10,8 @@ use Rattle.grammar.specs.Refusal.{Refusal, refusal, refuse_if, ◌▸◌}
 use Rattle.grammar_table.specs.Table.{symbol_count}
 use Rattle.grammar_table.specs.Trees.{bodies_of}
 use Rattle.lake_step_one.specs.steps.Made.{with_bodies}
-use Rattle.lake_plain.specs.Calls.{loop}
 use Rattle.lake_calls.specs.laws.Trees.{bodies-are}
-use Rattle.match_list.specs.Nodes.{Listing, list_of, listing_of, words_of, room_of}
+use Rattle.match_list.specs.Nodes.{list_of, listing_of, words_of, room_of}
 use Rattle.match_cells.specs.laws.Agrees.{Right}
 use Rattle.match_cells.specs.steps.Runs.{Plain, Fills}
 use Rattle.match_cells.specs.laws.Runs.{bodies_of_lem, cells_right}
