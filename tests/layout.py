@@ -61,7 +61,7 @@ def code():
 
 
 def is_law(path):
-    return "/specs/laws/" in path
+    return "/specs/laws/" in path or "/proofs/laws/" in path
 
 
 def definitions():
@@ -305,7 +305,7 @@ def counted():
     yield "long lines in code", long_lines(code(), LONGEST_LINE)
     yield "long lines in definitions", long_lines(definitions(), LONGEST_LINE)
     yield "long lines in documents", long_lines(files("*.md") + files("docs/*.md"), LONGEST_LINE_OF_A_DOCUMENT)
-    yield "long lines in proofs", long_lines(files("crates/*/proofs/**/*.antt"), LONGEST_LINE_OF_A_PROOF)
+    yield "long lines in proofs", long_lines([path for path in files("crates/*/proofs/**/*.antt") if not is_law(path)], LONGEST_LINE_OF_A_PROOF)
     yield "names with two meanings", two_meanings()
     yield "edges never named", edges()
     yield "definitions outside the tour", outside_the_tour()

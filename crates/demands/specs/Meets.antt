@@ -24,7 +24,8 @@ symbol_count_of m t = length (prepared m t).grammar.names
 -- they were"
 pub record Tabled (m : Mode) (t s cs c : List ℕ) : Type 0 where
   pub long : length c ≡ length cs
-  pub cell : (p r : ℕ) → p ≤ length s → r < symbol_count_of m t → (ns : List Node) × Derives (meant m t) s 0 (sym r) p (get_or c (p * symbol_count_of m t + r) 0) ns
+  pub cell : (p r : ℕ) → p ≤ length s → r < symbol_count_of m t → (ns : List Node) × Derives (meant m t) s 0 (sym r) p (get_or c (p * symbol_count_of m t + r)
+      0) ns
   pub later : (i : ℕ) → (length s + 1) * symbol_count_of m t ≤ i → get_or c i 0 ≡ get_or cs i 0
 
 -- the words are those nodes: "node words .. behind the last one written, stay as they were"

@@ -141,7 +141,12 @@ up_to f (suc n) = up_to f n ++ (f n ∷ [])
 
 -- the grammar that a table holds
 unfoldable pub grammar_in : List ℕ → Grammar
-grammar_in t = record { names = up_to (name_in t) (symbol_count t); rights = up_to (body_in t) (symbol_count t); terminals = up_to (leaf_in t) (terminal_count t) }
+grammar_in t = record {
+  names = up_to (name_in t) (symbol_count t);
+  rights = up_to (body_in t) (symbol_count t);
+  terminals = up_to (leaf_in t) (terminal_count
+      t);
+}
 
 -- the expression with number e, its parts by number
 unfoldable pub part_by : ℕ → ℕ → ℕ → Part

@@ -27,7 +27,8 @@ analysed marks roots parts most =
     let begins : List Beginning = beginnings (marked marks) parts in
     let bs : ℕ → Beginning = λ i. get_or begins i nothing in
     let root : ℕ → ℕ = λ r. get_or roots r 0 in
-    let succeed : Settled (List (List ℕ)) = least_by most (length parts) (over_parts (succeed_gifts bs root) 0 parts) (over_parts (succeed_edges bs root) 0 parts) in
+    let succeed : Settled (List (List ℕ)) = least_by most (length parts) (over_parts (succeed_gifts bs root) 0 parts) (over_parts (succeed_edges bs root) 0
+    parts) in
     let alt : Settled (List (List ℕ)) = least_by most (length parts) (over_parts (alt_gifts bs root (λ i. get_or succeed.state i empty)) 0 parts)
     (over_parts (alt_edges bs root) 0 parts) in
     record { marks = marks; roots = roots; parts = parts; begins = begins; succeeds = succeed.state; alts = alt.state; rounds = alt.count }

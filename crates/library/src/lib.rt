@@ -8,7 +8,8 @@ ghost use Rattle.match_list.specs.Nodes.{sound_at};
 ghost use Rattle.prepare.specs.Reads.{read_of};
 ghost use Rattle.gurkenmond.specs.Calls.{sets_of, cannot_skip_of, match_of, lake_of, write_own_of, write_plain_of, symbol_name_of};
 ghost use Rattle.gurkenmond.specs.Calls.{write_json_of, read_json_of, summarise_of, spot_of};
-ghost use Rattle.library_numbers.specs.Words.{mode_of, Answers, read_words, sets_words, lakes_words, sound_words, span_words, NumbersMatch, NumbersLake, NumbersText};
+ghost use Rattle.library_numbers.specs.Words.{mode_of, Answers, read_words, sets_words, lakes_words, sound_words, span_words, NumbersMatch, NumbersLake};
+ghost use Rattle.library_numbers.specs.Words.{NumbersText};
 ghost use Rattle.library_numbers.specs.Words.{NumbersParsed, NumbersSummed, spot_words};
 
 // 0, symbols, terminals, expressions.

@@ -3,7 +3,8 @@
 
 ghost use Rattle.std.specs.Prelude.{◌≡◌};
 ghost use Rattle.gurkenmond.specs.Answers.{verdict_says, outcome_says, way_says};
-ghost use Rattle.library_numbers.specs.Words.{mode_of, bit_of, four_words, read_numbers, sets_numbers, lakes_numbers, match_numbers, one_by, spot_by, span_words};
+ghost use Rattle.library_numbers.specs.Words.{mode_of, bit_of, four_words, read_numbers, sets_numbers, lakes_numbers, match_numbers, one_by, spot_by};
+ghost use Rattle.library_numbers.specs.Words.{span_words};
 
 use gurkenmond::{Mode, Outcome, Verdict, Way};
 use match_list::{END, NODE_WORDS, START};

@@ -90,7 +90,8 @@ module _ (s : List ℕ) (i : ℕ) where
   lake-first h f =
       sym (ap coded (ap (λ (l : List ℕ). laked i l) (apart h) ∙ by-letter (get_or s (i + 1) 0) (drop (i + 2) s) false (ne_eqb (kind_at (get_or s (i + 1) 0)) 2 f)))
 
-  behind : i + 1 < length s → kind_at (get_or s (i + 1) 0) ≡ 2 → (e : ℕ) → e ≡ i + 1 + length (name_span (drop (i + 1) s)) → laked i (drop (suc i) s) ≡ lake_by i (name_span (drop (i + 1) s)) (drop e s)
+  behind : i + 1 < length s → kind_at (get_or s (i + 1) 0) ≡ 2 → (e : ℕ) → e ≡ i + 1 + length (name_span (drop (i + 1) s)) → laked i (drop (suc i) s) ≡ lake_by i (name_span (drop (i + 1) s)) (drop e
+      s)
   behind h f e g =
       ap (λ (l : List ℕ). laked i l) (apart h)
       ∙ by-letter (get_or s (i + 1) 0) (drop (i + 2) s) true (eq-eqb (kind_at (get_or s (i + 1) 0)) 2 f)

@@ -39,7 +39,8 @@ fn read_node(
     requires { (symbols ≤ 64) × (st.depth ≤ 256) × (st.number < 9223372036854775808) }
     ensures { Turned (called false t.now) symbols input.now json.now gaps.old gaps.new
         st.depths st.number st.depth st.at
-        result.kind (nd result.node.symbol result.node.start result.node.end result.node.depth) result.next.depths result.next.number result.next.depth result.next.at }
+        result.kind (nd result.node.symbol result.node.start result.node.end result.node.depth) result.next.depths result.next.number result.next.depth
+        result.next.at }
 {
     let at = st.at;
     let depth = st.depth;

@@ -154,6 +154,7 @@ returns-in_default c = grown-as c.args.src.now c.args.dst.now c.args.src.now
     c.args.e)) (grown-nothing c.args.src.now c.args.dst.now c.args.m (length
     c.args.eps.now)) (by-rest (pair_at [] c.args.eps.now) (root_in c.args.t.now)
     c.args.e c.args.back c.node-k.result.op c.node-k.result.left c.node-k.result.right
-    c.in_default.in_default-own.rest.0.0.0.0.0.0.1 c.in_default.in_default-own.rest.0.0.0.0.0.1 c.in_default.in_default-own.rest.0.0.0.0.1 c.in_default.in_default-own.rest.0.0.0.1 c.in_default.in_default-own.rest.0.0.1 c.in_default.in_default-own.rest.0.1
+    c.in_default.in_default-own.rest.0.0.0.0.0.0.1 c.in_default.in_default-own.rest.0.0.0.0.0.1 c.in_default.in_default-own.rest.0.0.0.0.1 c.in_default.in_default-own.rest.0.0.0.1
+    c.in_default.in_default-own.rest.0.0.1 c.in_default.in_default-own.rest.0.1
     c.in_default.in_default-own.rest.1) (ap (edges_by c.args.back (pair_at [] c.args.eps.now) (root_in c.args.t.now)
     c.args.e) c.node-k.ensures.0)

@@ -66,7 +66,8 @@ AddedTerminals s n o mid m mid' m' = (number : Leaf → ℕ) (leaf : ℕ → Lea
 -- `s1 / .. / sn` behind the first m
 abbrev pub ChoiceTo : List ℕ → List ℕ → ℕ → ℕ → List ℕ → ℕ → List ℕ → ℕ → Type 0
 ChoiceTo t s r x mid m mid' m' =
-    (number : Leaf → ℕ) (leaf : ℕ → Leaf) → Numbered number leaf x → length mid ≡ table_words → Grew mid m (choice_parts number m (chosen_in t leaf s r x)) mid' m'
+    (number : Leaf → ℕ) (leaf : ℕ → Leaf) → Numbered number leaf x → length mid ≡ table_words → Grew mid m (choice_parts number m (chosen_in t leaf s r x))
+    mid' m'
 
 -- `!(s1 / .. / sn) .` behind the first m
 abbrev pub SkipTo : List ℕ → List ℕ → ℕ → ℕ → List ℕ → ℕ → List ℕ → ℕ → Type 0

@@ -73,4 +73,5 @@ ran_after none bodies s cs ws = ran_by (get_or (filled_by bodies s cs) 0 0) bodi
 
 -- what 9 to 12 and the match come to, for whatever bodies the table holds
 pub record Ran (t s cs ws new words : List ℕ) (r : Match) : Type 0 where
-  pub are : (g : Grammar) (bodies : List (Exp ℕ)) → Plain t g bodies → loop bodies ≡ none → lent r new words ≡ ran_after (refuses_room bodies s cs) bodies s cs ws
+  pub are : (g : Grammar) (bodies : List (Exp ℕ)) → Plain t g bodies → loop bodies ≡ none → lent r new words ≡ ran_after (refuses_room bodies s cs) bodies s cs
+      ws

@@ -24,19 +24,23 @@ returns-then-text-i c = c.plain.ensures ∙ token_end c.args.mode c.args.text.no
 pub returns-in-2 : goal.returns-in-2
 unfolding by_kind
 returns-in-2 c = c.name_token.ensures ∙ ap (λ (l : List ℕ). coded (named c.blanks-i.result (name_span l)))
-    (drop-cons c.args.text.now c.blanks-i.result 0 c.if-text-i.false) ∙ here c.args.mode c.args.text.now c.args.at c.blanks-i.result c.kind_of-k.result 2 c.blanks-i.ensures c.if-text-i.false c.kind_of-k.ensures c.in-2.is
+    (drop-cons c.args.text.now c.blanks-i.result 0 c.if-text-i.false) ∙ here c.args.mode c.args.text.now c.args.at c.blanks-i.result c.kind_of-k.result 2 c.blanks-i.ensures c.if-text-i.false
+    c.kind_of-k.ensures c.in-2.is
 
 pub returns-in-5 : goal.returns-in-5
 unfolding by_kind
-returns-in-5 c = c.plain-in-5.ensures ∙ one-is 13 _ ∙ here c.args.mode c.args.text.now c.args.at c.blanks-i.result c.kind_of-k.result 5 c.blanks-i.ensures c.if-text-i.false c.kind_of-k.ensures c.in-5.is
+returns-in-5 c = c.plain-in-5.ensures ∙ one-is 13 _ ∙ here c.args.mode c.args.text.now c.args.at c.blanks-i.result c.kind_of-k.result 5 c.blanks-i.ensures c.if-text-i.false c.kind_of-k.ensures
+    c.in-5.is
 
 pub returns-in-6 : goal.returns-in-6
 unfolding by_kind
-returns-in-6 c = c.plain-in-6.ensures ∙ one-is 14 _ ∙ here c.args.mode c.args.text.now c.args.at c.blanks-i.result c.kind_of-k.result 6 c.blanks-i.ensures c.if-text-i.false c.kind_of-k.ensures c.in-6.is
+returns-in-6 c = c.plain-in-6.ensures ∙ one-is 14 _ ∙ here c.args.mode c.args.text.now c.args.at c.blanks-i.result c.kind_of-k.result 6 c.blanks-i.ensures c.if-text-i.false c.kind_of-k.ensures
+    c.in-6.is
 
 pub returns-in-7 : goal.returns-in-7
 unfolding by_kind
-returns-in-7 c = c.plain-in-7.ensures ∙ one-is 12 _ ∙ here c.args.mode c.args.text.now c.args.at c.blanks-i.result c.kind_of-k.result 7 c.blanks-i.ensures c.if-text-i.false c.kind_of-k.ensures c.in-7.is
+returns-in-7 c = c.plain-in-7.ensures ∙ one-is 12 _ ∙ here c.args.mode c.args.text.now c.args.at c.blanks-i.result c.kind_of-k.result 7 c.blanks-i.ensures c.if-text-i.false c.kind_of-k.ensures
+    c.in-7.is
 
 pub returns-in-8 : goal.returns-in-8
 unfolding by_kind
@@ -50,7 +54,8 @@ returns-in-9 c = c.plain-in-9.ensures ∙ one-is _ _ ∙ ap (λ (k : ℕ). made 
 
 pub returns-in-10 : goal.returns-in-10
 unfolding by_kind
-returns-in-10 c = c.plain-in-10.ensures ∙ one-is 3 _ ∙ here c.args.mode c.args.text.now c.args.at c.blanks-i.result c.kind_of-k.result 10 c.blanks-i.ensures c.if-text-i.false c.kind_of-k.ensures c.in-10.is
+returns-in-10 c = c.plain-in-10.ensures ∙ one-is 3 _ ∙ here c.args.mode c.args.text.now c.args.at c.blanks-i.result c.kind_of-k.result 10 c.blanks-i.ensures c.if-text-i.false c.kind_of-k.ensures
+    c.in-10.is
 
 pub returns-in-11 : goal.returns-in-11
 unfolding by_kind
@@ -65,4 +70,5 @@ unfolding by_kind
 returns-in-13 c = c.less_token.ensures ∙ here c.args.mode c.args.text.now c.args.at c.blanks-i.result c.kind_of-k.result 13 c.blanks-i.ensures c.if-text-i.false c.kind_of-k.ensures c.in-13.is
 
 pub returns-in_default : goal.returns-in_default
-returns-in_default c = c.plain-in_default.ensures ∙ bad-is _ ∙ bad_kind _ _ _ _ _ c.in_default.in_default-own.rest ∙ here c.args.mode c.args.text.now c.args.at c.blanks-i.result c.kind_of-k.result _ c.blanks-i.ensures c.if-text-i.false c.kind_of-k.ensures refl
+returns-in_default c = c.plain-in_default.ensures ∙ bad-is _ ∙ bad_kind _ _ _ _ _ c.in_default.in_default-own.rest ∙ here c.args.mode c.args.text.now c.args.at c.blanks-i.result c.kind_of-k.result _
+    c.blanks-i.ensures c.if-text-i.false c.kind_of-k.ensures refl

@@ -1,5 +1,6 @@
 -- The fields of a line: words apart by one space, bytes in hexadecimal, decimal numbers. Assumes nothing: these are definitions.
-use Rattle.std.specs.Prelude.{ℕ, zero, suc, ◌+◌, ◌-◌, ◌*◌, ◌/◌, ◌%◌, Bool, true, false, cond, ◌&&◌, ◌||◌, List, [], ◌∷◌, length, get_or, take, drop, eqb, leb, ltb}
+use Rattle.std.specs.Prelude.{ℕ, zero, suc, ◌+◌, ◌-◌, ◌*◌, ◌/◌, ◌%◌, Bool, true, false, cond, ◌&&◌, ◌||◌, List, [], ◌∷◌, length, get_or, take, drop, eqb, leb}
+use Rattle.std.specs.Prelude.{ltb}
 
 -- the bytes from one place up to another
 abbrev pub field : List ℕ → ℕ → ℕ → List ℕ

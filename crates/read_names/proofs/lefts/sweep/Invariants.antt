@@ -8,7 +8,8 @@ use Rattle.read_names.specs.laws.Sweeps.{Going, Sweeping}
 use Rattle.read_names.proofs.lefts.sweep.Given as goal
 
 abbrev pub invariant-loop-at : goal.invariant-loop-at
-invariant-loop-at l = (l.at ≤ length l.text) × Sweeping l.mode l.text l.a l.low l.high l.count l.at l.marks × (l.used ≡ false → Going l.mode l.text (lacks5 l.mode l.text) (within l.text l.low l.high) l.at)
+invariant-loop-at l = (l.at ≤ length l.text) × Sweeping l.mode l.text l.a l.low l.high l.count l.at l.marks × (l.used ≡ false → Going l.mode l.text (lacks5 l.mode l.text) (within l.text l.low l.high)
+    l.at)
 
 abbrev pub decreases-loop-at : goal.decreases-loop-at
 decreases-loop-at l = length l.text - l.at
