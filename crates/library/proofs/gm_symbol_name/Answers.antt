@@ -1,0 +1,11 @@
+use mathlib.Core.Path.{ap₂, ◌∙◌, refl}
+use Rattle.library_numbers.specs.Words.{one_by}
+use Rattle.library.proofs.gm_symbol_name.Goals as goal
+
+pub returns : goal.returns
+returns c =
+    rw (← c.mode_of-m.ensures) (
+      c.of_one-w.ensures ∙ ap₂ one_by c.symbol_name-a.ensures.1 c.symbol_name-a.ensures.0,
+      refl,
+      c.symbol_name-a.ensures.2,
+    )
