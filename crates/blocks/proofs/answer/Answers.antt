@@ -1,7 +1,6 @@
-use mathlib.Core.Path.{◌≡◌, sym}
+use mathlib.Core.Path.{sym}
 use native.Mathlib.Omega.{arith}
 use lib.Seq.{length-take-le}
-use borrow.Author.Rules.{rules}
 use Rattle.blocks.proofs.answer.Goals as goal
 
 pub slice_bounds-print_tree-end : goal.slice_bounds-print_tree-end

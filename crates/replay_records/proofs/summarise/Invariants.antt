@@ -1,6 +1,4 @@
 use Prim.Native.Nat.{◌-◌, ◌≤◌}
-use native.Mathlib.Omega.{arith}
-use borrow.Author.Rules.{rules}
 use Rattle.replay_records.proofs.summarise.Given as goal
 
 abbrev pub invariant-loop-i : goal.invariant-loop-i
