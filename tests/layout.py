@@ -132,7 +132,7 @@ def two_meanings():
     """Names that two crates give to a definition, a record or a data type."""
     crates_of = {}
     for path in believed():
-        for found in re.findall(r"(?m)^\s*(?:abbrev|unfoldable) pub ([^\W\d][\w′-]*) :|^pub (?:record|data) (\w+)", read(path)):
+        for found in re.findall(r"(?m)^\s*(?:abbrev|unfoldable) pub ([^\W\d][\w'′-]*) :|^pub (?:record|data) (\w+)", read(path)):
             crates_of.setdefault(found[0] or found[1], set()).add(path.split("/")[1])
     for name, places in sorted(crates_of.items()):
         if len(places) > 1:

@@ -9,7 +9,7 @@ use Rattle.write_rules.specs.Writing.{byte_text, lit_char, class_char, lit_chars
 abbrev from : ℕ → List Bool → List Bool
 from b marks = replicate b false ++ marks
 
--- a, b and c are one run: `[a_c]`
+-- a, b and c are one run: `[a-c]`
 one-run : leaf_text (class (from 97 (true ∷ true ∷ true ∷ false ∷ []))) ≡ 91 ∷ 97 ∷ 45 ∷ 99 ∷ 93 ∷ []
 unfolding byte_text raw_from class_char runs run_text runs_text leaf_text
 one-run = refl
