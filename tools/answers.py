@@ -162,6 +162,45 @@ def head_of(block):
     return lines[:k], m.group(2), typed, "\n".join(lines[k2:])
 
 
+PARAM = re.compile(r"(?<![^\s(){}\[\],;])([^\s(){}\[\],;.]+)(?=[\s(){}\[\],;.]|$)")
+
+
+def of_loop(before, name, body, names, kind, loop, lead=""):
+    """An invariant or a measure, and what is wrong with it. The older form took by place every variable as it was when the loop began, then those that it
+    changes; today's is a function of `l`."""
+    if loop not in names.loops:
+        return None, f"no loop {loop}"
+    new, variables = names.loops[loop]
+    changed = names.changed[list(names.loops).index(loop)]
+    fields = [("l.initial." if c else "l.") + v for v, c in zip(variables, changed)] + ["l." + v for v, c in zip(variables, changed) if c]
+    d = re.match(re.escape(name) + r"((?: [^\s=]+)*) =\s*(.*)", body, re.S)
+    params = d.group(1).split()
+    given = dict(zip(params, fields))
+    value = PARAM.sub(lambda w: given.get(w.group(1), w.group(1)), d.group(2))
+    sep = "\n    " if "\n" in value and re.search(re.escape(name) + r"[^\n]* =\n", body) else " "
+    new = f"{kind}-{lead}{new}"
+    text = "\n".join(before + [f"abbrev pub {new} : goal.{new}", f"{new} l ={sep}{value}"])
+    return text, None if len(params) == len(fields) else f"{name}: {params} but {fields}"
+
+
+def of_goal(before, name, body, names, old, bound, lead=""):
+    """An answer, and what is wrong with it; neither where the check finds the answer by itself. `bound` is what the answer takes."""
+    d = re.match(r"((?:unfolding [^\n]*\n(?:[ ]+[^\n]*\n)*)*)" + re.escape(name) + f" {bound}" + r"(?: κs)? =(\s*)(.*)", body, re.S)
+    if not d:
+        return None, f"{name}: its form"
+    opened, space, said = d.groups()
+    if said.strip() in FOUND and not opened:
+        return None, None
+    if norm(old) not in names.needs:
+        return None, None if norm(old) in names.settled else f"no goal {old}: {sorted(names.needs)}"
+    new = lead + names.needs[norm(old)]
+    value = facts(said, names, names.at[norm(old)])
+    if value.startswith("⊎_elim") and value.endswith(".branch"):
+        # a join's ways are no sum today, and the check takes them one by one
+        return None, f"{new}: left to the check: {value[:80]}"
+    return "\n".join(before + [f"pub {new} : goal.{new}", *([opened.rstrip("\n")] if opened else []), f"{new} {bound} ={space}{value}"]), None
+
+
 def pruned(text):
     """The file without the names of its `use` lines that nothing below them says."""
     lines = text.split("\n")
@@ -245,65 +284,30 @@ def turn_by(path, crate, table, by_place):
             continue
         m = re.match(r"tie\.(invariant|decreases)-(loop\d*)$", typed)
         if m:
-            kind, loop = m.groups()
-            if loop not in names.loops:
-                said.append(f"no loop {loop}")
-                continue
-            new, variables = names.loops[loop]
-            changed = names.changed[list(names.loops).index(loop)]
-            d = re.match(re.escape(name) + r"((?: [^\s=]+)*) =\s*(.*)", body, re.S)
-            params = d.group(1).split()
-            fields = [("l.initial." if c else "l.") + v for v, c in zip(variables, changed)] + ["l." + v for v, c in zip(variables, changed) if c]
-            if len(params) != len(fields):
-                said.append(f"loop {loop}: {params} but {fields}")
-            given = dict(zip(params, fields))
-            value = re.sub(r"(?<![^\s(){}\[\],;])([^\s(){}\[\],;.]+)(?=[\s(){}\[\],;.]|$)", lambda w: given.get(w.group(1), w.group(1)), d.group(2))
-            sep = "\n" if "\n" in value and not value.startswith("\n") and d.group(2) and re.search(re.escape(name) + r"[^\n]* =\n", body) else " "
-            if sep == "\n":
-                value = "    " + value
-            invariants.append("\n".join(before + [f"abbrev pub {kind}-{new} : goal.{kind}-{new}", f"{kind}-{new} l ={sep}{value}"]))
+            part, problem = of_loop(before, name, body, names, *m.groups())
+            invariants += [part] if part else []
+            said += [problem] if problem else []
             continue
         m = re.match(r"tie\.Need-(\S+)", typed)
         if m:
-            old = norm(m.group(1))
-            d = re.match(r"((?:unfolding [^\n]*\n(?:[ ]+[^\n]*\n)*)*)" + re.escape(name) + r" c( κs)? =(\s*)(.*)", body, re.S)
-            if not d:
-                said.append(f"{name}: its form")
-                kept.append(block)
-                continue
-            if d.group(4).strip() in FOUND and not d.group(1):
-                continue
-            if old not in names.needs:
-                if old not in names.settled:
-                    said.append(f"no goal {m.group(1)}: {sorted(names.needs)}")
-                continue
-            new = names.needs[old]
-            value = facts(d.group(4), names, names.at[old])
-            if ".branch" in value and "⊎_elim" in value:
-                # a join's ways are no sum today, and the check takes them one by one
-                said.append(f"{new}: left to the check: {value[:80]}")
-                continue
-            lines = value.split("\n")
-            if len(lines) > 1:
-                # an unparenthesised term over several lines is laid out by rt fmt
-                value = "\n".join(lines)
-            answers.append((new, "\n".join(before + [f"pub {new} : goal.{new}"] + ([d.group(1).rstrip("\n")] if d.group(1) else []) + [f"{new} c ={d.group(3)}{value}"])))
+            part, problem = of_goal(before, name, body, names, m.group(1), "c")
+            answers += [part] if part else []
+            said += [problem] if problem else []
             continue
         if "tie." in block:
             said.append(f"{name} : {typed[:60]}")
         kept.append(block)
     said += names.lost
-    rattle = [u for u in uses]
     own = f"Rattle.{crate}.proofs.{inner}"
-    body = "\n\n".join(kept + [a for _, a in answers])
+    body = "\n\n".join(kept + answers)
     needed = [line for alias, line in made.items() if alias and alias != "tie" and re.search(r"\b" + re.escape(alias) + r"\.", body)]
     head = [c for c in comments if "meets its contract" not in c]
     if answers or kept:
         with open(os.path.join(folder, "Answers.antt"), "w", encoding="utf-8") as f:
-            f.write(pruned("\n".join(head + rattle + needed + [f"use {own}.Goals as goal", "", body, ""])))
+            f.write(pruned("\n".join(head + uses + needed + [f"use {own}.Goals as goal", "", body, ""])))
     if invariants:
         with open(os.path.join(folder, "Invariants.antt"), "w", encoding="utf-8") as f:
-            f.write(pruned("\n".join(rattle + [f"use {own}.Given as goal", "", "\n\n".join(invariants), ""])))
+            f.write(pruned("\n".join(uses + [f"use {own}.Given as goal", "", "\n\n".join(invariants), ""])))
     os.remove(path)
     return said, names.lost
 
@@ -341,34 +345,16 @@ def turn_cycle(path, crate, tables):
         m = re.match(r"(\S+?)-lts\.(invariant|decreases)-(loop\d*)$", typed)
         if m:
             func, names = functions[norm(m.group(1))]
-            new, variables = names.loops[m.group(3)]
-            changed = names.changed[list(names.loops).index(m.group(3))]
-            d = re.match(re.escape(name) + r"((?: [^\s=]+)*) =\s*(.*)", body, re.S)
-            fields = [("l.initial." if c else "l.") + v for v, c in zip(variables, changed)] + ["l." + v for v, c in zip(variables, changed) if c]
-            given = dict(zip(d.group(1).split(), fields))
-            if len(given) != len(fields):
-                said.append(f"{name}: {given} {fields}")
-            value = re.sub(r"(?<![^\s(){}\[\],;])([^\s(){}\[\],;.]+)(?=[\s(){}\[\],;.]|$)", lambda w: given.get(w.group(1), w.group(1)), d.group(2))
-            invariants.append("\n".join(before + [f"abbrev pub {m.group(2)}-{func}-{new} : goal.{m.group(2)}-{func}-{new}", f"{m.group(2)}-{func}-{new} l = {value}"]))
+            part, problem = of_loop(before, name, body, names, m.group(2), m.group(3), func + "-")
+            invariants += [part] if part else []
+            said += [problem] if problem else []
             continue
         m = re.match(r"\(t : ℕ\) → (\S+?)-lts\.Need-(\S+)", typed)
         if m:
             func, names = functions[norm(m.group(1))]
-            old = norm(m.group(2))
-            d = re.match(r"((?:unfolding [^\n]*\n(?:[ ]+[^\n]*\n)*)*)" + re.escape(name) + r" t c( κs)? =(\s*)(.*)", body, re.S)
-            if not d:
-                said.append(f"{name}: its form")
-                kept.append(block)
-                continue
-            if d.group(4).strip() in FOUND and not d.group(1):
-                continue
-            if old not in names.needs:
-                if old not in names.settled:
-                    said.append(f"no goal {m.group(2)}: {sorted(names.needs)}")
-                continue
-            new = (func + "-" if len(functions) > 1 else "") + names.needs[old]
-            value = facts(d.group(4), names, names.at[old])
-            answers.append("\n".join(before + [f"pub {new} : goal.{new}"] + ([d.group(1).rstrip("\n")] if d.group(1) else []) + [f"{new} t c ={d.group(3)}{value}"]))
+            part, problem = of_goal(before, name, body, names, m.group(2), "t c", func + "-" if len(functions) > 1 else "")
+            answers += [part] if part else []
+            said += [problem] if problem else []
             continue
         if "-lts." in block:
             said.append(f"{name} : {typed[:60]}")
