@@ -14,43 +14,33 @@ pub struct Place {
 // The byte that ends a line.
 const LINE_FEED: u8 = 10;
 
-// The place behind a byte.
-fn place_behind(at: Place, byte: u8) -> Place
-    requires { (at.line < 9223372036854775808) × (at.column < 9223372036854775808) }
-    ensures { result ≡ behind at byte }
-{
-    if byte == LINE_FEED {
-        return Place {
-            line: at.line + 1,
-            column: 1,
-        };
+impl Place {
+    // The place behind a byte that stands here.
+    fn behind(self, byte: u8) -> Place
+        requires { (self.line < 9223372036854775808) × (self.column < 9223372036854775808) }
+        ensures { result ≡ behind self byte }
+    {
+        if byte == LINE_FEED {
+            Place {
+                line: self.line + 1,
+                column: 1,
+            }
+        } else {
+            Place {
+                column: self.column + 1,
+                ..self
+            }
+        }
     }
-    Place {
-        line: at.line,
-        column: at.column + 1,
-    }
-}
-
-fn lesser(a: usize, b: usize) -> usize
-    ensures { result ≡ min a b }
-{
-    if a <= b {
-        return a;
-    }
-    b
 }
 
 // Of a position in a text; one behind its end is taken for the end.
 pub fn place_of(text: &[u8], position: usize) -> Place
     ensures { result ≡ place_at text.now position }
 {
-    let to = lesser(position, text.len());
     let mut at = Place { line: 1, column: 1 };
-    let mut i = 0;
-    while i < to {
-        let b = text[i];
-        at = place_behind(at, b);
-        i += 1;
+    for byte in &text[..position.min(text.len())] {
+        at = at.behind(*byte);
     }
     at
 }

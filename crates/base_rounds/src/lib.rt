@@ -6,17 +6,13 @@ ghost use Rattle.base_rounds.specs.laws.Cells.{Every};
 ghost use Rattle.base_rounds.specs.laws.Pair.{Set2};
 ghost use Rattle.base_rounds.specs.laws.Sys.{pushed, round_of, Shaped, empties, Stepped, Solved};
 
-// What every edge hands on from `old`, added to `new`.
+// What every edge hands on from `old`, added to `new`. Edges are two lists here and below, as `Solved` says them.
 pub fn push(src: &[usize], dst: &[usize], old: &[[u64; 2]], new: &mut [[u64; 2]])
     requires { Shaped src.now dst.now (length new.old) × (length old.now ≡ length new.old) }
     ensures { new.new ≡ pushed src.now dst.now (length src.now) old.now new.old }
 {
-    let mut e = 0;
-    while e < src.len() {
-        let s = src[e];
-        let d = dst[e];
-        new[d] = base_words::union(new[d], old[s]);
-        e += 1;
+    for (from, to) in src.iter().zip(dst) {
+        new[*to] = base_words::union(new[*to], old[*from]);
     }
 }
 
@@ -24,35 +20,20 @@ pub fn copy(from: &[[u64; 2]], to: &mut [[u64; 2]])
     requires { length from.now ≡ length to.old }
     ensures { to.new ≡ from.now }
 {
-    let mut i = 0;
-    while i < to.len() {
-        to[i] = from[i];
-        i += 1;
-    }
+    to.copy_from_slice(from);
 }
 
 pub fn equal(a: &[[u64; 2]], b: &[[u64; 2]]) -> bool
     requires { length a.now ≡ length b.now }
     ensures { Decides (a.now ≡ b.now) result }
 {
-    let mut i = 0;
-    while i < a.len() {
-        if !base_words::same(a[i], b[i]) {
-            return false;
-        }
-        i += 1;
-    }
-    true
+    a == b
 }
 
 pub fn clear(to: &mut [[u64; 2]])
     ensures { to.new ≡ empties (length to.old) }
 {
-    let mut i = 0;
-    while i < to.len() {
-        to[i] = [0, 0];
-        i += 1;
-    }
+    to.fill([0, 0]);
 }
 
 // One round in place, by way of `next`: whether it changed anything.
@@ -73,7 +54,7 @@ pub fn step(
     !still
 }
 
-// Rounds from the empty sets until nothing changes: how many.
+// Rounds from the empty sets until nothing changes: how many. It ends where a round changes nothing, and at no count.
 pub fn solve(
     src: &[usize],
     dst: &[usize],

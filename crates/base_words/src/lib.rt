@@ -23,15 +23,15 @@ pub fn with(s: [u64; 2], k: usize) -> [u64; 2]
     requires { k < 128 }
     ensures { result ≡ with_of s k }
 {
-    let mut r = s;
-    r[k / 64] = r[k / 64] | 1 << (k % 64);
-    r
+    let mut more = s;
+    more[k / 64] |= 1 << (k % 64);
+    more
 }
 
 pub fn same(a: [u64; 2], b: [u64; 2]) -> bool
     ensures { Decides (a ≡ b) result }
 {
-    a[0] == b[0] && a[1] == b[1]
+    a == b
 }
 
 pub fn empty() -> [u64; 2]
@@ -44,7 +44,7 @@ pub fn empty() -> [u64; 2]
 pub fn word(a: &[u32], i: usize) -> usize
     ensures { (result ≡ get_or a.now i 0) × (result < 4294967296) }
 {
-    if i < a.len() { a[i] as usize } else { 0 }
+    a.get(i).map_or(0, |x| *x as usize)
 }
 
 // Stores v at i of lent words; past the end nothing.

@@ -5,7 +5,6 @@
 
 use explain_shown::say;
 use gurkenmond::{Mode, Spot, Verdict};
-use std::os::fd::AsRawFd;
 
 mod words;
 
@@ -28,31 +27,19 @@ fn print_place(at: Spot) {
 
 fn explain_refusal(text: &[u8], number: usize, place: usize) {
     let at = position_of(text, number, place);
-    let p = gurkenmond::line_and_column(text, at);
-    print_place(p);
+    print_place(gurkenmond::line_and_column(text, at));
     words::sentence(text, number, place, at);
     console::line_end();
     explain_shown::show(text, at);
 }
 
 fn answer(text: &[u8]) {
-    let c = gurkenmond::read(Mode::Lake, text);
-    let v = c.verdict;
-    match v {
+    match gurkenmond::read(Mode::Lake, text).verdict {
         Verdict::Accepted => say(b"accepted\n"),
-        Verdict::Refused {
-            number: n,
-            place: p,
-        } => explain_refusal(text, n, p),
+        Verdict::Refused { number, place } => explain_refusal(text, number, place),
     }
 }
 
 fn main(rt: HostRuntime) {
-    let Some(file) = console::open_grammar(&rt) else {
-        console::unreadable();
-        return;
-    };
-    let mut text = console::text_room();
-    let n = io::read_full(file.as_raw_fd(), &mut text);
-    answer(&text[..n]);
+    console::with_grammar(&rt, answer);
 }

@@ -1,13 +1,12 @@
 // The sentences: what stopped the reading of a lake grammar, one for each refusal number (01, Refusal numbers).
 use explain_shown::say;
 use explain_syntax::say_token;
+use read_tokens::Kind;
 
 fn say_over(text: &[u8], at: usize) {
-    let t = explain_walks::token_at(text, at);
-    let kind = t.kind;
-    match kind {
-        read_tokens::LITERAL => say(b"this literal has more than 64 bytes"),
-        read_tokens::OPENS => say(b"parentheses are nested more than 32 deep here"),
+    match explain_walks::token_at(text, at).kind {
+        Kind::Literal => say(b"this literal has more than 64 bytes"),
+        Kind::Opens => say(b"parentheses are nested more than 32 deep here"),
         _ => say(b"this name has more than 32 bytes"),
     }
 }

@@ -20,65 +20,38 @@ const LINE_FEED: u8 = 10;
 
 const RETURN: u8 = 13;
 
-fn lesser(a: usize, b: usize) -> usize
-    ensures { (result ≤ a) × (result ≤ b) }
-{
-    if a <= b {
-        return a;
-    }
-    b
-}
-
 fn print_part(text: &[u8], from: usize, to: usize) {
-    if to < from {
-        return;
+    if from <= to && to <= text.len() {
+        io::write_all(1, &text[from..to]);
     }
-    if text.len() < to {
-        return;
-    }
-    io::write_all(1, &text[from..to]);
 }
 
 // Whether a byte goes on with a character of UTF-8 that began before it.
 fn goes_on(b: u8) -> bool {
-    if b < 128 {
-        return false;
-    }
-    b < 192
+    matches!(b, 128..=191)
 }
 
 // The first place from `at` on where a character of UTF-8 may begin: of one character at most three bytes are passed over.
 pub fn whole(text: &[u8], at: usize) -> usize {
-    let mut i = at;
-    let mut k: usize = 0;
-    while k < 3 {
-        if text.len() <= i {
-            return i;
-        }
+    let end = text.len().min(at.saturating_add(3));
+    for i in at..end {
         if !goes_on(text[i]) {
             return i;
         }
-        i += 1;
-        k += 1;
     }
-    i
+    at.max(end)
 }
 
 // ── a token ──
 // The first line of what stands at `from`, without what is too long.
 fn token_to(text: &[u8], from: usize, to: usize) -> usize {
-    let mut i = from;
-    while i < to {
-        if text.len() <= i {
-            return i;
-        }
-        if text[i] < 32 {
+    for i in from..to {
+        if text.len() <= i || text[i] < 32 {
             return i;
         }
         if TOKEN_MOST <= i - from {
-            return lesser(whole(text, i), to);
+            return whole(text, i).min(to);
         }
-        i += 1;
     }
     to
 }
@@ -98,38 +71,26 @@ fn line_from(text: &[u8], at: usize) -> usize
     requires { at ≤ length text.now }
     ensures { result ≤ at }
 {
-    let mut i = at;
-    while 0 < i {
-        if text[i - 1] == LINE_FEED {
-            return i;
+    for i in (0..at).rev() {
+        if text[i] == LINE_FEED {
+            return i + 1;
         }
-        i -= 1;
     }
     0
 }
 
-fn line_feed(text: &[u8], at: usize) -> usize
-    ensures { at ≤ result }
-{
-    let mut i = at;
-    while i < text.len() {
+fn line_feed(text: &[u8], at: usize) -> usize {
+    for i in at..text.len() {
         if text[i] == LINE_FEED {
             return i;
         }
-        i += 1;
     }
-    i
+    text.len()
 }
 
 // Where the line ends that begins at `from` and has its line feed, if any, at `to`: before a carriage return that stands before that.
 fn line_to(text: &[u8], from: usize, to: usize) -> usize {
-    if text.len() <= to {
-        return to;
-    }
-    if to <= from {
-        return to;
-    }
-    if text[to - 1] == RETURN {
+    if from < to && to < text.len() && text[to - 1] == RETURN {
         return to - 1;
     }
     to
@@ -145,16 +106,13 @@ fn shown_from(text: &[u8], from: usize, at: usize) -> usize
 }
 
 fn shown_to(text: &[u8], at: usize, to: usize) -> usize {
-    if to <= at {
-        return to;
-    }
-    if to - at <= AROUND {
+    if to <= at || to - at <= AROUND {
         return to;
     }
     whole(text, at + AROUND)
 }
 
-// What stands under a byte before the mark.
+// What stands under a byte before the mark. How long the mark's line is stands beside its array, here and below: no heap, fixed memory.
 fn put_under(line: &mut [u8; MARK_ROOM], n: usize, b: u8) -> usize
     requires { n < 126 }
     ensures { result ≤ n + 1 }
@@ -180,16 +138,11 @@ fn print_mark(line: &mut [u8; MARK_ROOM], n: usize)
 fn print_under(text: &[u8], from: usize, at: usize) {
     let mut line = [b' '; MARK_ROOM];
     let mut n = 0;
-    let mut i = from;
-    while i < at {
-        if text.len() <= i {
-            return;
-        }
-        if 126 <= n {
+    for i in from..at {
+        if text.len() <= i || 126 <= n {
             return;
         }
         n = put_under(&mut line, n, text[i]);
-        i += 1;
     }
     print_mark(&mut line, n);
 }
@@ -197,23 +150,21 @@ fn print_under(text: &[u8], from: usize, at: usize) {
 fn show_part(text: &[u8], from: usize, to: usize, at: usize) {
     print_part(text, from, to);
     console::line_end();
-    print_under(text, from, lesser(at, to));
+    print_under(text, from, at.min(to));
 }
 
 // The line of a position, or the part of it around the position, and a mark below.
 pub fn show(text: &[u8], position: usize) {
-    let at = lesser(position, text.len());
+    let at = position.min(text.len());
     let from = line_from(text, at);
     let to = line_to(text, from, line_feed(text, at));
     if to <= from {
         show_part(text, from, from, from);
-        return;
-    }
-    if to - from <= LINE_MOST {
+    } else if to - from <= LINE_MOST {
         show_part(text, from, to, at);
-        return;
+    } else {
+        show_part(text, shown_from(text, from, at), shown_to(text, at, to), at);
     }
-    show_part(text, shown_from(text, from, at), shown_to(text, at, to), at);
 }
 
 pub fn say(words: &[u8]) {

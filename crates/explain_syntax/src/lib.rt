@@ -3,16 +3,9 @@
 
 use explain_faults::Fault;
 use explain_shown::say;
-use explain_walks::Before;
-
-// Bytes with which a literal, a lake and a class begin.
-const DOUBLE_QUOTE: u32 = 34;
-
-const QUOTE: u32 = 39;
-
-const LESS: u32 = 60;
-
-const BRACKET: u32 = 91;
+use explain_walks::{Before, Wanted};
+use read_tokens::Kind;
+use read_tokens::chars::byte_at;
 
 // The token at a place, in backquotes.
 pub fn say_token(text: &[u8], at: usize) {
@@ -29,65 +22,58 @@ fn say_more(depth: usize) {
 }
 
 fn say_wanted(b: Before) {
-    let wanted = b.wanted;
-    match wanted {
-        explain_walks::RULE => say(b"a rule"),
-        explain_walks::ARROW => say(b"`<-`"),
-        explain_walks::PART => say(b"a name, a lake, a literal, a class, `.`, `(`, `&` or `!`"),
-        explain_walks::PRIMARY => say(b"a name, a lake, a literal, a class, `.` or `(`"),
-        _ => say_more(b.depth),
+    match b.wanted {
+        Wanted::Rule => say(b"a rule"),
+        Wanted::Arrow => say(b"`<-`"),
+        Wanted::Part => say(b"a name, a lake, a literal, a class, `.`, `(`, `&` or `!`"),
+        Wanted::Primary => say(b"a name, a lake, a literal, a class, `.` or `(`"),
+        Wanted::More => say_more(b.depth),
     }
 }
 
-// What a literal or a class has that it may not have.
-fn say_has(before: &[u8], text: &[u8], f: Fault, behind: &[u8]) {
+// What a literal or a class has, from a place to another, that it may not have.
+fn say_has(before: &[u8], text: &[u8], from: usize, to: usize, behind: &[u8]) {
     say(before);
     say(b" has ");
-    explain_shown::print_token(text, f.from, f.to);
+    explain_shown::print_token(text, from, to);
     say(behind);
 }
 
 fn say_literal(text: &[u8], at: usize) {
-    let f = explain_faults::of_literal(text, at);
-    let why = f.why;
-    match why {
-        explain_faults::EMPTY => say(b"an empty literal stands here"),
-        explain_faults::ESCAPE => say_has(b"the literal here", text, f, b", which is no escape"),
+    match explain_faults::of_literal(text, at) {
+        Fault::Empty => say(b"an empty literal stands here"),
+        Fault::Escape { from, to } => {
+            say_has(b"the literal here", text, from, to, b", which is no escape")
+        }
         _ => say(b"a literal begins here that is not finished"),
     }
 }
 
 fn say_class(text: &[u8], at: usize) {
-    let f = explain_faults::of_class(text, at);
-    let why = f.why;
-    match why {
-        explain_faults::EMPTY => say(b"an empty class stands here"),
-        explain_faults::ESCAPE => say_has(b"the class here", text, f, b", which is no escape"),
-        explain_faults::REVERSED => say_has(b"the class here", text, f, b", which runs backwards"),
-        explain_faults::BYTELESS => say(b"the class here has no byte"),
-        _ => say(b"a class begins here that is not finished"),
+    match explain_faults::of_class(text, at) {
+        Fault::Empty => say(b"an empty class stands here"),
+        Fault::Escape { from, to } => {
+            say_has(b"the class here", text, from, to, b", which is no escape")
+        }
+        Fault::Reversed { from, to } => {
+            say_has(b"the class here", text, from, to, b", which runs backwards")
+        }
+        Fault::Byteless => say(b"the class here has no byte"),
+        Fault::Unfinished => say(b"a class begins here that is not finished"),
     }
-}
-
-fn is_plain(b: u8) -> bool {
-    if b < 32 {
-        return false;
-    }
-    b < 127
 }
 
 fn say_byte(b: u8) {
     say(b"byte ");
-    io::print_decimal(1, b as u64);
+    io::print_decimal(1, u64::from(b));
 }
 
 // A byte with which no token begins.
 fn say_other(text: &[u8], at: usize) {
-    if text.len() <= at {
+    let Some(b) = byte_at(text, at) else {
         return;
-    }
-    let b = text[at];
-    if is_plain(b) {
+    };
+    if matches!(b, b' '..=b'~') {
         say_token(text, at);
     } else {
         say_byte(b);
@@ -97,21 +83,19 @@ fn say_other(text: &[u8], at: usize) {
 
 // Of what begins as a token at a place and is none.
 fn say_bad(text: &[u8], at: usize) {
-    let b = read_tokens::chars::byte_at(text, at);
-    match b {
-        QUOTE | DOUBLE_QUOTE => say_literal(text, at),
-        BRACKET => say_class(text, at),
-        LESS => say(b"`<` begins neither a lake nor `<-`"),
+    match byte_at(text, at) {
+        Some(b'\'' | b'"') => say_literal(text, at),
+        Some(b'[') => say_class(text, at),
+        Some(b'<') => say(b"`<` begins neither a lake nor `<-`"),
         _ => say_other(text, at),
     }
 }
 
 fn say_stands(text: &[u8], at: usize) {
     let t = explain_walks::token_at(text, at);
-    let kind = t.kind;
-    match kind {
-        read_tokens::END => say(b"the text ends there"),
-        read_tokens::BAD => say_bad(text, at),
+    match t.kind {
+        Kind::End => say(b"the text ends there"),
+        Kind::Bad => say_bad(text, at),
         _ => {
             explain_shown::print_token(text, t.start, t.next);
             say(b" stands there");
@@ -120,12 +104,8 @@ fn say_stands(text: &[u8], at: usize) {
 }
 
 // Whether the arrow at a place makes a name before it, of this kind, a rule's: then the rule before that is not finished.
-fn is_rule(text: &[u8], at: usize, kind: u8) -> bool {
-    if !explain_walks::is_symbol(kind) {
-        return false;
-    }
-    let t = explain_walks::token_at(text, at);
-    t.kind == read_tokens::ARROW
+fn is_rule(text: &[u8], at: usize, kind: Kind) -> bool {
+    kind.is_symbol() && explain_walks::token_at(text, at).kind == Kind::Arrow
 }
 
 fn say_unfinished(text: &[u8], name: usize) {
@@ -136,23 +116,16 @@ fn say_unfinished(text: &[u8], name: usize) {
 }
 
 // Whether what stands at a place would be right there, a part, if it were whole.
-fn is_broken(text: &[u8], at: usize, wanted: u8) -> bool {
+fn is_broken(text: &[u8], at: usize, wanted: Wanted) -> bool {
     match wanted {
-        explain_walks::RULE | explain_walks::ARROW => false,
-        _ => is_broken_part(text, at),
+        Wanted::Rule | Wanted::Arrow => false,
+        Wanted::Part | Wanted::Primary | Wanted::More => is_broken_part(text, at),
     }
 }
 
 fn is_broken_part(text: &[u8], at: usize) -> bool {
-    let t = explain_walks::token_at(text, at);
-    if t.kind != read_tokens::BAD {
-        return false;
-    }
-    let b = read_tokens::chars::byte_at(text, at);
-    match b {
-        QUOTE | DOUBLE_QUOTE | LESS | BRACKET => true,
-        _ => false,
-    }
+    explain_walks::token_at(text, at).kind == Kind::Bad
+        && matches!(byte_at(text, at), Some(b'\'' | b'"' | b'<' | b'['))
 }
 
 // The sentence for refusal 2 at a token.

@@ -1,9 +1,10 @@
 // Walks over the tokens of a lake grammar. Each goes on only where a token ends behind its begin, which is all that is needed for it to end.
+// Their `while` counts nothing: the step is the token's, and a `for` has one of its own.
 #![tactic(auto)]
 
 ghost use Rattle.std.specs.Prelude.{◌+◌, ◌≤◌, ◌<◌};
 
-use read_tokens::{Mode, Token};
+use read_tokens::{Kind, Mode, Token};
 
 pub fn token_at(text: &[u8], at: usize) -> Token {
     read_tokens::token_at(Mode::Lake, text, at)
@@ -11,233 +12,148 @@ pub fn token_at(text: &[u8], at: usize) -> Token {
 
 // ── what could stand at a place ──
 // By the tokens before it: there are none; only a left side; the last is `<-`, `/` or `(`; it is `&` or `!`; it ends a part.
-pub const RULE: u8 = 0;
+#[derive(Clone, Copy, PartialEq, Eq)]
+pub enum Wanted {
+    Rule,
+    Arrow,
+    Part,
+    Primary,
+    More,
+}
 
-pub const ARROW: u8 = 1;
-
-pub const PART: u8 = 2;
-
-pub const PRIMARY: u8 = 3;
-
-pub const MORE: u8 = 4;
+impl Wanted {
+    fn behind(self, kind: Kind) -> Wanted {
+        if self == Wanted::Rule {
+            return Wanted::Arrow;
+        }
+        match kind {
+            Kind::Arrow | Kind::Slash | Kind::Opens => Wanted::Part,
+            Kind::Amp | Kind::Bang => Wanted::Primary,
+            _ => Wanted::More,
+        }
+    }
+}
 
 // What could stand behind some tokens, how many parentheses are open there, and the last of them: its kind and where it begins.
 #[derive(Clone, Copy)]
 pub struct Before {
-    pub wanted: u8,
+    pub wanted: Wanted,
     pub depth: usize,
-    pub kind: u8,
+    pub kind: Kind,
     pub start: usize,
 }
 
-fn wanted_behind(wanted: u8, kind: u8) -> u8 {
-    if wanted == RULE {
-        return ARROW;
-    }
-    match kind {
-        read_tokens::ARROW | read_tokens::SLASH | read_tokens::OPENS => PART,
-        read_tokens::AMP | read_tokens::BANG => PRIMARY,
-        _ => MORE,
-    }
-}
-
-fn depth_behind(depth: usize, kind: u8) -> usize
+fn depth_behind(depth: usize, kind: Kind) -> usize
     requires { depth < 18446744073709551615 }
     ensures { result ≤ depth + 1 }
 {
-    if kind == read_tokens::OPENS {
-        return depth + 1;
+    match kind {
+        Kind::Opens => depth + 1,
+        Kind::Closes => depth.saturating_sub(1),
+        _ => depth,
     }
-    if kind != read_tokens::CLOSES {
-        return depth;
-    }
-    if depth == 0 {
-        return 0;
-    }
-    depth - 1
 }
 
-// The same behind one token more.
-fn behind(b: Before, t: Token) -> Before
-    requires { b.depth < 18446744073709551615 }
-    ensures { result.depth ≤ b.depth + 1 }
-{
-    let wanted = wanted_behind(b.wanted, t.kind);
-    let depth = depth_behind(b.depth, t.kind);
-    Before {
-        wanted: wanted,
-        depth: depth,
-        kind: t.kind,
-        start: t.start,
+impl Before {
+    // The same behind one token more.
+    fn behind(self, t: Token) -> Before
+        requires { self.depth < 18446744073709551615 }
+        ensures { result.depth ≤ self.depth + 1 }
+    {
+        Before {
+            wanted: self.wanted.behind(t.kind),
+            depth: depth_behind(self.depth, t.kind),
+            kind: t.kind,
+            start: t.start,
+        }
     }
 }
 
 // Behind all tokens that begin before a place.
 pub fn stands_before(text: &[u8], place: usize) -> Before {
     let mut b = Before {
-        wanted: RULE,
+        wanted: Wanted::Rule,
         depth: 0,
-        kind: read_tokens::END,
+        kind: Kind::End,
         start: 0,
     };
-    let mut at: usize = 0;
+    let mut at = 0;
     while at < place {
         let t = token_at(text, at);
-        let next = t.next;
-        if place <= t.start {
+        if place <= t.start || t.next <= at {
             return b;
         }
-        if next <= at {
-            return b;
-        }
-        b = behind(b, t);
-        at = next;
+        b = b.behind(t);
+        at = t.next;
     }
     b
 }
 
 // ── where a symbol stands ──
-pub fn is_symbol(kind: u8) -> bool {
-    match kind {
-        read_tokens::NAME | read_tokens::LAKE => true,
-        _ => false,
-    }
-}
-
 fn is_left(text: &[u8], t: Token) -> bool {
-    if !is_symbol(t.kind) {
-        return false;
-    }
-    read_walks::is_left(Mode::Lake, text, t.next)
+    t.kind.is_symbol() && read_walks::is_left(Mode::Lake, text, t.next)
 }
 
 fn same(text: &[u8], a: usize, b: usize, n: usize) -> bool {
-    if text.len() < n {
-        return false;
-    }
-    let last = text.len() - n;
-    if last < a {
-        return false;
-    }
-    if last < b {
-        return false;
-    }
-    read_walks::same_bytes(text, a, b, n)
+    let len = text.len();
+    n <= len && a <= len - n && b <= len - n && read_walks::same_bytes(text, a, b, n)
 }
 
 // Whether a token is the lake of n bytes at `start`, as a left side or at an earlier place.
 fn is_older(text: &[u8], t: Token, start: usize, n: usize) -> bool {
-    if !same(text, t.start, start, n) {
-        return false;
+    same(text, t.start, start, n) && (t.start < start || is_left(text, t))
+}
+
+// Where the token begins that is sought and has so many of them before it; or how many more would have been needed.
+fn seek<F: Fn(Token) -> bool>(text: &[u8], number: usize, is_sought: F) -> Result<usize, usize>
+    requires { F.IsAlwaysCallable is_sought }
+{
+    let mut left = number;
+    let mut at = 0;
+    while at < text.len() {
+        let t = token_at(text, at);
+        if t.next <= at {
+            return Err(left);
+        }
+        if is_sought(t) {
+            if left == 0 {
+                return Ok(t.start);
+            }
+            left -= 1;
+        }
+        at = t.next;
     }
-    if t.start < start {
-        return true;
-    }
-    is_left(text, t)
+    Err(left)
 }
 
 // Whether a token is the first use of a lake without a rule.
 fn is_new_lake(text: &[u8], t: Token) -> bool {
-    if t.kind != read_tokens::LAKE {
-        return false;
-    }
-    if t.next < t.start {
+    if t.kind != Kind::Lake || t.next < t.start {
         return false;
     }
     let n = t.next - t.start;
-    let mut at: usize = 0;
-    while at < text.len() {
-        let u = token_at(text, at);
-        let next = u.next;
-        if next <= at {
-            return true;
-        }
-        if is_older(text, u, t.start, n) {
-            return false;
-        }
-        at = next;
-    }
-    true
-}
-
-fn is_sought(text: &[u8], t: Token, lakes: bool) -> bool {
-    if lakes {
-        return is_new_lake(text, t);
-    }
-    is_left(text, t)
-}
-
-// A token's begin; or how many more would have been needed.
-#[derive(Clone, Copy)]
-struct Sought {
-    found: bool,
-    start: usize,
-    left: usize,
-}
-
-// The token behind so many left sides that is one too; or the same of lakes without a rule.
-fn seek(text: &[u8], number: usize, lakes: bool) -> Sought {
-    let mut left = number;
-    let mut at: usize = 0;
-    while at < text.len() {
-        let t = token_at(text, at);
-        let next = t.next;
-        if next <= at {
-            return Sought {
-                found: false,
-                start: 0,
-                left: left,
-            };
-        }
-        if is_sought(text, t, lakes) {
-            if left == 0 {
-                return Sought {
-                    found: true,
-                    start: t.start,
-                    left: 0,
-                };
-            }
-            left -= 1;
-        }
-        at = next;
-    }
-    Sought {
-        found: false,
-        start: 0,
-        left: left,
-    }
+    seek(text, 0, |u: Token| is_older(text, u, t.start, n)).is_err()
 }
 
 // Where the symbol of a number first stands (01, Notation): "left sides in order, then lakes without a rule by first use".
 pub fn symbol_at(text: &[u8], number: usize) -> usize {
-    let rule = seek(text, number, false);
-    if rule.found {
-        return rule.start;
+    match seek(text, number, |t: Token| is_left(text, t)) {
+        Ok(start) => start,
+        Err(left) => seek(text, left, |t: Token| is_new_lake(text, t)).unwrap_or(0),
     }
-    let lake = seek(text, rule.left, true);
-    lake.start
 }
 
 // ── reserved names ──
-fn is_reserved_at(text: &[u8], from: usize, n: usize) -> bool {
-    if text.len() < n {
-        return false;
-    }
-    if text.len() - n < from {
-        return false;
-    }
-    read_walks::reserved_name(Mode::Lake, text, from, n)
-}
-
 // Whether the name of a token is one that a lake grammar may not have.
 pub fn is_reserved(text: &[u8], t: Token) -> bool {
     let n = t.size;
-    let start = t.start;
-    if text.len() <= start {
+    if text.len() <= t.start || text.len() < n {
         return false;
     }
-    if t.kind == read_tokens::LAKE {
-        return is_reserved_at(text, start + 1, n);
-    }
-    is_reserved_at(text, start, n)
+    let from = if t.kind == Kind::Lake {
+        t.start + 1
+    } else {
+        t.start
+    };
+    from <= text.len() - n && read_walks::reserved_name(Mode::Lake, text, from, n)
 }

@@ -1,43 +1,43 @@
 -- One law for each way through the loops over words. Assumes nothing.
 use Prim.Native.Nat.{ℕ, suc, ◌+◌, ◌-◌, ◌≤◌, ◌<◌}
-use mathlib.Core.Path.{◌≡◌, refl, sym, ap, ◌∙◌}
+use mathlib.Core.Path.{◌≡◌, refl, sym, ap, ◌∙◌, subst}
 use mathlib.Core.Bool.{Bool, true, false}
 use mathlib.Core.List.{List, ◌∷◌}
 use native.Mathlib.Omega.{arith}
-use lib.ListN.{get_or, set}
+use lib.ListN.{length, get_or, set}
 use lib.Seq.{sets}
+use Rattle.std.specs.Bool.{MatchBool}
+use Rattle.std.specs.List.{range_with_len, AllWithin, HoldsAt}
+use Rattle.std.proofs.lemmas.List.FromFn.{get_or-range_with_len, length-range_with_len}
 use Rattle.grammar.specs.Same.{same_bytes}
 use Rattle.grammar_table.specs.Table.{words_from}
-use Rattle.grammar_table.specs.laws.Compared.{compared-on, compared-not}
-use Rattle.grammar_table.specs.laws.Words.{words-here, words-at, words-none}
+use Rattle.grammar.specs.laws.Same.{bytes-refl, bytes-sound}
+use Rattle.grammar_table.specs.laws.Words.{words-here, words-none, words-ext, words-places}
 
 -- ── words ──
--- what is still to be compared, k words behind
-abbrev pub rest : List ℕ → ℕ → List ℕ → ℕ → ℕ → ℕ → Bool
-rest a i b j n k = same_bytes (words_from a (i + k) (n - k)) (words_from b (j + k) (n - k))
-
+-- all words are equal, or one is not
 module _ (a : List ℕ) (i : ℕ) (b : List ℕ) (j n : ℕ) where
-  pub rest-whole : same_bytes (words_from a i n) (words_from b j n) ≡ rest a i b j n 0
-  rest-whole = rest-by i (i + 0) j (j + 0) n (n - 0) (omega arith) (omega arith) (omega arith)
+  abbrev pub Same : ℕ → Type 0
+  Same k = get_or a (i + k) 0 ≡ get_or b (j + k) 0
+
+  numbered : (k : ℕ) → k < length (range_with_len 0 n) → (k < n) × (get_or (range_with_len 0 n) k 0 ≡ k)
+  numbered k h =
+      let l : k < n = omega (arith, length-range_with_len 0 n) in
+      (l, omega (arith, get_or-range_with_len 0 n k 0 l))
+
+  pub same-by : (r : Bool) → MatchBool r (AllWithin Same (range_with_len 0 n) 0 (length (range_with_len 0 n)))
+      ((k : ℕ) × (k < length (range_with_len 0 n)) × HoldsAt (λ x. Same x → ⊥) (range_with_len 0 n) k) → r ≡ same_bytes (words_from a i n) (words_from b j n)
+  same-by true h =
+      let e : words_from a i n ≡ words_from b j n = words-ext a i b j n (λ k l. let m : k < length (range_with_len 0 n) = omega (arith, length-range_with_len 0 n) in
+      subst Same (numbered k m).1 (h k 0 (omega arith) m)) in
+      sym (ap (same_bytes (words_from a i n)) (sym e) ∙ bytes-refl (words_from a i n))
+  same-by false h = go (same_bytes (words_from a i n) (words_from b j n)) refl
     where
-      rest-by : (x x' y y' z z' : ℕ) → x ≡ x' → y ≡ y' → z ≡ z' → same_bytes (words_from a x z) (words_from b y z) ≡ same_bytes (words_from a x' z') (words_from b y' z')
-      rest-by x x' y y' z z' p q r = rw (p, q, r)
-
-  -- the list that is compared with, its next word in front
-  behind : (k : ℕ) → List ℕ
-  behind k = words_from b (j + (k + 1)) (n - (k + 1))
-
-  pub rest-on : (k : ℕ) → k < n → get_or a (i + k) 0 ≡ get_or b (j + k) 0 → rest a i b j n k ≡ rest a i b j n (k + 1)
-  unfolding behind
-  rest-on k h e = ap (same_bytes (words_from a (i + k) (n - k))) (words-at b j k n h) ∙ compared-on a i k n (get_or b (j + k) 0) (behind k) h e
-
-  pub rest-not : (k : ℕ) → k < n → (get_or a (i + k) 0 ≡ get_or b (j + k) 0 → ⊥) → rest a i b j n k ≡ false
-  unfolding behind
-  rest-not k h e = ap (same_bytes (words_from a (i + k) (n - k))) (words-at b j k n h) ∙ compared-not a i k n (get_or b (j + k) 0) (behind k) h e
-
-  pub rest_end : (k : ℕ) → n ≤ k → rest a i b j n k ≡ true
-  unfolding same_bytes
-  rest_end k h = rw (words-none a (i + k) k n h, words-none b (j + k) k n h) refl
+      go : (t : Bool) → same_bytes (words_from a i n) (words_from b j n) ≡ t → false ≡ t
+      go false e = refl
+      go true e =
+          let w = words-places a i b j n (bytes-sound _ _ e) h.0 (numbered h.0 h.1).0 in
+          absurd (h.2 0 (subst Same (sym (numbered h.0 h.1).1) w))
 
 -- ── stores ──
 pub stores-on : (t : List ℕ) (at : ℕ) (a : List ℕ) (k n x : ℕ) → k < n → x ≡ get_or a k 0

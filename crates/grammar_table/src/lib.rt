@@ -55,6 +55,7 @@ pub const LEFT: usize = 1;
 
 pub const RIGHT: usize = 2;
 
+// The kinds are numbers and no enum: they are words of a table that is lent and may hold anything, and `records::op` promises the word itself.
 // Kinds of terminals.
 pub const ANY: usize = 0;
 
@@ -93,16 +94,7 @@ fn same_words(a: &[u32], i: usize, b: &[u32], j: usize, n: usize) -> bool
     requires { (i + n < 4294967296) × (j + n < 4294967296) }
     ensures { result ≡ same_bytes (words_from a.now i n) (words_from b.now j n) }
 {
-    let mut k = 0;
-    while k < n {
-        let x = word(a, i + k);
-        let y = word(b, j + k);
-        if x != y {
-            return false;
-        }
-        k += 1;
-    }
-    true
+    (0..n).all(|k| word(a, i + k) == word(b, j + k))
 }
 
 // Stores the first n words of `from` at `at` and behind it.
@@ -110,52 +102,38 @@ fn store(from: &[u32], n: usize, to: &mut [u32], at: usize)
     requires { at + n < 4294967296 }
     ensures { to.new ≡ sets to.old at (words_from from.now 0 n) }
 {
-    let mut k = 0;
-    while k < n {
-        let x = word(from, k);
-        put(to, at + k, x);
-        k += 1;
+    for k in 0..n {
+        put(to, at + k, word(from, k));
     }
 }
 
+// Here and below a record's words, its width and its place are handed over one by one: so `row_is` and `seek` take them.
 // Whether the record at b is `rec`: by its first word and those from o on. What stands between is no part of what it is.
 fn same_record(t: &[u32], b: usize, rec: &[u32], o: usize, width: usize) -> bool
     requires { (o ≤ width) × (b + width < 4294967296) }
     ensures { result ≡ row_is t.now b rec.now o width }
 {
-    let x = word(t, b);
-    let y = word(rec, 0);
-    if x != y {
-        return false;
-    }
-    same_words(t, b + o, rec, o, width - o)
+    word(t, b) == word(rec, 0) && same_words(t, b + o, rec, o, width - o)
 }
 
-// The number of the first of n records that is `rec`; n where none is.
+// The number of the first of n records that is `rec`; n where none is, which is the number that a new one gets: so `seek` promises it.
 pub fn find(t: &[u32], rec: &[u32], o: usize, width: usize, base: usize, n: usize) -> usize
     requires { (o ≤ width) × (base + width * n < 4294967296) }
     ensures { result ≡ seek t.now rec.now o width base n }
 {
-    let mut b = base;
-    let mut i = 0;
-    while i < n {
-        if same_record(t, b, rec, o, width) {
+    for i in 0..n {
+        if same_record(t, base + width * i, rec, o, width) {
             return i;
         }
-        b += width;
-        i += 1;
     }
-    i
+    n
 }
 
 // The smaller one.
 pub fn least(a: usize, b: usize) -> usize
     ensures { result ≡ cap b a }
 {
-    if a < b {
-        return a;
-    }
-    b
+    a.min(b)
 }
 
 // Adds `rec` behind the n records that there are.
@@ -172,27 +150,23 @@ pub fn note(t: &mut [u32], rec: &[u32], head: usize, o: usize, width: usize, bas
     requires { (o ≤ width) × (base + width * 65 < 4294967296) }
     ensures { Noted t.old t.new rec.now head o width base result }
 {
-    let c = word(t, head);
-    let n = least(c, 64);
-    let r = find(t, rec, o, width, base, n);
-    if r < n {
-        return r;
+    let count = least(word(t, head), 64);
+    let number = find(t, rec, o, width, base, count);
+    if number == count {
+        if count < 64 {
+            add(t, rec, head, width, base, count);
+        } else {
+            put(t, head, 65);
+        }
     }
-    if n < 64 {
-        add(t, rec, head, width, base, n);
-        return r;
-    }
-    put(t, head, 65);
-    r
+    number
 }
 
-// A part of expression e as evaluation goes to it: 1 + its number; one that does not come before e stands for `.`, which is 0.
+// A part of expression e as evaluation goes to it: 1 + its number; one that does not come before e stands for `.`, which is 0. `below` promises the
+// number, in which a table's words and the matcher's keys keep it.
 pub fn part(i: usize, e: usize) -> usize
     requires { i < 4294967296 }
     ensures { result ≡ below i e }
 {
-    if i < e {
-        return i + 1;
-    }
-    0
+    if i < e { i + 1 } else { 0 }
 }

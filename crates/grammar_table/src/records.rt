@@ -1,5 +1,5 @@
 // The words of a table's records, read and stored: the only code that knows where they stand (specs/Table.antt). Every reading is total, for a table may
-// hold anything, and a store past the table's end stores nothing.
+// hold anything, and a store past the table's end stores nothing. Numbers stay `usize` with a bound: a narrower type would ask more of callers.
 ghost use Rattle.std.specs.Prelude.{◌+◌, ◌*◌, ◌<◌, ◌≡◌, get_or, set};
 ghost use Rattle.grammar_table.specs.Table.{symbol_count, terminal_count, expression_count, symbol_word, terminal_word, terminals_at, terminal_words};
 ghost use Rattle.grammar_table.specs.Table.{op_of, left_of, right_of, symbols_at, symbol_words, expressions_at, expression_words, name_at, content_at};
@@ -29,27 +29,35 @@ pub fn expressions(t: &[u32]) -> usize
     word(t, 2)
 }
 
+// Where the record of symbol r begins.
+fn symbol_at(r: usize) -> usize
+    requires { r < 1125899906842624 }
+    ensures { result ≡ symbols_at + symbol_words * r }
+{
+    SYMBOLS_AT + SYMBOL_WORDS * r
+}
+
 // The kind of symbol r: 0 a nonterminal, else a lake.
 pub fn kind(t: &[u32], r: usize) -> usize
     requires { r < 1125899906842624 }
     ensures { (result ≡ symbol_word t.now r 0) × (result < 4294967296) }
 {
-    word(t, SYMBOLS_AT + SYMBOL_WORDS * r + KIND)
+    word(t, symbol_at(r) + KIND)
 }
 
-// Its body: 0 none, else 1 + its expression.
+// Its body, a word of the table: 0 none, else 1 + its expression.
 pub fn body(t: &[u32], r: usize) -> usize
     requires { r < 1125899906842624 }
     ensures { (result ≡ symbol_word t.now r 1) × (result < 4294967296) }
 {
-    word(t, SYMBOLS_AT + SYMBOL_WORDS * r + BODY)
+    word(t, symbol_at(r) + BODY)
 }
 
 pub fn store_body(t: &mut [u32], r: usize, x: usize)
     requires { (r < 1125899906842624) × (x < 4294967296) }
     ensures { t.new ≡ set t.old (symbols_at + symbol_words * r + 1) x }
 {
-    put(t, SYMBOLS_AT + SYMBOL_WORDS * r + BODY, x);
+    put(t, symbol_at(r) + BODY, x);
 }
 
 // Of its name: how many bytes, where the first stands, and byte j.
@@ -57,21 +65,21 @@ pub fn name_length(t: &[u32], r: usize) -> usize
     requires { r < 1125899906842624 }
     ensures { (result ≡ symbol_word t.now r 3) × (result < 4294967296) }
 {
-    word(t, SYMBOLS_AT + SYMBOL_WORDS * r + NAME_LENGTH)
+    word(t, symbol_at(r) + NAME_LENGTH)
 }
 
 pub fn name_at(r: usize) -> usize
     requires { r < 1125899906842624 }
     ensures { result ≡ name_at r }
 {
-    SYMBOLS_AT + SYMBOL_WORDS * r + NAME
+    symbol_at(r) + NAME
 }
 
 pub fn name_word(t: &[u32], r: usize, j: usize) -> usize
     requires { (r < 1125899906842624) × (j < 1125899906842624) }
     ensures { (result ≡ get_or t.now (name_at r + j) 0) × (result < 4294967296) }
 {
-    word(t, SYMBOLS_AT + SYMBOL_WORDS * r + NAME + j)
+    word(t, name_at(r) + j)
 }
 
 // Where the record of terminal x begins.
@@ -87,14 +95,14 @@ pub fn leaf_kind(t: &[u32], x: usize) -> usize
     requires { x < 1125899906842624 }
     ensures { (result ≡ terminal_word t.now x 0) × (result < 4294967296) }
 {
-    word(t, TERMINALS_AT + TERMINAL_WORDS * x + KIND)
+    word(t, leaf_at(x) + KIND)
 }
 
 pub fn leaf_length(t: &[u32], x: usize) -> usize
     requires { x < 1125899906842624 }
     ensures { (result ≡ terminal_word t.now x 1) × (result < 4294967296) }
 {
-    word(t, TERMINALS_AT + TERMINAL_WORDS * x + LENGTH)
+    word(t, leaf_at(x) + LENGTH)
 }
 
 // Of its content: where the first word stands, and word j, a byte of a literal or a mark of a class.
@@ -102,14 +110,22 @@ pub fn content_at(x: usize) -> usize
     requires { x < 1125899906842624 }
     ensures { result ≡ content_at x }
 {
-    TERMINALS_AT + TERMINAL_WORDS * x + CONTENT
+    leaf_at(x) + CONTENT
 }
 
 pub fn leaf_word(t: &[u32], x: usize, j: usize) -> usize
     requires { (x < 1125899906842624) × (j < 1125899906842624) }
     ensures { (result ≡ get_or t.now (content_at x + j) 0) × (result < 4294967296) }
 {
-    word(t, TERMINALS_AT + TERMINAL_WORDS * x + CONTENT + j)
+    word(t, content_at(x) + j)
+}
+
+// Where the record of expression e begins.
+fn expression_at(e: usize) -> usize
+    requires { e < 1125899906842624 }
+    ensures { result ≡ expressions_at + expression_words * e }
+{
+    EXPRESSIONS_AT + EXPRESSION_WORDS * e
 }
 
 // The kind of expression e, its left word and its right one.
@@ -117,21 +133,21 @@ pub fn op(t: &[u32], e: usize) -> usize
     requires { e < 1125899906842624 }
     ensures { (result ≡ op_of t.now e) × (result < 4294967296) }
 {
-    word(t, EXPRESSIONS_AT + EXPRESSION_WORDS * e + KIND)
+    word(t, expression_at(e) + KIND)
 }
 
 pub fn left(t: &[u32], e: usize) -> usize
     requires { e < 1125899906842624 }
     ensures { (result ≡ left_of t.now e) × (result < 4294967296) }
 {
-    word(t, EXPRESSIONS_AT + EXPRESSION_WORDS * e + LEFT)
+    word(t, expression_at(e) + LEFT)
 }
 
 pub fn right(t: &[u32], e: usize) -> usize
     requires { e < 1125899906842624 }
     ensures { (result ≡ right_of t.now e) × (result < 4294967296) }
 {
-    word(t, EXPRESSIONS_AT + EXPRESSION_WORDS * e + RIGHT)
+    word(t, expression_at(e) + RIGHT)
 }
 
 // The record of expression e.
@@ -141,8 +157,8 @@ pub fn store_expression(t: &mut [u32], e: usize, op: usize, l: usize, r: usize)
         ≡ set (set (set t.old (expressions_at + expression_words * e) op) (expressions_at + expression_words * e + 1) l)
         (expressions_at + expression_words * e + 2) r }
 {
-    let at = EXPRESSIONS_AT + EXPRESSION_WORDS * e;
-    put(t, at, op);
+    let at = expression_at(e);
+    put(t, at + KIND, op);
     put(t, at + LEFT, l);
     put(t, at + RIGHT, r);
 }

@@ -7,8 +7,8 @@ use Rattle.prepare.specs.declared.Verdict.{Verdict}
 use Rattle.prepare.specs.declared.Verdict.TheVariants.{Accepted, Refused as VerdictRefused}
 use Rattle.match_run.specs.declared.Outcome.{Outcome}
 use Rattle.match_run.specs.declared.Outcome.TheVariants.{Matched, NoMatch, Refused as OutcomeRefused}
-use Rattle.match_ask.specs.declared.Way.{Way}
-use Rattle.match_ask.specs.declared.Way.TheVariants.{Not, ByRule, ByWater, BySkip}
+use Rattle.match_lake.specs.declared.ways.Way.{Way}
+use Rattle.match_lake.specs.declared.ways.Way.TheVariants.{Not, ByRule, ByWater, BySkip}
 
 -- nothing refuses, or "a refusal has a number and a place"
 abbrev pub verdict_says : Verdict → Option Refusal

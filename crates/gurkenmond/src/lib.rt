@@ -1,6 +1,7 @@
 // The public calls (01). Every one checks for itself: none has a `requires`. An answer is a value beside a verdict, and where it is refused the value is
 // nothing: no sets, no lakes, `Not`, 0 bytes. A match has 01's own form: a count beside an enum of matched, none, refused.
 // What each case says in document 01's numbers is in specs/Answers.antt, what each call answers in specs/Calls.antt.
+// Tables and runs lie in the frame of each call, side by side, since there is no heap: a function that lent them to a closure would be no plainer.
 // A caller names this crate alone: every type that the calls take or give is handed on here.
 #![tactic(auto)]
 
@@ -13,11 +14,13 @@ ghost use Rattle.tree_list.specs.Handing.{node_step_at};
 ghost use Rattle.match_list.specs.Nodes.{sound_at, Handed};
 
 use grammar_table::Table;
+use lake_analysis::Analysis;
 pub use lake_sets::Sets;
 pub use match_ask::{LakeWay, Way};
 pub use match_run::{Match, Outcome};
 pub use prepare::{Counted, Verdict};
 pub use read_tokens::Mode;
+use tree_list::INPUT_MOST;
 pub use tree_list::{Node, NodeReader, NodeStep, behind_node, next_node, node_reader, node_step};
 pub use tree_read::Parsed;
 use tree_summary::Plan;
@@ -76,37 +79,24 @@ pub fn sets(mode: Mode, text: &[u8], e: usize) -> SetsOf
 {
     let mut t: Table = [0; grammar_table::WORDS];
     let mut mid: Table = [0; grammar_table::WORDS];
-    let mut marks = [false; 64];
-    let mut sets: [[u64; 2]; 1024] = [[0, 0]; 1024];
-    let mut eps = [false; 1024];
-    let mut succ: [[u64; 2]; 1024] = [[0, 0]; 1024];
+    let mut a = Analysis::new();
     let mut alts: [[u64; 2]; 1024] = [[0, 0]; 1024];
     let r = prepare::load(mode, text, &mut t);
-    let made = prepare::analyse(
-        &t, &mut mid, &mut marks, &mut sets, &mut eps, &mut succ, &mut alts,
-    );
+    let made = prepare::analyse(&t, &mut mid, &mut a, &mut alts);
     let p = prepare::finish(r, made, &mid, &alts, &mut t);
-    let c = p.counted;
-    let v = c.verdict;
-    if prepare::is_refused(v) {
+    let v = p.counted.verdict;
+    if v.is_refused() {
         return no_sets(v);
     }
     let n = prepare::expressions(&mid);
-    if e == 0 {
+    if e == 0 || n < e {
         return no_sets(Verdict::Refused {
             number: 14,
             place: 0,
         });
     }
-    if n < e {
-        return no_sets(Verdict::Refused {
-            number: 14,
-            place: 0,
-        });
-    }
-    let s = lake_analysis::sets_at(&sets, &eps, &succ, &alts, e);
     SetsOf {
-        sets: s,
+        sets: a.sets_at(&alts, e),
         rounds: p.rounds,
         verdict: Verdict::Accepted,
     }
@@ -118,27 +108,20 @@ pub fn cannot_skip(mode: Mode, text: &[u8]) -> Lakes
 {
     let mut t: Table = [0; grammar_table::WORDS];
     let mut mid: Table = [0; grammar_table::WORDS];
-    let mut marks = [false; 64];
-    let mut sets: [[u64; 2]; 1024] = [[0, 0]; 1024];
-    let mut eps = [false; 1024];
-    let mut succ: [[u64; 2]; 1024] = [[0, 0]; 1024];
+    let mut a = Analysis::new();
     let mut alts: [[u64; 2]; 1024] = [[0, 0]; 1024];
     let r = prepare::load(mode, text, &mut t);
-    let made = prepare::analyse(
-        &t, &mut mid, &mut marks, &mut sets, &mut eps, &mut succ, &mut alts,
-    );
+    let made = prepare::analyse(&t, &mut mid, &mut a, &mut alts);
     let p = prepare::finish(r, made, &mid, &alts, &mut t);
-    let c = p.counted;
-    let v = c.verdict;
-    if prepare::is_refused(v) {
+    let v = p.counted.verdict;
+    if v.is_refused() {
         return Lakes {
             word: 0,
             verdict: v,
         };
     }
-    let w = lake_analysis::cannot_skip(&mid, &marks, &alts);
     Lakes {
-        word: w,
+        word: a.cannot_skip(&mid, &alts),
         verdict: Verdict::Accepted,
     }
 }
@@ -150,9 +133,8 @@ pub fn write_own(mode: Mode, text: &[u8], out: &mut [u8]) -> Written
     let mut t: Table = [0; grammar_table::WORDS];
     let mut plain: Table = [0; grammar_table::WORDS];
     let c = prepare::plainly(mode, text, &mut t, &mut plain);
-    let v = c.verdict;
-    if prepare::is_refused(v) {
-        return write_put::not_written(v);
+    if c.verdict.is_refused() {
+        return write_put::not_written(c.verdict);
     }
     write_put::put_text(&t, out, false)
 }
@@ -163,9 +145,8 @@ pub fn write_plain(mode: Mode, text: &[u8], out: &mut [u8]) -> Written
 {
     let mut plain: Table = [0; grammar_table::WORDS];
     let c = prepare::plain_only(mode, text, &mut plain);
-    let v = c.verdict;
-    if prepare::is_refused(v) {
-        return write_put::not_written(v);
+    if c.verdict.is_refused() {
+        return write_put::not_written(c.verdict);
     }
     write_put::put_text(&plain, out, true)
 }
@@ -177,9 +158,8 @@ pub fn symbol_name(mode: Mode, text: &[u8], symbol: usize, out: &mut [u8]) -> Wr
     let mut t: Table = [0; grammar_table::WORDS];
     let mut plain: Table = [0; grammar_table::WORDS];
     let c = prepare::plainly(mode, text, &mut t, &mut plain);
-    let v = c.verdict;
-    if prepare::is_refused(v) {
-        return write_put::not_written(v);
+    if c.verdict.is_refused() {
+        return write_put::not_written(c.verdict);
     }
     let n = prepare::symbols(&t);
     if n <= symbol {
@@ -204,9 +184,8 @@ pub fn match_input(
 {
     let mut plain: Table = [0; grammar_table::WORDS];
     let c = prepare::plain_only(mode, text, &mut plain);
-    let v = c.verdict;
-    if prepare::is_refused(v) {
-        return match_run::not_matched(v);
+    if c.verdict.is_refused() {
+        return match_run::not_matched(c.verdict);
     }
     match_run::run(&plain, input, cells, nodes)
 }
@@ -238,9 +217,8 @@ pub fn lake_at(
 {
     let mut table: Table = [0; grammar_table::WORDS];
     let l = match_ask::look(mode, text, lake, &mut table);
-    let v = l.verdict;
-    if prepare::is_refused(v) {
-        return match_ask::not_asked(v);
+    if l.verdict.is_refused() {
+        return match_ask::not_asked(l.verdict);
     }
     match_ask::ask(mode, text, &mut table, l, input, cells, place)
 }
@@ -253,9 +231,8 @@ pub fn write_json(mode: Mode, text: &[u8], input: &[u8], nodes: &[u32], out: &mu
     let mut t: Table = [0; grammar_table::WORDS];
     let mut plain: Table = [0; grammar_table::WORDS];
     let c = prepare::plainly(mode, text, &mut t, &mut plain);
-    let v = c.verdict;
-    if prepare::is_refused(v) {
-        return write_put::not_written(v);
+    if c.verdict.is_refused() {
+        return write_put::not_written(c.verdict);
     }
     tree_write::write_list(&t, input, nodes, out)
 }
@@ -268,9 +245,8 @@ pub fn read_json(mode: Mode, text: &[u8], input: &[u8], json: &[u8], nodes: &mut
     let mut t: Table = [0; grammar_table::WORDS];
     let mut plain: Table = [0; grammar_table::WORDS];
     let c = prepare::plainly(mode, text, &mut t, &mut plain);
-    let v = c.verdict;
-    if prepare::is_refused(v) {
-        return tree_read::not_read(v);
+    if c.verdict.is_refused() {
+        return tree_read::not_read(c.verdict);
     }
     tree_read::read_list(&t, input, json, nodes)
 }
@@ -282,9 +258,8 @@ fn planned(mode: Mode, text: &[u8], input: &[u8], nodes: &[u32], room: usize) ->
     let mut t: Table = [0; grammar_table::WORDS];
     let mut plain: Table = [0; grammar_table::WORDS];
     let c = prepare::plainly(mode, text, &mut t, &mut plain);
-    let v = c.verdict;
-    if prepare::is_refused(v) {
-        return tree_summary::no_plan(v);
+    if c.verdict.is_refused() {
+        return tree_summary::no_plan(c.verdict);
     }
     tree_summary::judge(&t, input, nodes, room)
 }
@@ -300,14 +275,10 @@ pub fn summarise(
     ensures { SaysSummed result records.new
         (summarise_of mode text.now input.now nodes.now records.old) }
 {
-    let room = records.len();
-    let p = planned(mode, text, input, nodes, room);
+    let p = planned(mode, text, input, nodes, records.len());
     tree_summary::update_all(records, nodes, p.symbols, p.steps);
     p.answer
 }
-
-// The longest input (01, refusal 9).
-const INPUT_MOST: usize = 65535;
 
 // A refusal.
 fn no_spot(number: usize, place: usize) -> Spot
@@ -324,11 +295,10 @@ fn no_spot(number: usize, place: usize) -> Spot
 pub fn line_and_column(input: &[u8], position: usize) -> Spot
     ensures { SaysSpot result (spot_of input.now position) }
 {
-    let n = input.len();
-    if INPUT_MOST < n {
+    if INPUT_MOST < input.len() {
         return no_spot(9, INPUT_MOST);
     }
-    if n < position {
+    if input.len() < position {
         return no_spot(14, 0);
     }
     let p = base_lines::place_of(input, position);

@@ -1,6 +1,7 @@
 #![tactic(auto)]
 
-ghost use Rattle.std.specs.Prelude.{◌≡◌, Bool, true, false, List, [], ◌∷◌, ℕ, ◌+◌, ◌-◌, ◌*◌, ◌^◌, ◌<◌, ◌≤◌, length, get_or, set, take, cond, ◌||◌};
+ghost use Rattle.std.specs.Prelude.{◌≡◌, Bool, true, false, List, [], ◌∷◌, ℕ, ◌+◌, ◌-◌, ◌*◌, ◌^◌, ◌<◌, ◌≤◌, length, get_or, set, take, cond, ◌||◌, replicate};
+ghost use Rattle.base_words.specs.Set.{empty};
 ghost use Rattle.lake_analysis.specs.steps.Lent.{Begins, Parted, Fronted, SetsOf, lake_in, hit_in, blocked_in, skip_in, skips_in, CannotSkip};
 
 use grammar_table::records;
@@ -30,7 +31,7 @@ pub fn analyse(
         succ.new alts.new result }
 {
     begins(t, marks, sets, eps);
-    let first = lake_sets::succeed_all(t, sets, eps, base, succ);
+    lake_sets::succeed_all(t, sets, eps, base, succ);
     lake_sets::alt_all(t, sets, eps, succ, base, alts)
 }
 
@@ -70,53 +71,119 @@ fn analyse_front(
     )
 }
 
-// All sets of the intermediate grammar that a table holds, and the round count of ALT (01: "The reported count is the first k whose next round is equal").
-pub fn analyse_table(
-    t: &grammar_table::Table,
-    marks: &mut [bool; 64],
-    sets: &mut [[u64; 2]; 1024],
-    eps: &mut [bool; 1024],
-    succ: &mut [[u64; 2]; 1024],
-    alts: &mut [[u64; 2]; 1024],
-) -> usize
-    ensures { Fronted t.now marks.new sets.new eps.new succ.new alts.new result }
-{
-    let r = records::symbols(t);
-    let n = records::expressions(t);
-    if r > 64 {
-        return 0;
-    }
-    if n > 1024 {
-        return 0;
-    }
-    let all = Sizes {
-        symbols: r,
-        expressions: n,
-    };
-    analyse_front(t, all, marks, sets, eps, succ, alts)
+// What is worked out of an intermediate grammar beside ALT: the ε marks of its symbols; of its expressions BEGINNING, the ε mark and SUCCEED. Each run is as
+// long as a grammar can have symbols or expressions, and has them at its front: there is no heap. ALT is lent beside: it outlasts the others, whose room is
+// free then.
+#[derive(Drop)]
+pub struct Analysis {
+    pub marks: [bool; 64],
+    pub sets: [[u64; 2]; 1024],
+    pub eps: [bool; 1024],
+    pub succ: [[u64; 2]; 1024],
 }
 
-// The sets of expression e, numbered from 1, with its ε mark (01: "the three sets of an expression travel together with the ε mark").
-pub fn sets_at(
-    sets: &[[u64; 2]; 1024],
-    eps: &[bool; 1024],
-    succ: &[[u64; 2]; 1024],
-    alts: &[[u64; 2]; 1024],
-    e: usize,
-) -> lake_sets::Sets
-    requires { 1 ≤ e }
-    ensures { SetsOf sets.now eps.now succ.now alts.now e result }
-{
-    let i = e - 1;
-    let b = lake_sets::set_at(sets, i);
-    let s = lake_sets::set_at(succ, i);
-    let a = lake_sets::set_at(alts, i);
-    let x = lake_sets::flag_at(eps, i);
-    lake_sets::Sets {
-        begin: b,
-        succeed: s,
-        alt: a,
-        eps: x,
+impl Analysis {
+    // Of no grammar: no mark, and empty sets.
+    pub fn new() -> Analysis
+        ensures { result ≡ record {
+          marks = replicate 64 false;
+          sets = replicate 1024 empty;
+          eps = replicate 1024 false;
+          succ = replicate 1024 empty;
+        } }
+    {
+        Analysis {
+            marks: [false; 64],
+            sets: [[0, 0]; 1024],
+            eps: [false; 1024],
+            succ: [[0, 0]; 1024],
+        }
+    }
+
+    // All sets of the intermediate grammar that a table holds, and the round count of ALT (01: "The reported count is the first k whose next round is equal").
+    pub fn analyse_table(&mut self, t: &grammar_table::Table, alts: &mut [[u64; 2]; 1024]) -> usize
+        ensures { let a = self.new in Fronted t.now a.marks a.sets a.eps a.succ alts.new result }
+    {
+        let symbols = records::symbols(t);
+        let expressions = records::expressions(t);
+        if symbols > 64 || expressions > 1024 {
+            return 0;
+        }
+        let all = Sizes {
+            symbols,
+            expressions,
+        };
+        let Analysis {
+            marks,
+            sets,
+            eps,
+            succ,
+        } = self;
+        analyse_front(t, all, marks, sets, eps, succ, alts)
+    }
+
+    // The sets of expression e, numbered from 1, with its ε mark (01: "the three sets of an expression travel together with the ε mark").
+    pub fn sets_at(&self, alts: &[[u64; 2]; 1024], e: usize) -> lake_sets::Sets
+        requires { 1 ≤ e }
+        ensures { let a = self.now in SetsOf a.sets a.eps a.succ alts.now e result }
+    {
+        let i = e - 1;
+        lake_sets::Sets {
+            begin: lake_sets::set_at(&self.sets, i),
+            succeed: lake_sets::set_at(&self.succ, i),
+            alt: lake_sets::set_at(alts, i),
+            eps: lake_sets::flag_at(&self.eps, i),
+        }
+    }
+
+    // Whether n is a nonterminal of the set whose body has ε.
+    fn hit(&self, t: &grammar_table::Table, s: [u64; 2], n: usize) -> bool
+        requires { n < 64 }
+        ensures { result ≡ hit_in t.now self.now.marks s n }
+    {
+        base_words::member(s, n) && !is_lake(t, n) && lake_sets::flag_at(&self.marks, n)
+    }
+
+    fn blocked(&self, t: &grammar_table::Table, s: [u64; 2], r: usize) -> bool
+        requires { r ≤ 64 }
+        ensures { result ≡ blocked_in t.now self.now.marks s r }
+    {
+        (0..r).any(|n| self.hit(t, s, n))
+    }
+
+    // Whether lake n cannot skip.
+    fn stuck(&self, t: &grammar_table::Table, alts: &[[u64; 2]], r: usize, n: usize) -> bool
+        requires { (r ≤ 64) × (n < 64) }
+        ensures { result ≡ skip_in t.now self.now.marks alts.now r n }
+    {
+        is_lake(t, n) && self.blocked(t, lake_sets::alt_of(t, alts, n), r)
+    }
+
+    // The word w of the lakes below n, and n if it cannot skip.
+    fn note(&self, t: &grammar_table::Table, alts: &[[u64; 2]], r: usize, n: usize, w: u64) -> u64
+        requires { (r ≤ 64) × (n < 64) × (w < 2 ^ n) }
+        ensures { result ≡ w + cond (skip_in t.now self.now.marks alts.now r n) (2 ^ n) 0 }
+    {
+        if self.stuck(t, alts, r, n) {
+            w + lake_sets::bit(n)
+        } else {
+            w
+        }
+    }
+
+    // The lakes with a nonterminal in ALT whose body has ε, bit = symbol (01, "Other calls").
+    pub fn cannot_skip(&self, t: &grammar_table::Table, alts: &[[u64; 2]; 1024]) -> u64
+        ensures { CannotSkip t.now self.now.marks alts.now result }
+    {
+        let r = records::symbols(t);
+        if r > 64 {
+            return 0;
+        }
+        let mut w = 0;
+        for n in 0..r {
+            w = self.note(t, alts, r, n, w);
+        }
+        w
     }
 }
 
@@ -125,90 +192,5 @@ pub fn is_lake(t: &grammar_table::Table, n: usize) -> bool
     requires { n < 64 }
     ensures { result ≡ lake_in t.now n }
 {
-    let k = records::kind(t, n);
-    k != 0
-}
-
-// Whether n is a nonterminal of the set whose body has ε, or one before it was.
-fn hit(t: &grammar_table::Table, marks: &[bool], s: [u64; 2], n: usize, found: bool) -> bool
-    requires { n < 64 }
-    ensures { result ≡ (hit_in t.now marks.now s n || found) }
-{
-    if !base_words::member(s, n) {
-        return found;
-    }
-    if is_lake(t, n) {
-        return found;
-    }
-    if lake_sets::flag_at(marks, n) {
-        return true;
-    }
-    found
-}
-
-fn blocked(t: &grammar_table::Table, marks: &[bool], s: [u64; 2], r: usize) -> bool
-    requires { r ≤ 64 }
-    ensures { result ≡ blocked_in t.now marks.now s r }
-{
-    let mut found = false;
-    let mut n: usize = 0;
-    while n < r {
-        found = hit(t, marks, s, n, found);
-        n += 1;
-    }
-    found
-}
-
-// Whether lake n cannot skip.
-fn stuck(t: &grammar_table::Table, marks: &[bool], alts: &[[u64; 2]], r: usize, n: usize) -> bool
-    requires { (r ≤ 64) × (n < 64) }
-    ensures { result ≡ skip_in t.now marks.now alts.now r n }
-{
-    if is_lake(t, n) {
-        let s = lake_sets::alt_of(t, alts, n);
-        return blocked(t, marks, s, r);
-    }
-    false
-}
-
-fn noted(w: u64, n: usize, yes: bool) -> u64
-    requires { (w < 2 ^ n) × (n < 64) }
-    ensures { result ≡ w + cond yes (2 ^ n) 0 }
-{
-    if yes {
-        return w + lake_sets::bit(n);
-    }
-    w
-}
-
-fn note(
-    t: &grammar_table::Table,
-    marks: &[bool],
-    alts: &[[u64; 2]],
-    r: usize,
-    n: usize,
-    w: u64,
-) -> u64
-    requires { (r ≤ 64) × (n < 64) × (w < 2 ^ n) }
-    ensures { result ≡ w + cond (skip_in t.now marks.now alts.now r n) (2 ^ n) 0 }
-{
-    let yes = stuck(t, marks, alts, r, n);
-    noted(w, n, yes)
-}
-
-// The lakes with a nonterminal in ALT whose body has ε, bit = symbol (01, "Other calls").
-pub fn cannot_skip(t: &grammar_table::Table, marks: &[bool; 64], alts: &[[u64; 2]; 1024]) -> u64
-    ensures { CannotSkip t.now marks.now alts.now result }
-{
-    let r = records::symbols(t);
-    if r > 64 {
-        return 0;
-    }
-    let mut w: u64 = 0;
-    let mut n: usize = 0;
-    while n < r {
-        w = note(t, marks, alts, r, n, w);
-        n += 1;
-    }
-    w
+    lake_step_one::is_lake(t, n)
 }

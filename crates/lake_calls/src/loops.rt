@@ -5,38 +5,14 @@ ghost use Rattle.grammar_table.specs.Table.{symbol_count};
 
 use grammar_table::records;
 
-fn unmark(marks: &mut [bool])
-    ensures { marks.new ≡ replicate (length marks.old) false }
-{
-    let mut r = 0;
-    while r < marks.len() {
-        marks[r] = false;
-        r += 1;
-    }
-}
-
-fn copy(from: &[bool], to: &mut [bool])
-    requires { length from.now ≡ length to.old }
-    ensures { to.new ≡ from.now }
-{
-    let mut i = 0;
-    while i < to.len() {
-        to[i] = from[i];
-        i += 1;
-    }
-}
-
+// Here and below each run of marks or calls is lent by itself: so `Round`, `AllMarks` and `AllFirsts` name them.
 // One round of the ε marks, all symbols at once.
 fn mark_round(t: &[u32], marks: &[bool], next: &mut [bool])
     requires { length next.old ≤ 64 }
     ensures { Round t.now (length next.old) marks.now next.new }
 {
-    let mut i = 0;
-    while i < next.len() {
-        let x = records::body(t, i);
-        let a = crate::first(t, marks, x);
-        next[i] = a.empty;
-        i += 1;
+    for i in 0..next.len() {
+        next[i] = crate::first(t, marks, records::body(t, i)).empty;
     }
 }
 
@@ -45,17 +21,15 @@ pub fn mark_all(t: &[u32], marks: &mut [bool], next: &mut [bool])
     requires { (length marks.old ≤ 64) × (length next.old ≡ length marks.old) }
     ensures { AllMarks t.now (length marks.old) marks.new }
 {
-    unmark(marks);
-    let mut k: usize = 0;
-    while k < marks.len() {
+    marks.fill(false);
+    for _ in 0..marks.len() {
         mark_round(t, marks, next);
-        copy(next, marks);
-        k += 1;
+        marks.copy_from_slice(next);
     }
 }
 
-// The smallest symbol on a loop of first calls; the number of symbols where none is.
-pub fn loop_in(t: &[u32], marks: &mut [bool], next: &mut [bool], calls: &mut [u64]) -> usize
+// The smallest symbol on a loop of first calls, if one is.
+pub fn loop_in(t: &[u32], marks: &mut [bool], next: &mut [bool], calls: &mut [u64]) -> Option<usize>
     requires { (length calls.old ≤ 64) × (length marks.old ≡ length calls.old) × (length next.old ≡ length calls.old) }
     ensures { Looped t.now (length calls.old) result }
 {
@@ -71,21 +45,22 @@ fn loop_front(
     marks: &mut [bool],
     next: &mut [bool],
     calls: &mut [u64],
-) -> usize
+) -> Option<usize>
     requires { (n ≤ 64) × (n ≤ length marks.old) × (n ≤ length next.old) × (n ≤ length calls.old) }
     ensures { Looped t.now n result }
 {
     loop_in(t, &mut marks[..n], &mut next[..n], &mut calls[..n])
 }
 
-// Of all symbols of a table.
+// Of all symbols of a table: the number of symbols where none is on a loop, so `placed` says it and reading compares it for refusal 8
+// (`by-eight`, `by-none`).
 pub fn table_loop(t: &[u32]) -> usize
     requires { symbol_count t.now ≤ 64 }
     ensures { LoopedAll t.now result }
 {
     let mut marks = [false; 64];
     let mut next = [false; 64];
-    let mut calls: [u64; 64] = [0; 64];
+    let mut calls = [0; 64];
     let n = records::symbols(t);
-    loop_front(t, n, &mut marks, &mut next, &mut calls)
+    loop_front(t, n, &mut marks, &mut next, &mut calls).unwrap_or(n)
 }

@@ -2,7 +2,7 @@
 ghost use Rattle.std.specs.Prelude.{◌≤◌, ◌≡◌, length};
 ghost use Rattle.lake_calls.specs.steps.Ordering.{OrderedIn};
 
-// The symbols of a table by rank, then by number, at the front of `order`: how many.
+// The symbols of a table by rank, then by number, at the front of `order`: how many. Each run is lent by itself, as for the marks.
 fn order_in(
     t: &[u32],
     marks: &mut [bool],

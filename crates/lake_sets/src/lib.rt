@@ -36,13 +36,10 @@ pub fn node(t: &grammar_table::Table, e: usize) -> Record
     requires { e < 1024 }
     ensures { (part_by result.op result.left result.right ≡ part_in t.now e) × (result.left < 4294967296) }
 {
-    let op = records::op(t, e);
-    let left = records::left(t, e);
-    let right = records::right(t, e);
     Record {
-        op: op,
-        left: left,
-        right: right,
+        op: records::op(t, e),
+        left: records::left(t, e),
+        right: records::right(t, e),
     }
 }
 
@@ -50,14 +47,14 @@ pub fn node(t: &grammar_table::Table, e: usize) -> Record
 pub fn set_at(s: &[[u64; 2]], i: usize) -> [u64; 2]
     ensures { result ≡ get_or s.now i empty }
 {
-    if i < s.len() { s[i] } else { [0, 0] }
+    s.get(i).copied().unwrap_or([0, 0])
 }
 
 // The mark at i; no mark past the end.
 pub fn flag_at(s: &[bool], i: usize) -> bool
     ensures { result ≡ get_or s.now i false }
 {
-    if i < s.len() { s[i] } else { false }
+    s.get(i).copied().unwrap_or(false)
 }
 
 pub fn bit(k: usize) -> u64
@@ -71,40 +68,21 @@ fn begin_set(sets: &[[u64; 2]], eps: &[bool], k: Record) -> [u64; 2]
     ensures { Small (part_by k.op k.left k.right)
         → result ≡ (begin_by (λ x. false) (pair_at sets.now eps.now) (part_by k.op k.left k.right)).set }
 {
-    let op = k.op;
-    let l = k.left;
-    let r = k.right;
+    let Record { op, left, right } = k;
     match op {
-        grammar_table::TERMINAL => {
-            let b = bit(l);
-            return [0, b];
-        }
-        grammar_table::SYMBOL => {
-            let b = bit(l);
-            return [b, 0];
-        }
+        grammar_table::TERMINAL => [0, bit(left)],
+        grammar_table::SYMBOL => [bit(left), 0],
         grammar_table::SEQUENCE => {
-            let a = set_at(sets, l);
-            if flag_at(eps, l) {
-                return base_words::union(a, set_at(sets, r));
+            let first = set_at(sets, left);
+            if flag_at(eps, left) {
+                base_words::union(first, set_at(sets, right))
+            } else {
+                first
             }
-            return a;
         }
-        grammar_table::CHOICE => {
-            return base_words::union(set_at(sets, l), set_at(sets, r));
-        }
-        grammar_table::OPTION => {
-            return set_at(sets, l);
-        }
-        grammar_table::STAR => {
-            return set_at(sets, l);
-        }
-        grammar_table::PLUS => {
-            return set_at(sets, l);
-        }
-        _ => {
-            return [0, 0];
-        }
+        grammar_table::CHOICE => base_words::union(set_at(sets, left), set_at(sets, right)),
+        grammar_table::OPTION | grammar_table::STAR | grammar_table::PLUS => set_at(sets, left),
+        _ => [0, 0],
     }
 }
 
@@ -112,37 +90,18 @@ fn begin_set(sets: &[[u64; 2]], eps: &[bool], k: Record) -> [u64; 2]
 fn begin_eps(marks: &[bool], eps: &[bool], k: Record) -> bool
     ensures { result ≡ (begin_by (marked marks.now) (pair_at [] eps.now) (part_by k.op k.left k.right)).eps }
 {
-    let op = k.op;
-    let l = k.left;
-    let r = k.right;
+    let Record { op, left, right } = k;
     match op {
-        grammar_table::TERMINAL => {
-            return false;
-        }
-        grammar_table::SYMBOL => {
-            return flag_at(marks, l);
-        }
-        grammar_table::SEQUENCE => {
-            if flag_at(eps, l) {
-                return flag_at(eps, r);
-            }
-            return false;
-        }
-        grammar_table::CHOICE => {
-            if flag_at(eps, l) {
-                return true;
-            }
-            return flag_at(eps, r);
-        }
-        grammar_table::PLUS => {
-            return flag_at(eps, l);
-        }
-        _ => {
-            return true;
-        }
+        grammar_table::TERMINAL => false,
+        grammar_table::SYMBOL => flag_at(marks, left),
+        grammar_table::SEQUENCE => flag_at(eps, left) && flag_at(eps, right),
+        grammar_table::CHOICE => flag_at(eps, left) || flag_at(eps, right),
+        grammar_table::PLUS => flag_at(eps, left),
+        _ => true,
     }
 }
 
+// Here and below each run of sets or marks is lent by itself: so `Begun`, `MarkedAll` and `Flowed` name them.
 // BEGINNING and ε of expression e, stored.
 fn begin_one(
     t: &grammar_table::Table,
@@ -155,10 +114,8 @@ fn begin_one(
     ensures { Begun t.now marks.now e sets.old eps.old sets.new eps.new }
 {
     let k = node(t, e);
-    let s = begin_set(sets, eps, k);
-    let b = begin_eps(marks, eps, k);
-    sets[e] = s;
-    eps[e] = b;
+    sets[e] = begin_set(sets, eps, k);
+    eps[e] = begin_eps(marks, eps, k);
 }
 
 // BEGINNING and ε of every expression, parts before wholes, where `marks` says which symbols' bodies have ε.
@@ -166,10 +123,8 @@ pub fn begin_all(t: &grammar_table::Table, marks: &[bool], sets: &mut [[u64; 2]]
     requires { (length sets.old ≤ 1024) × (length eps.old ≡ length sets.old) }
     ensures { BegunAll t.now marks.now (length sets.old) sets.new eps.new }
 {
-    let mut e = 0;
-    while e < sets.len() {
+    for e in 0..sets.len() {
         begin_one(t, marks, sets, eps, e);
-        e += 1;
     }
 }
 
@@ -179,10 +134,7 @@ fn body_eps(t: &grammar_table::Table, eps: &[bool], r: usize) -> bool
     ensures { result ≡ root_eps (pair_at [] eps.now) (root_in t.now r) }
 {
     let b = records::body(t, r);
-    if b == 0 {
-        return false;
-    }
-    flag_at(eps, b - 1)
+    b != 0 && flag_at(eps, b - 1)
 }
 
 // The ε of each symbol's body.
@@ -191,10 +143,8 @@ fn gather(t: &grammar_table::Table, eps: &[bool], marks: &mut [bool])
     ensures { marks.new
         ≡ up_to (λ r. root_eps (pair_at [] eps.now) (root_in t.now r)) (length marks.old) }
 {
-    let mut r = 0;
-    while r < marks.len() {
+    for r in 0..marks.len() {
         marks[r] = body_eps(t, eps, r);
-        r += 1;
     }
 }
 
@@ -207,16 +157,6 @@ fn mark_round(t: &grammar_table::Table, marks: &mut [bool], sets: &mut [[u64; 2]
     gather(t, eps, marks);
 }
 
-fn unmark(marks: &mut [bool])
-    ensures { marks.new ≡ replicate (length marks.old) false }
-{
-    let mut r = 0;
-    while r < marks.len() {
-        marks[r] = false;
-        r += 1;
-    }
-}
-
 // The ε marks by symbol, from none on, as many rounds as there are symbols (01: "All are least").
 pub fn mark_all(
     t: &grammar_table::Table,
@@ -227,185 +167,113 @@ pub fn mark_all(
     requires { (length marks.old ≤ 64) × (length sets.old ≤ 1024) × (length eps.old ≡ length sets.old) }
     ensures { MarkedAll t.now (length sets.old) (length marks.old) marks.new }
 {
-    unmark(marks);
-    let mut k: usize = 0;
-    while k < marks.len() {
+    marks.fill(false);
+    for _ in 0..marks.len() {
         mark_round(t, marks, sets, eps);
-        k += 1;
     }
 }
 
-fn store(a: &mut [usize], i: usize, v: usize)
-    requires { i < length a.old }
-    ensures { a.new ≡ set a.old i v }
-{
-    a[i] = v;
+// Edges from expressions to expressions: `count` of them, from `src` to `dst`. There is no heap, so they stand in fixed arrays with their count beside,
+// and `Solved` says two lists of them.
+#[derive(Drop)]
+struct Edges {
+    src: [usize; 2048],
+    dst: [usize; 2048],
+    count: usize,
 }
 
-// The edge from one expression to another, behind the first m; none where there is no such expression.
-fn add(
-    src: &mut [usize; 2048],
-    dst: &mut [usize; 2048],
-    m: usize,
-    from: usize,
-    to: usize,
-    n: usize,
-) -> usize
-    requires { m < 2048 }
-    ensures { Grown src.old dst.old m (kept n (edge_to from to ∷ [])) src.new dst.new result }
-{
-    if to < n {
-        store(src, m, from);
-        store(dst, m, to);
-        return m + 1;
-    }
-    m
-}
-
-// Two edges.
-fn add_two(
-    src: &mut [usize; 2048],
-    dst: &mut [usize; 2048],
-    m: usize,
-    from: usize,
-    x: usize,
-    y: usize,
-    n: usize,
-) -> usize
-    requires { m ≤ 2046 }
-    ensures { Grown src.old dst.old m (kept n (edge_to from x ∷ edge_to from y ∷ [])) src.new dst.new result }
-{
-    let q = add(src, dst, m, from, x, n);
-    add(src, dst, q, from, y, n)
-}
-
-// What a sequence hands on: x gets it, and y only if x has ε (01: SUCCEED from the right, ALT from the left).
-fn hand_on(
-    eps: &[bool],
-    src: &mut [usize; 2048],
-    dst: &mut [usize; 2048],
-    m: usize,
-    from: usize,
-    x: usize,
-    y: usize,
-) -> usize
-    requires { m ≤ 2046 }
-    ensures { Grown src.old dst.old m
-        (kept (length eps.now) (edge_to from x ∷ when (get_or eps.now x false) (edge_to from y))) src.new dst.new result }
-{
-    let n = eps.len();
-    if flag_at(eps, x) {
-        return add_two(src, dst, m, from, x, y, n);
-    }
-    add(src, dst, m, from, x, n)
-}
-
-// The edge from one expression into the body of symbol r; none where it has none.
-fn add_body(
-    t: &grammar_table::Table,
-    src: &mut [usize; 2048],
-    dst: &mut [usize; 2048],
-    m: usize,
-    from: usize,
-    r: usize,
-    n: usize,
-) -> usize
-    requires { (m < 2048) × (r < 4294967296) }
-    ensures { Grown src.old dst.old m (kept n (edge_into from (root_in t.now r))) src.new dst.new result }
-{
-    let b = records::body(t, r);
-    if b == 0 {
-        return m;
-    }
-    add(src, dst, m, from, b - 1, n)
-}
-
-// The edges of expression e, one of as many as there are ε marks: of SUCCEED where `back`, else of ALT.
-fn hand(
-    t: &grammar_table::Table,
-    eps: &[bool],
-    back: bool,
-    src: &mut [usize; 2048],
-    dst: &mut [usize; 2048],
-    m: usize,
-    e: usize,
-) -> usize
-    requires { (m ≤ 2046) × (e < 1024) }
-    ensures { Grown src.old dst.old m
-        (kept (length eps.now) (edges_by back (pair_at [] eps.now) (root_in t.now) e (part_in t.now e)))
-        src.new dst.new result }
-{
-    let n = eps.len();
-    let k = node(t, e);
-    let op = k.op;
-    let l = k.left;
-    let r = k.right;
-    match op {
-        grammar_table::TERMINAL => {
-            return m;
+impl Edges {
+    // The edge from one expression to another of n; none where there is no such expression.
+    fn add(&mut self, from: usize, to: usize, n: usize)
+        requires { self.old.count < 2048 }
+        ensures { Grown self.old.src self.old.dst self.old.count (kept n (edge_to from to ∷ [])) self.new.src self.new.dst self.new.count }
+    {
+        if to < n {
+            self.src[self.count] = from;
+            self.dst[self.count] = to;
+            self.count += 1;
         }
-        grammar_table::SYMBOL => {
-            return add_body(t, src, dst, m, e, l, n);
+    }
+
+    // Two edges.
+    fn add_two(&mut self, from: usize, x: usize, y: usize, n: usize)
+        requires { self.old.count ≤ 2046 }
+        ensures { Grown self.old.src self.old.dst self.old.count (kept n (edge_to from x ∷ edge_to from y ∷ []))
+            self.new.src self.new.dst self.new.count }
+    {
+        self.add(from, x, n);
+        self.add(from, y, n);
+    }
+
+    // What a sequence hands on: x gets it, and y only if x has ε (01: SUCCEED from the right, ALT from the left).
+    fn hand_on(&mut self, eps: &[bool], from: usize, x: usize, y: usize)
+        requires { self.old.count ≤ 2046 }
+        ensures { Grown self.old.src self.old.dst self.old.count
+            (kept (length eps.now) (edge_to from x ∷ when (get_or eps.now x false) (edge_to from y))) self.new.src self.new.dst self.new.count }
+    {
+        if flag_at(eps, x) {
+            self.add_two(from, x, y, eps.len());
+        } else {
+            self.add(from, x, eps.len());
         }
-        grammar_table::SEQUENCE => {
-            if back {
-                return hand_on(eps, src, dst, m, e, r, l);
+    }
+
+    // The edge from one expression into the body of symbol r; none where it has none.
+    fn add_body(&mut self, t: &grammar_table::Table, from: usize, r: usize, n: usize)
+        requires { (self.old.count < 2048) × (r < 4294967296) }
+        ensures { Grown self.old.src self.old.dst self.old.count (kept n (edge_into from (root_in t.now r))) self.new.src self.new.dst self.new.count }
+    {
+        let b = records::body(t, r);
+        if b != 0 {
+            self.add(from, b - 1, n);
+        }
+    }
+
+    // The edges of expression e, one of as many as there are ε marks: of SUCCEED where `back`, else of ALT. The two differ in one line, and `edges_by` says
+    // both by the same Bool.
+    fn hand(&mut self, t: &grammar_table::Table, eps: &[bool], back: bool, e: usize)
+        requires { (self.old.count ≤ 2046) × (e < 1024) }
+        ensures { Grown self.old.src self.old.dst self.old.count
+            (kept (length eps.now) (edges_by back (pair_at [] eps.now) (root_in t.now) e (part_in t.now e)))
+            self.new.src self.new.dst self.new.count }
+    {
+        let n = eps.len();
+        let Record { op, left, right } = node(t, e);
+        match op {
+            grammar_table::SYMBOL => self.add_body(t, e, left, n),
+            grammar_table::SEQUENCE => {
+                if back {
+                    self.hand_on(eps, e, right, left);
+                } else {
+                    self.hand_on(eps, e, left, right);
+                }
             }
-            return hand_on(eps, src, dst, m, e, l, r);
-        }
-        grammar_table::CHOICE => {
-            return add_two(src, dst, m, e, l, r, n);
-        }
-        grammar_table::OPTION => {
-            return add(src, dst, m, e, l, n);
-        }
-        grammar_table::STAR => {
-            return add(src, dst, m, e, l, n);
-        }
-        grammar_table::PLUS => {
-            return add(src, dst, m, e, l, n);
-        }
-        _ => {
-            return m;
+            grammar_table::CHOICE => self.add_two(e, left, right, n),
+            grammar_table::OPTION | grammar_table::STAR | grammar_table::PLUS => self.add(
+                e, left, n,
+            ),
+            _ => {}
         }
     }
-}
 
-// All edges, and how many: at most two an expression.
-fn hand_all(
-    t: &grammar_table::Table,
-    eps: &[bool],
-    back: bool,
-    src: &mut [usize; 2048],
-    dst: &mut [usize; 2048],
-) -> usize
-    requires { length eps.now ≤ 1024 }
-    ensures { (result ≤ 2048)
-        × (edges src.new dst.new result
-        ≡ handed t.now eps.now back (length eps.now) (length eps.now)) }
-{
-    let mut m: usize = 0;
-    let mut e: usize = 0;
-    while e < eps.len() {
-        m = hand(t, eps, back, src, dst, m, e);
-        e += 1;
+    // All edges: at most two an expression.
+    fn hand_all(&mut self, t: &grammar_table::Table, eps: &[bool], back: bool)
+        requires { (length eps.now ≤ 1024) × (self.old.count ≡ 0) }
+        ensures { (self.new.count ≤ 2048)
+            × (edges self.new.src self.new.dst self.new.count
+            ≡ handed t.now eps.now back (length eps.now) (length eps.now)) }
+    {
+        for e in 0..eps.len() {
+            self.hand(t, eps, back, e);
+        }
     }
-    m
-}
-
-fn fits(x: u64) -> u64
-    ensures { (result ≡ x) × (result < 2 ^ 64) }
-{
-    x
 }
 
 // The same set, of which it is known that its words are words.
 fn clean(s: [u64; 2]) -> [u64; 2]
     ensures { (result ≡ s) × Set2 64 64 result }
 {
-    let a = fits(s[0]);
-    let b = fits(s[1]);
-    [a, b]
+    [s[0], s[1]]
 }
 
 // Expression i gets the set s.
@@ -413,8 +281,7 @@ fn gift(base: &mut [[u64; 2]], i: usize, s: [u64; 2])
     ensures { Gave (gift_to i s ∷ []) base.old base.new }
 {
     if i < base.len() {
-        let u = base_words::union(base[i], s);
-        base[i] = clean(u);
+        base[i] = clean(base_words::union(base[i], s));
     }
 }
 
@@ -423,26 +290,11 @@ fn succeed_gift(t: &grammar_table::Table, sets: &[[u64; 2]], base: &mut [[u64; 2
     requires { e < 1024 }
     ensures { Gave (succeed_gifts (pair_at sets.now []) (root_in t.now) e (part_in t.now e)) base.old base.new }
 {
-    let k = node(t, e);
-    let op = k.op;
-    let l = k.left;
-    let r = k.right;
+    let Record { op, left, right } = node(t, e);
     match op {
-        grammar_table::SEQUENCE => {
-            gift(base, l, set_at(sets, r));
-            return;
-        }
-        grammar_table::STAR => {
-            gift(base, l, set_at(sets, l));
-            return;
-        }
-        grammar_table::PLUS => {
-            gift(base, l, set_at(sets, l));
-            return;
-        }
-        _ => {
-            return;
-        }
+        grammar_table::SEQUENCE => gift(base, left, set_at(sets, right)),
+        grammar_table::STAR | grammar_table::PLUS => gift(base, left, set_at(sets, left)),
+        _ => {}
     }
 }
 
@@ -460,34 +312,20 @@ fn alt_gift(
         (alt_gifts (pair_at sets.now eps.now) (root_in t.now) (λ i. get_or succ.now i empty) e
         (part_in t.now e)) base.old base.new }
 {
-    let k = node(t, e);
-    let op = k.op;
-    let l = k.left;
-    let r = k.right;
+    let Record { op, left, right } = node(t, e);
     match op {
         grammar_table::CHOICE => {
-            gift(base, l, set_at(sets, r));
-            if flag_at(eps, r) {
-                gift(base, l, set_at(succ, e));
-                return;
+            gift(base, left, set_at(sets, right));
+            if flag_at(eps, right) {
+                gift(base, left, set_at(succ, e));
             }
-            return;
         }
-        grammar_table::OPTION => {
-            gift(base, l, set_at(succ, e));
-            return;
-        }
-        grammar_table::STAR => {
-            gift(base, l, set_at(succ, e));
-            return;
-        }
-        grammar_table::PLUS => {
-            gift(base, l, set_at(succ, e));
-            return;
-        }
-        _ => {
-            return;
-        }
+        grammar_table::OPTION | grammar_table::STAR | grammar_table::PLUS => gift(
+            base,
+            left,
+            set_at(succ, e),
+        ),
+        _ => {}
     }
 }
 
@@ -498,10 +336,8 @@ fn succeed_base(t: &grammar_table::Table, sets: &[[u64; 2]], base: &mut [[u64; 2
         × Fine base.new }
 {
     base_rounds::clear(base);
-    let mut e = 0;
-    while e < base.len() {
+    for e in 0..base.len() {
         succeed_gift(t, sets, base, e);
-        e += 1;
     }
 }
 
@@ -518,10 +354,8 @@ fn alt_base(
         (empties (length base.old))) × Fine base.new }
 {
     base_rounds::clear(base);
-    let mut e = 0;
-    while e < base.len() {
+    for e in 0..base.len() {
         alt_gift(t, sets, eps, succ, base, e);
-        e += 1;
     }
 }
 
@@ -540,20 +374,13 @@ fn rounds(
     base_rounds::solve(&src[..m], &dst[..m], base, cur, next)
 }
 
-// The same with whole arrays of edges.
-fn along(
-    src: &[usize; 2048],
-    dst: &[usize; 2048],
-    m: usize,
-    base: &[[u64; 2]],
-    cur: &mut [[u64; 2]],
-    next: &mut [[u64; 2]],
-) -> usize
-    requires { (m ≤ 2048) × Inside (length base.now) (edges src.now dst.now m) × (length cur.old ≡ length base.now)
-        × (length next.old ≡ length base.now) × (length base.now ≤ 1024) × Fine base.now }
-    ensures { FlowedAlong src.now dst.now m base.now result cur.new }
+// The same along the edges that are kept.
+fn along(all: &Edges, base: &[[u64; 2]], cur: &mut [[u64; 2]], next: &mut [[u64; 2]]) -> usize
+    requires { (all.now.count ≤ 2048) × Inside (length base.now) (edges all.now.src all.now.dst all.now.count)
+        × (length cur.old ≡ length base.now) × (length next.old ≡ length base.now) × (length base.now ≤ 1024) × Fine base.now }
+    ensures { FlowedAlong all.now.src all.now.dst all.now.count base.now result cur.new }
 {
-    rounds(src, dst, m, base, cur, next)
+    rounds(&all.src, &all.dst, all.count, base, cur, next)
 }
 
 // Rounds along the edges of all expressions, from what each has at once: of SUCCEED where `back`, else of ALT. How many.
@@ -567,12 +394,15 @@ fn flow(
     requires { (length base.now ≤ 1024) × (length eps.now ≡ length base.now) × (length cur.old ≡ length base.now) × Fine base.now }
     ensures { FlowedFrom t.now eps.now back base.now result cur.new }
 {
-    let mut src: [usize; 2048] = [0; 2048];
-    let mut dst: [usize; 2048] = [0; 2048];
-    let m = hand_all(t, eps, back, &mut src, &mut dst);
-    let mut next: [[u64; 2]; 1024] = [[0, 0]; 1024];
+    let mut all = Edges {
+        src: [0; 2048],
+        dst: [0; 2048],
+        count: 0,
+    };
+    all.hand_all(t, eps, back);
+    let mut next = [[0, 0]; 1024];
     let n = base.len();
-    along(&src, &dst, m, base, cur, &mut next[0..n])
+    along(&all, base, cur, &mut next[..n])
 }
 
 // Rounds of SUCCEED, of which nobody asks the count.
@@ -614,12 +444,7 @@ fn is_use(t: &[u32], e: usize, r: usize) -> bool
     requires { e < 4294967296 }
     ensures { result ≡ is_use (part_in t.now e) r }
 {
-    let op = records::op(t, e);
-    if op != grammar_table::SYMBOL {
-        return false;
-    }
-    let l = records::left(t, e);
-    l == r
+    records::op(t, e) == grammar_table::SYMBOL && records::left(t, e) == r
 }
 
 // The union s, and ALT of expression e where it is a use of symbol r.
@@ -628,10 +453,10 @@ fn join_use(t: &[u32], alts: &[[u64; 2]], r: usize, e: usize, s: [u64; 2]) -> [u
     ensures { result ≡ cond (is_use (part_in t.now e) r) (union_of s (get_or alts.now e empty)) s }
 {
     if is_use(t, e, r) {
-        let a = set_at(alts, e);
-        return base_words::union(s, a);
+        base_words::union(s, set_at(alts, e))
+    } else {
+        s
     }
-    s
 }
 
 // The union of ALT over the uses of symbol r among the first n expressions.
@@ -639,12 +464,11 @@ fn uses_alt(t: &[u32], alts: &[[u64; 2]], r: usize, n: usize) -> [u64; 2]
     requires { n < 4294967296 }
     ensures { result ≡ uses_alt (part_in t.now) (λ i. get_or alts.now i empty) r n }
 {
-    let mut s: [u64; 2] = [0, 0];
-    let mut e: usize = 0;
-    while e < n {
-        let u = join_use(t, alts, r, e, s);
-        s = u;
-        e += 1;
+    let mut s = [0, 0];
+    for e in 0..n {
+        // in two lines: a set that is handed over and taken back in one gets no proof
+        let joined = join_use(t, alts, r, e, s);
+        s = joined;
     }
     s
 }
@@ -654,10 +478,8 @@ pub fn alt_of(t: &[u32], alts: &[[u64; 2]], r: usize) -> [u64; 2]
     requires { r < 4294967296 }
     ensures { result ≡ alt_in t.now alts.now r }
 {
-    let b = records::body(t, r);
-    if b == 0 {
-        let n = records::expressions(t);
-        return uses_alt(t, alts, r, n);
+    match records::body(t, r) {
+        0 => uses_alt(t, alts, r, records::expressions(t)),
+        b => set_at(alts, b - 1),
     }
-    set_at(alts, b - 1)
 }

@@ -7,3 +7,4 @@ pub mod Next
 pub mod Water
 pub mod Final
 pub mod Proper
+pub mod Extents

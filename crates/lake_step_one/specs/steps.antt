@@ -1,3 +1,4 @@
 -- What one function of the code does to words: contracts shaped like the code. Laws tie them to the definitions.
 pub mod Runs
 pub mod Made
+pub mod Extents

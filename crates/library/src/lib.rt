@@ -19,10 +19,8 @@ pub extern "C" fn gm_read(mode: u8, text: &[u8], out: &mut [u64; 4]) -> u64
 {
     let m = library_numbers::mode_of(mode);
     let c = gurkenmond::read(m, text);
-    let v = c.verdict;
-    let w = library_numbers::of_read(v, c.symbols, c.terminals, c.expressions);
-    *out = w;
-    w[0]
+    *out = library_numbers::of_read(c.verdict, c.symbols, c.terminals, c.expressions);
+    out[0]
 }
 
 // 0, the round count, two words each of BEGINNING, SUCCEED and ALT of an expression of the intermediate grammar, then 1 for ε.
@@ -32,11 +30,8 @@ pub extern "C" fn gm_sets(mode: u8, text: &[u8], expression: usize, out: &mut [u
 {
     let m = library_numbers::mode_of(mode);
     let c = gurkenmond::sets(m, text, expression);
-    let v = c.verdict;
-    let s = c.sets;
-    let w = library_numbers::of_sets(v, c.rounds, s);
-    *out = w;
-    w[0]
+    *out = library_numbers::of_sets(c.verdict, c.rounds, c.sets);
+    out[0]
 }
 
 // 0, the lakes that cannot skip (bit = symbol number).
@@ -46,10 +41,8 @@ pub extern "C" fn gm_cannot_skip(mode: u8, text: &[u8], out: &mut [u64; 4]) -> u
 {
     let m = library_numbers::mode_of(mode);
     let c = gurkenmond::cannot_skip(m, text);
-    let v = c.verdict;
-    let w = library_numbers::of_lakes(v, c.word);
-    *out = w;
-    w[0]
+    *out = library_numbers::of_lakes(c.verdict, c.word);
+    out[0]
 }
 
 // 0, bytes taken, nodes; the nodes are four words each: symbol, start, end, depth.
@@ -67,10 +60,8 @@ pub extern "C" fn gm_match(
 {
     let m = library_numbers::mode_of(mode);
     let a = gurkenmond::match_input(m, text, input, cells, nodes);
-    let o = a.outcome;
-    let w = library_numbers::of_match(o, a.nodes);
-    *out = w;
-    w[0]
+    *out = library_numbers::of_match(a.outcome, a.nodes);
+    out[0]
 }
 
 // 0, how the lake matches at the place: 0 not, 1 by its rule, 2 by water, 3 by one skipped byte.
@@ -89,12 +80,8 @@ pub extern "C" fn gm_lake_at(
 {
     let m = library_numbers::mode_of(mode);
     let a = gurkenmond::lake_at(m, text, input, cells, lake, place);
-    let y = a.way;
-    let v = a.verdict;
-    let x = library_numbers::of_way(y);
-    let w = library_numbers::of_one(v, x);
-    *out = w;
-    w[0]
+    *out = library_numbers::of_one(a.verdict, library_numbers::of_way(a.way));
+    out[0]
 }
 
 // 0, then 1 if node k lies whole in the words with start ≤ end ≤ n, else 0.
@@ -102,11 +89,9 @@ pub extern "C" fn gm_lake_at(
 pub extern "C" fn gm_node_sound(nodes: &[u32], k: usize, n: usize, out: &mut [u64; 4]) -> u64
     ensures { Answers result out.new (sound_words (sound_at nodes.now k n)) }
 {
-    let b = gurkenmond::node_sound(nodes, k, n);
-    let s = library_numbers::bit(b);
-    let w = [0, s, 0, 0];
-    *out = w;
-    w[0]
+    let sound = gurkenmond::node_sound(nodes, k, n);
+    *out = [0, library_numbers::bit(sound), 0, 0];
+    out[0]
 }
 
 // 0, where the text of node k begins in the input, how many bytes it has; 0, 0, 0 for an unsound node.
@@ -114,9 +99,8 @@ pub extern "C" fn gm_node_sound(nodes: &[u32], k: usize, n: usize, out: &mut [u6
 pub extern "C" fn gm_node_text(input: &[u8], nodes: &[u32], k: usize, out: &mut [u64; 4]) -> u64
     ensures { Answers result out.new (span_words input.now nodes.now k) }
 {
-    let w = library_numbers::of_span(input, nodes, k);
-    *out = w;
-    w[0]
+    *out = library_numbers::of_span(input, nodes, k);
+    out[0]
 }
 
 // 0, bytes written; or 13, bytes needed.
@@ -126,10 +110,8 @@ pub extern "C" fn gm_write_own(mode: u8, text: &[u8], room: &mut [u8], out: &mut
 {
     let m = library_numbers::mode_of(mode);
     let a = gurkenmond::write_own(m, text, room);
-    let v = a.verdict;
-    let w = library_numbers::of_one(v, a.bytes);
-    *out = w;
-    w[0]
+    *out = library_numbers::of_one(a.verdict, a.bytes);
+    out[0]
 }
 
 // The same for the plain text.
@@ -139,10 +121,8 @@ pub extern "C" fn gm_write_plain(mode: u8, text: &[u8], room: &mut [u8], out: &m
 {
     let m = library_numbers::mode_of(mode);
     let a = gurkenmond::write_plain(m, text, room);
-    let v = a.verdict;
-    let w = library_numbers::of_one(v, a.bytes);
-    *out = w;
-    w[0]
+    *out = library_numbers::of_one(a.verdict, a.bytes);
+    out[0]
 }
 
 // The same for the name of a symbol, as it stands in the grammar.
@@ -158,10 +138,8 @@ pub extern "C" fn gm_symbol_name(
 {
     let m = library_numbers::mode_of(mode);
     let a = gurkenmond::symbol_name(m, text, symbol, room);
-    let v = a.verdict;
-    let w = library_numbers::of_one(v, a.bytes);
-    *out = w;
-    w[0]
+    *out = library_numbers::of_one(a.verdict, a.bytes);
+    out[0]
 }
 
 // The same for a node list as JSON text; the list is all words handed over.
@@ -179,10 +157,8 @@ pub extern "C" fn gm_write_json(
 {
     let m = library_numbers::mode_of(mode);
     let a = gurkenmond::write_json(m, text, input, nodes, room);
-    let v = a.verdict;
-    let w = library_numbers::of_one(v, a.bytes);
-    *out = w;
-    w[0]
+    *out = library_numbers::of_one(a.verdict, a.bytes);
+    out[0]
 }
 
 // 0, nodes: the list that a JSON text says; or 12, the nodes that there is room for.
@@ -200,10 +176,8 @@ pub extern "C" fn gm_read_json(
 {
     let m = library_numbers::mode_of(mode);
     let a = gurkenmond::read_json(m, text, input, json, nodes);
-    let v = a.verdict;
-    let w = library_numbers::of_one(v, a.nodes);
-    *out = w;
-    w[0]
+    *out = library_numbers::of_one(a.verdict, a.nodes);
+    out[0]
 }
 
 // 0, symbols: so many records are written, one for each symbol; or 17, how many are needed.
@@ -221,9 +195,8 @@ pub extern "C" fn gm_summarise(
 {
     let m = library_numbers::mode_of(mode);
     let a = gurkenmond::summarise(m, text, input, nodes, records);
-    let w = library_numbers::of_summed(a);
-    *out = w;
-    w[0]
+    *out = library_numbers::of_summed(a);
+    out[0]
 }
 
 // 0, line, column of a position.
@@ -232,7 +205,6 @@ pub extern "C" fn gm_line_and_column(input: &[u8], position: usize, out: &mut [u
     ensures { Answers result out.new (spot_words (spot_of input.now position)) }
 {
     let s = gurkenmond::line_and_column(input, position);
-    let w = library_numbers::of_spot(s);
-    *out = w;
-    w[0]
+    *out = library_numbers::of_spot(s);
+    out[0]
 }

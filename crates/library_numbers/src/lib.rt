@@ -22,10 +22,7 @@ pub fn mode_of(m: u8) -> Mode
 pub fn bit(b: bool) -> u64
     ensures { result ≡ bit_of b }
 {
-    if b {
-        return 1;
-    }
-    0
+    u64::from(b)
 }
 
 fn refusal(number: usize, place: usize) -> [u64; 4]
@@ -39,26 +36,17 @@ pub fn of_read(v: Verdict, s: usize, t: usize, e: usize) -> [u64; 4]
 {
     match v {
         Verdict::Accepted => [0, s as u64, t as u64, e as u64],
-        Verdict::Refused {
-            number: n,
-            place: p,
-        } => refusal(n, p),
+        Verdict::Refused { number, place } => refusal(number, place),
     }
 }
 
 pub fn of_sets(v: Verdict, rounds: usize, s: gurkenmond::Sets) -> [u64; 9]
     ensures { result ≡ sets_numbers v rounds s }
 {
-    let b = s.begin;
-    let c = s.succeed;
-    let a = s.alt;
-    let e = bit(s.eps);
+    let (b, c, a, e) = (s.begin, s.succeed, s.alt, bit(s.eps));
     match v {
         Verdict::Accepted => [0, rounds as u64, b[0], b[1], c[0], c[1], a[0], a[1], e],
-        Verdict::Refused {
-            number: n,
-            place: p,
-        } => [n as u64, p as u64, 0, 0, 0, 0, 0, 0, 0],
+        Verdict::Refused { number, place } => [number as u64, place as u64, 0, 0, 0, 0, 0, 0, 0],
     }
 }
 
@@ -67,10 +55,7 @@ pub fn of_lakes(v: Verdict, w: u64) -> [u64; 4]
 {
     match v {
         Verdict::Accepted => [0, w, 0, 0],
-        Verdict::Refused {
-            number: n,
-            place: p,
-        } => refusal(n, p),
+        Verdict::Refused { number, place } => refusal(number, place),
     }
 }
 
@@ -80,14 +65,11 @@ pub fn of_match(o: Outcome, k: usize) -> [u64; 4]
     match o {
         Outcome::Matched(taken) => [0, taken as u64, k as u64, 0],
         Outcome::NoMatch => [100, 0, 0, 0],
-        Outcome::Refused {
-            number: n,
-            place: p,
-        } => refusal(n, p),
+        Outcome::Refused { number, place } => refusal(number, place),
     }
 }
 
-// What a case of the lake question says.
+// What a case of the lake question says: the C interface's numbers, which `way_says` gives.
 pub fn of_way(w: Way) -> usize
     ensures { result ≡ way_says w }
 {
@@ -105,32 +87,22 @@ pub fn of_one(v: Verdict, x: usize) -> [u64; 4]
 {
     match v {
         Verdict::Accepted => [0, x as u64, 0, 0],
-        Verdict::Refused {
-            number: n,
-            place: p,
-        } => refusal(n, p),
+        Verdict::Refused { number, place } => refusal(number, place),
     }
 }
 
 pub fn of_summed(a: gurkenmond::Summed) -> [u64; 4]
     ensures { result ≡ one_by (verdict_says a.verdict) a.symbols }
 {
-    let v = a.verdict;
-    of_one(v, a.symbols)
+    of_one(a.verdict, a.symbols)
 }
 
 pub fn of_spot(s: gurkenmond::Spot) -> [u64; 4]
     ensures { result ≡ spot_by (verdict_says s.verdict) s.line s.column }
 {
-    let v = s.verdict;
-    let line = s.line;
-    let column = s.column;
-    match v {
-        Verdict::Accepted => [0, line as u64, column as u64, 0],
-        Verdict::Refused {
-            number: n,
-            place: p,
-        } => refusal(n, p),
+    match s.verdict {
+        Verdict::Accepted => [0, s.line as u64, s.column as u64, 0],
+        Verdict::Refused { number, place } => refusal(number, place),
     }
 }
 
@@ -138,14 +110,10 @@ pub fn of_spot(s: gurkenmond::Spot) -> [u64; 4]
 pub fn of_span(input: &[u8], nodes: &[u32], k: usize) -> [u64; 4]
     ensures { result ≡ span_words input.now nodes.now k }
 {
-    if nodes.len() / NODE_WORDS <= k {
-        return [0, 0, 0, 0];
+    if k < nodes.len() / NODE_WORDS && gurkenmond::node_sound(nodes, k, input.len()) {
+        let start = base_words::word(nodes, NODE_WORDS * k + START);
+        let end = base_words::word(nodes, NODE_WORDS * k + END);
+        return [0, start as u64, (end - start) as u64, 0];
     }
-    let n = input.len();
-    if gurkenmond::node_sound(nodes, k, n) {
-        let a = base_words::word(nodes, NODE_WORDS * k + START);
-        let b = base_words::word(nodes, NODE_WORDS * k + END);
-        return [0, a as u64, (b - a) as u64, 0];
-    }
-    [0, 0, 0, 0]
+    [0; 4]
 }

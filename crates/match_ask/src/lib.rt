@@ -3,21 +3,13 @@
 
 ghost use Rattle.std.specs.Prelude.{◌≡◌, ◌≤◌};
 ghost use Rattle.prepare.specs.Prepare.{prepared};
-ghost use Rattle.match_ask.specs.steps.Asks.{not_asked, way_of, no_lake, LakeIn, Stood, Looked, lent, asked_of};
+ghost use Rattle.match_ask.specs.steps.Asks.{not_asked, LakeIn, Stood, Looked, lent, asked_of};
 
 use grammar_table::Table;
 use match_eval::memory::Memory;
+pub use match_lake::ways::Way;
 use prepare::Verdict;
 use read_tokens::Mode;
-
-// How a lake matches at a position.
-#[derive(Clone, Copy)]
-pub enum Way {
-    Not,
-    ByRule,
-    ByWater,
-    BySkip,
-}
 
 #[derive(Clone, Copy)]
 pub struct LakeWay {
@@ -26,64 +18,32 @@ pub struct LakeWay {
 }
 
 // A refusal, handed on.
-pub fn not_asked(v: Verdict) -> LakeWay
-    ensures { result ≡ not_asked v }
+pub fn not_asked(verdict: Verdict) -> LakeWay
+    ensures { result ≡ not_asked verdict }
 {
     LakeWay {
         way: Way::Not,
-        verdict: v,
+        verdict,
     }
 }
 
-fn way_of(k: usize) -> Way
-    ensures { result ≡ way_of k }
-{
-    match k {
-        0 => Way::Not,
-        1 => Way::ByRule,
-        2 => Way::ByWater,
-        _ => Way::BySkip,
-    }
-}
-
-// What is asked of a grammar's symbol beside the tables: whether it is a lake, then its ALT; or the grammar's refusal.
+// What is asked of a grammar's symbol beside the tables: its ALT, if it is a lake; or the grammar's refusal.
 #[derive(Clone, Copy)]
 pub struct LakeAlt {
     pub symbol: usize,
-    pub there: bool,
-    pub alt: [u64; 2],
+    pub alt: Option<[u64; 2]>,
     pub verdict: Verdict,
 }
 
-fn no_lake(symbol: usize, v: Verdict) -> LakeAlt
-    ensures { result ≡ no_lake symbol v }
-{
-    LakeAlt {
-        symbol: symbol,
-        there: false,
-        alt: [0, 0],
-        verdict: v,
-    }
-}
-
-// A symbol of an intermediate grammar of n symbols.
-fn lake_in(mid: &Table, alts: &[[u64; 2]; 1024], n: usize, symbol: usize) -> LakeAlt
+// The ALT of a symbol of an intermediate grammar of n symbols, if it is a lake.
+fn lake_in(mid: &Table, alts: &[[u64; 2]; 1024], n: usize, symbol: usize) -> Option<[u64; 2]>
     requires { n ≤ 64 }
     ensures { LakeIn mid.now alts.now n symbol result }
 {
-    if n <= symbol {
-        return no_lake(symbol, Verdict::Accepted);
+    if n <= symbol || !lake_analysis::is_lake(mid, symbol) {
+        return None;
     }
-    if !lake_analysis::is_lake(mid, symbol) {
-        return no_lake(symbol, Verdict::Accepted);
-    }
-    let a = lake_sets::alt_of(mid, alts, symbol);
-    LakeAlt {
-        symbol: symbol,
-        there: true,
-        alt: a,
-        verdict: Verdict::Accepted,
-    }
+    Some(lake_sets::alt_of(mid, alts, symbol))
 }
 
 // The plain form of a text's grammar, and what is asked of a symbol. The intermediate table and all ALT are needed no longer: their room is free for the
@@ -96,15 +56,24 @@ pub fn look(mode: Mode, text: &[u8], symbol: usize, plain: &mut Table) -> LakeAl
     let r = prepare::load(mode, text, plain);
     let made = prepare::alternatives(plain, &mut mid, &mut alts);
     let p = prepare::finish(r, made, &mid, &alts, plain);
-    let c = p.counted;
-    let v = c.verdict;
-    if prepare::is_refused(v) {
-        return no_lake(symbol, v);
+    let verdict = p.counted.verdict;
+    if verdict.is_refused() {
+        return LakeAlt {
+            symbol,
+            alt: None,
+            verdict,
+        };
     }
     let n = prepare::symbols(plain);
-    lake_in(&mid, &alts, n, symbol)
+    let alt = lake_in(&mid, &alts, n, symbol);
+    LakeAlt {
+        symbol,
+        alt,
+        verdict,
+    }
 }
 
+// 9 and 10 as in `match_run::run`, whose line says why they are told twice.
 // The lake question on the plain form of an accepted text's grammar: 9, 10, then 14; then the cells are filled. How the lake matches is asked of the grammar
 // itself, for which the table is free then.
 pub fn ask(
@@ -119,7 +88,7 @@ pub fn ask(
     requires { Stood mode text.now table.old l }
     ensures { lent result cells.new ≡ asked_of (prepared mode text.now) input.now cells.old l.symbol place }
 {
-    if 65535 < input.len() {
+    if input.len() > 65535 {
         return not_asked(Verdict::Refused {
             number: 9,
             place: 65535,
@@ -133,28 +102,23 @@ pub fn ask(
             place: need,
         });
     }
-    if !l.there {
-        return not_asked(Verdict::Refused {
-            number: 14,
-            place: 0,
-        });
-    }
+    let no_such = Verdict::Refused {
+        number: 14,
+        place: 0,
+    };
+    let Some(alt) = l.alt else {
+        return not_asked(no_such);
+    };
     if input.len() < place {
-        return not_asked(Verdict::Refused {
-            number: 14,
-            place: 0,
-        });
+        return not_asked(no_such);
     }
     let mut mem: Memory = [0; match_eval::memory::WORDS];
     match_cells::filling::fill(table, input, cells, &mut mem);
     // what filling remembered is about the plain table
     mem = [0; match_eval::memory::WORDS];
     prepare::own_again(mode, text, table);
-    let a = l.alt;
-    let w = match_lake::way(table, input, cells, &mem, a, l.symbol, place);
-    let how = way_of(w);
     LakeWay {
-        way: how,
+        way: match_lake::way(table, input, cells, &mem, alt, l.symbol, place),
         verdict: Verdict::Accepted,
     }
 }

@@ -1,5 +1,5 @@
 // The work cells of a plain grammar's table on a text, symbols in the order of ranks (01, Meaning of a match).
-ghost use Rattle.std.specs.Prelude.{ℕ, ◌+◌, ◌*◌, ◌^◌, ◌<◌, ◌≤◌, ◌≡◌, true, List, get_or, length, set};
+ghost use Rattle.std.specs.Prelude.{ℕ, ◌+◌, ◌*◌, ◌^◌, ◌<◌, ◌≤◌, ◌≡◌, true, MatchOption, List, get_or, length, set};
 ghost use Rattle.std.specs.Int.Bits.{bit_or};
 ghost use Rattle.grammar_table.specs.Table.{words_from, symbol_count};
 ghost use Rattle.grammar_table.specs.Trees.{bodies_of};
@@ -34,9 +34,7 @@ fn preset(t: &Table, cells: &mut [u32], mem: &Memory, n: usize, b: usize, i: usi
         × Open t.now mem.now b 0 n result }
 {
     let mut open: u64 = 0;
-    let mut r = n;
-    while 0 < r {
-        r -= 1;
+    for r in (0..n).rev() {
         let x = grammar_table::records::body(t, r);
         let w = match_eval::memory::said(mem, x, b);
         if w != 0 {
@@ -73,24 +71,23 @@ fn place(t: &Table, s: &[u8], cells: &mut [u32], mem: &Memory, order: &[u32], n:
 {
     let b = match_eval::byte_at(s, p);
     let open = preset(t, cells, mem, n, b, p * n);
-    let mut j: usize = 0;
-    while j < n {
+    for j in 0..n {
         let r = word(order, j);
-        j += 1;
         if lake_calls::has(open, r) {
             store(t, s, cells, mem, n, r, p);
         }
     }
 }
 
-// Where the record of byte b begins in the plan; 0 for none.
-fn record_at(plan: &Plan, b: usize) -> usize
-    ensures { (result ≡ record_of plan.now b) × (result < 4294967296) }
+// Where the record of byte b begins in the plan, if there is one.
+fn record_at(plan: &Plan, b: usize) -> Option<usize>
+    ensures { MatchOption result (record_of plan.now b ≡ 0) (λ o. (o ≡ record_of plan.now b) × (0 < o) × (o < 4294967296)) }
 {
     if BYTES <= b {
-        return 0;
+        return None;
     }
-    word(plan, b)
+    let o = word(plan, b);
+    if o == 0 { None } else { Some(o) }
 }
 
 // Fills the cells of all places, the last first (01: "for p from 0 to n"), and remembers the rounds of each key at each place: by the record of the byte that
@@ -111,16 +108,14 @@ fn rows(
         × Knows t.now s.now cells.new (symbol_count t.now) mem.new 0 0 }
 {
     let n = grammar_table::records::symbols(t);
-    let mut i = s.len() + 1;
-    while 0 < i {
-        i -= 1;
+    for i in (0..s.len() + 1).rev() {
         let b = match_eval::byte_at(s, i);
-        let o = record_at(plan, b);
-        if o != 0 {
-            tasks::place_by(t, s, cells, mem, plan, lists, Place { n: n, o: o, p: i });
-        } else {
-            place(t, s, cells, mem, order, n, i);
-            match_rounds::learn_all(t, s, cells, mem, n, i);
+        match record_at(plan, b) {
+            Some(o) => tasks::place_by(t, s, cells, mem, plan, lists, Place { n, o, p: i }),
+            None => {
+                place(t, s, cells, mem, order, n, i);
+                match_rounds::learn_all(t, s, cells, mem, n, i);
+            }
         }
     }
 }
@@ -139,13 +134,7 @@ fn usable(
     ensures { result ≡ true → (full ≡ true) × Planned t.now mem.now order.now n plan.now
         × AllListed t.now mem.now n lists.now }
 {
-    if !full {
-        return false;
-    }
-    if !match_plan::checked(t, mem, order, n, plan) {
-        return false;
-    }
-    match_parts::checked(t, mem, n, lists)
+    full && match_plan::checked(t, mem, order, n, plan) && match_parts::checked(t, mem, n, lists)
 }
 
 // Such a plan stays, any other loses its records.
@@ -162,10 +151,9 @@ fn keep_right(
     ensures { Planned t.now mem.now order.now n plan.new
         × ((b : ℕ) → (record_of plan.new b ≡ 0 → ⊥) → (full ≡ true) × AllListed t.now mem.now n lists.now) }
 {
-    if usable(t, mem, order, n, plan, lists, full) {
-        return;
+    if !usable(t, mem, order, n, plan, lists, full) {
+        *plan = [0; match_plan::WORDS];
     }
-    *plan = [0; match_plan::WORDS];
 }
 
 // The same for every place, with a key for each repeated part, what bytes decide, and nothing remembered at first.

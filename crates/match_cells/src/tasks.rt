@@ -22,11 +22,7 @@ fn copy_row(cells: &mut [u32], plan: &Plan, o: usize, n: usize, i: usize)
     requires { (n ≤ 64) × (o + n ≤ 5120) × (i + n ≤ length cells.old) }
     ensures { cells.new ≡ copy_of plan.now o i n cells.old }
 {
-    let mut r: usize = 0;
-    while r < n {
-        cells[i + r] = plan[o + r];
-        r += 1;
-    }
+    cells[i..i + n].copy_from_slice(&plan[o..o + n]);
 }
 
 // The tasks of a place p, over n symbols: from i on m open symbols, whose cells are stored, then keys, whose rounds are remembered; k in all.
@@ -39,7 +35,7 @@ struct Job {
     p: usize,
 }
 
-// All of them, one after the other.
+// All of them, one after the other. Each writes cells or memory between calls that are lent both: a struct of what is lent would have to be made anew for each.
 fn tasks(
     t: &Table,
     s: &[u8],
@@ -58,21 +54,16 @@ fn tasks(
         × Knows t.now s.now cells.new job.n mem.new job.p job.p
         × Front mem.old mem.new }
 {
-    let n = job.n;
-    let m = job.m;
-    let k = job.k;
-    let p = job.p;
-    let mut j: usize = 0;
-    while j < k {
-        let w = word(plan, job.i + j);
+    let Job { n, i, m, k, p } = job;
+    for j in 0..k {
+        let w = word(plan, i + j);
         let at = word(lists, w);
-        let v = match_parts::list_at(t, s, cells, mem, lists, Ask { n: n, i: at, p: p });
-        j += 1;
-        if j <= m {
+        let v = match_parts::list_at(t, s, cells, mem, lists, Ask { n, i: at, p });
+        if j < m {
             put(cells, p * n + w, v);
         } else {
             let y = word(mem, PARTS_AT + (w - KEYS));
-            match_rounds::learn_first(t, s, cells, mem, n, First { y: y, p: p, a: v });
+            match_rounds::learn_first(t, s, cells, mem, n, First { y, p, a: v });
         }
     }
 }
@@ -107,39 +98,12 @@ pub fn place_by(
         × Knows t.now s.now cells.new at.n mem.new at.p at.p
         × Front mem.old mem.new }
 {
-    let n = at.n;
-    let p = at.p;
-    copy_row(cells, plan, at.o, n, p * n);
-    let m = word(plan, at.o + n);
-    let k = word(plan, at.o + n + TASKS);
-    let i = at.o + n + FIRST_TASK;
-    tasks(
-        t,
-        s,
-        cells,
-        mem,
-        plan,
-        lists,
-        Job {
-            n: n,
-            i: i,
-            m: m,
-            k: k,
-            p: p,
-        },
-    );
+    let Place { n, o, p } = at;
+    copy_row(cells, plan, o, n, p * n);
+    let m = word(plan, o + n);
+    let k = word(plan, o + n + TASKS);
+    let i = o + n + FIRST_TASK;
+    tasks(t, s, cells, mem, plan, lists, Job { n, i, m, k, p });
     let d = word(plan, i + k);
-    match_rounds::run_all(
-        t,
-        s,
-        cells,
-        mem,
-        plan,
-        n,
-        Takers {
-            i: i + k + 1,
-            d: d,
-            p: p,
-        },
-    );
+    match_rounds::run_all(t, s, cells, mem, plan, n, Takers { i: i + k + 1, d, p });
 }

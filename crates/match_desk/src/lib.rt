@@ -3,14 +3,16 @@
 // twice. Expressions are 1 + their number; 0 is none.
 #![tactic(auto)]
 
-ghost use Rattle.std.specs.Prelude.{◌+◌, ◌-◌, ◌≤◌, ◌<◌, ◌≡◌, set};
+ghost use Rattle.std.specs.Prelude.{◌+◌, ◌-◌, ◌≤◌, ◌<◌, ◌≡◌, max, set};
 ghost use Rattle.grammar_table.specs.Table.{expression_count};
 ghost use Rattle.match_desk.specs.steps.Desk.{Forest, Desk, mark_of, parents_at};
 ghost use Rattle.match_desk.specs.steps.Parts.{Made};
 
 use base_words::{put, word};
+use grammar_table::{part, records};
 
-// Marks, one for each expression, stand first. Then the returns, one for each level; the lanes, 4 of 256 words, and each expression's lane; and the parents.
+// No heap, fixed memory. Marks, one for each expression, stand first; then the returns, one for each level; the lanes, 4 of 256 words, and each
+// expression's lane; and the parents.
 pub const RETURNS_AT: usize = 1025;
 
 pub const LANES_AT: usize = 1282;
@@ -39,28 +41,14 @@ pub fn look(t: &[u32], x: usize) -> Seen
     ensures { Made t.now x result.op result.left result.y result.z }
 {
     let e = x - 1;
-    let op = grammar_table::records::op(t, e);
-    let left = grammar_table::records::left(t, e);
-    let right = grammar_table::records::right(t, e);
-    let y = grammar_table::part(left, e);
-    let z = grammar_table::part(right, e);
+    let left = records::left(t, e);
+    let right = records::right(t, e);
     Seen {
-        op: op,
-        left: left,
-        y: y,
-        z: z,
+        op: records::op(t, e),
+        left,
+        y: part(left, e),
+        z: part(right, e),
     }
-}
-
-// 0 where both are.
-fn either(a: usize, b: usize) -> usize
-    requires { (a < 4294967296) × (b < 4294967296) }
-    ensures { (result < 4294967296) × (result ≡ 0 → (a ≡ 0) × (b ≡ 0)) }
-{
-    if a == 0 {
-        return b;
-    }
-    a
 }
 
 // x has one part: it holds what the part holds.
@@ -68,24 +56,20 @@ fn adopt(desk: &mut [u32], x: usize, y: usize)
     requires { (x ≤ 1024) × (y ≤ 1024) }
     ensures { desk.new ≡ set (set desk.old x (mark_of desk.old y)) (parents_at + y) x }
 {
-    let m = word(desk, y);
-    put(desk, x, m);
+    let mark = word(desk, y);
+    put(desk, x, mark);
     put(desk, PARENTS_AT + y, x);
 }
 
 // x has two: it holds what one of them holds.
-fn adopt_both(desk: &mut [u32], x: usize, y: usize, z: usize) -> usize
+fn adopt_both(desk: &mut [u32], x: usize, y: usize, z: usize)
     requires { (x ≤ 1024) × (y ≤ 1024) × (z ≤ 1024) }
-    ensures { (desk.new ≡ set (set (set desk.old x result) (parents_at + y) x) (parents_at + z) x)
-        × (result ≡ 0 → (mark_of desk.old y ≡ 0) × (mark_of desk.old z ≡ 0)) }
+    ensures { desk.new ≡ set (set (set desk.old x (max (mark_of desk.old y) (mark_of desk.old z))) (parents_at + y) x) (parents_at + z) x }
 {
-    let a = word(desk, y);
-    let b = word(desk, z);
-    let m = either(a, b);
-    put(desk, x, m);
+    let mark = word(desk, y).max(word(desk, z));
+    put(desk, x, mark);
     put(desk, PARENTS_AT + y, x);
     put(desk, PARENTS_AT + z, x);
-    m
 }
 
 // One expression more.
@@ -93,32 +77,12 @@ fn learn(t: &[u32], desk: &mut [u32], x: usize)
     requires { (0 < x) × (x ≤ expression_count t.now) × (expression_count t.now ≤ 1024) × Forest t.now × Desk t.now desk.old (x - 1) }
     ensures { Desk t.now desk.new x }
 {
-    let g = look(t, x);
-    let op = g.op;
-    let y = g.y;
-    let z = g.z;
-    if op == grammar_table::SYMBOL {
-        put(desk, x, HOLDS);
-        return;
-    }
-    if op == grammar_table::SEQUENCE {
-        adopt_both(desk, x, y, z);
-        return;
-    }
-    if op == grammar_table::CHOICE {
-        adopt_both(desk, x, y, z);
-        return;
-    }
-    if op == grammar_table::OPTION {
-        adopt(desk, x, y);
-        return;
-    }
-    if op == grammar_table::STAR {
-        adopt(desk, x, y);
-        return;
-    }
-    if op == grammar_table::PLUS {
-        adopt(desk, x, y);
+    let Seen { op, y, z, .. } = look(t, x);
+    match op {
+        grammar_table::SYMBOL => put(desk, x, HOLDS),
+        grammar_table::SEQUENCE | grammar_table::CHOICE => adopt_both(desk, x, y, z),
+        grammar_table::OPTION | grammar_table::STAR | grammar_table::PLUS => adopt(desk, x, y),
+        _ => {}
     }
 }
 
@@ -127,10 +91,7 @@ pub fn learn_all(t: &[u32], desk: &mut [u32])
     requires { (expression_count t.now ≤ 1024) × Forest t.now × Desk t.now desk.old 0 }
     ensures { Desk t.now desk.new (expression_count t.now) }
 {
-    let m = grammar_table::records::expressions(t);
-    let mut e: usize = 0;
-    while e < m {
+    for e in 0..records::expressions(t) {
         learn(t, desk, e + 1);
-        e += 1;
     }
 }

@@ -9,33 +9,27 @@ ghost use Rattle.match_eval.specs.steps.Memory.{rounds_of, Knows};
 ghost use Rattle.match_eval.specs.steps.Firsts.{byte_at};
 ghost use Rattle.grammar_table.specs.Trees.{tree_of};
 
+use base_words::word;
 use grammar_table::{Table, records};
 use memory::Memory;
 
 pub mod memory;
 
-// The byte at the text's end.
+// The byte at the text's end: a number, by which words of the memory and of the plan are found.
 pub const END: usize = 256;
 
 // The byte at p.
 pub fn byte_at(s: &[u8], p: usize) -> usize
     ensures { (result ≡ byte_at s.now p) × (result ≤ 256) }
 {
-    if p < s.len() {
-        let b = s[p] as usize;
-        return b;
-    }
-    END
+    if p < s.len() { usize::from(s[p]) } else { END }
 }
 
-// What any byte takes.
+// What any byte takes. Here and below an answer is the word of a work cell, kept as it is (01, Meaning of a match): 0 for failure, else 1 + the bytes taken.
 pub fn any_at(s: &[u8], p: usize) -> usize
     ensures { result ≡ leaf_at s.now any p }
 {
-    if p < s.len() {
-        return 2;
-    }
-    0
+    if p < s.len() { 2 } else { 0 }
 }
 
 // What a literal of n bytes takes, which stand in the table from i on: one pass.
@@ -43,21 +37,11 @@ fn literal_at(t: &[u32], s: &[u8], i: usize, n: usize, p: usize) -> usize
     requires { (i < 4294967296000) × (n < 4294967296) × (length s.now ≤ 65535) × (p ≤ length s.now) }
     ensures { result ≡ leaf_at s.now (literal (words_from t.now i n)) p }
 {
-    let mut j = i;
-    let mut q = p;
-    let mut k = n;
-    while 0 < k {
-        if s.len() <= q {
+    for k in 0..n {
+        let q = p + k;
+        if s.len() <= q || usize::from(s[q]) != word(t, i + k) {
             return 0;
         }
-        let b = s[q] as usize;
-        let c = base_words::word(t, j);
-        if b != c {
-            return 0;
-        }
-        j += 1;
-        q += 1;
-        k -= 1;
     }
     n + 1
 }
@@ -67,15 +51,11 @@ fn class_at(t: &[u32], s: &[u8], i: usize, p: usize) -> usize
     requires { i < 4294967296000 }
     ensures { result ≡ leaf_at s.now (class (marks_from t.now i 256)) p }
 {
-    if s.len() <= p {
-        return 0;
+    if p < s.len() && word(t, i + usize::from(s[p])) != 0 {
+        2
+    } else {
+        0
     }
-    let b = s[p] as usize;
-    let m = base_words::word(t, i + b);
-    if m == 0 {
-        return 0;
-    }
-    2
 }
 
 // What terminal x takes.
@@ -84,15 +64,14 @@ pub fn leaf_at(t: &[u32], s: &[u8], x: usize, p: usize) -> usize
     ensures { result ≡ leaf_at s.now (leaf_in t.now x) p }
 {
     let i = records::content_at(x);
-    let k = records::leaf_kind(t, x);
-    if k == grammar_table::ANY {
-        return any_at(s, p);
+    match records::leaf_kind(t, x) {
+        grammar_table::ANY => any_at(s, p),
+        grammar_table::LITERAL => {
+            let n = records::leaf_length(t, x);
+            literal_at(t, s, i, n, p)
+        }
+        _ => class_at(t, s, i, p),
     }
-    if k == grammar_table::LITERAL {
-        let n = records::leaf_length(t, x);
-        return literal_at(t, s, i, n, p);
-    }
-    class_at(t, s, i, p)
 }
 
 // What the cells say of symbol r of n.
@@ -100,18 +79,17 @@ pub fn cell_at(s: &[u8], cells: &[u32], n: usize, r: usize, p: usize) -> usize
     requires { (n ≤ 64) × (length s.now ≤ 65535) × (p ≤ length s.now) }
     ensures { result ≡ cell_at s.now cells.now n r p }
 {
-    if r < n {
-        let v = base_words::word(cells, p * n + r);
-        if v <= s.len() - p + 1 {
-            return v;
-        }
+    if n <= r {
         return 0;
     }
-    0
+    let v = word(cells, p * n + r);
+    if v <= s.len() - p + 1 { v } else { 0 }
 }
 
-// What expression x - 1 takes at p, and `.` for 0: 0 for failure, else 1 + the bytes taken. Symbols are looked up, so that it goes down one body only;
-// rounds that are remembered are not asked again, and a part that the byte at its place decides is not evaluated.
+// What expression x - 1 takes at p, and `.` for 0. Callers write cells and memory between calls: a struct of what is lent here would have to be made anew for
+// each.
+// Symbols are looked up, so that it goes down one body only; rounds that are remembered are not asked again, and a part that the byte at its place decides is
+// not evaluated.
 #[cycle(eval_with_many_round)]
 pub fn eval_with(
     t: &Table,
@@ -143,10 +121,7 @@ pub fn eval_with(
             let r = records::right(t, e);
             let z = grammar_table::part(r, e);
             let b = round(t, s, cells, mem, n, z, p + (a - 1));
-            if b == 0 {
-                return 0;
-            }
-            a + b - 1
+            if b == 0 { 0 } else { a + b - 1 }
         }
         grammar_table::CHOICE => {
             let a = round(t, s, cells, mem, n, y, p);
@@ -159,32 +134,24 @@ pub fn eval_with(
         }
         grammar_table::OPTION => {
             let a = round(t, s, cells, mem, n, y, p);
-            if a == 0 {
-                return 1;
-            }
-            a
+            if a == 0 { 1 } else { a }
         }
         grammar_table::STAR => many(t, s, cells, mem, n, y, p) + 1,
         grammar_table::PLUS => {
             let a = round(t, s, cells, mem, n, y, p);
             if a <= 1 {
-                return a;
+                a
+            } else {
+                a + many(t, s, cells, mem, n, y, p + (a - 1))
             }
-            a + many(t, s, cells, mem, n, y, p + (a - 1))
         }
         grammar_table::AHEAD => {
             let a = round(t, s, cells, mem, n, y, p);
-            if a == 0 {
-                return 0;
-            }
-            1
+            if a == 0 { 0 } else { 1 }
         }
         _ => {
             let a = round(t, s, cells, mem, n, y, p);
-            if a == 0 {
-                return 1;
-            }
-            0
+            if a == 0 { 1 } else { 0 }
         }
     }
 }
@@ -206,8 +173,7 @@ pub fn part_at(
         return any_at(s, p);
     }
     let e = x - 1;
-    let op = records::op(t, e);
-    if op == grammar_table::SYMBOL {
+    if records::op(t, e) == grammar_table::SYMBOL {
         let l = records::left(t, e);
         return cell_at(s, cells, n, l, p);
     }
@@ -215,24 +181,20 @@ pub fn part_at(
 }
 
 // The bytes that rounds of expression x - 1 take from p on: up to the first that fails or takes nothing, or to a place from which they are known. What the byte
-// at a place decides is asked first: where it says that no round begins, nothing is remembered.
+// at a place decides is asked first: where it says that no round begins, nothing is remembered. No round is counted: a step is what the round takes.
 #[cycle(eval_with_many_round)]
 pub fn many(t: &Table, s: &[u8], cells: &[u32], mem: &Memory, n: usize, x: usize, p: usize) -> usize
     requires { ((n ≤ 64) × (x ≤ 4294967296) × (length s.now ≤ 65535) × (p ≤ length s.now)) × Knows t.now s.now cells.now n mem.now 0 p }
     ensures { result ≡ rounds_of t.now s.now cells.now n x p }
 {
-    let mut k = s.len();
     let mut q = p;
-    while 0 < k {
+    loop {
         let b = byte_at(s, q);
         let w = memory::said(mem, x, b);
-        if 0 < w {
-            if w < 3 {
-                return q - p;
-            }
+        if w == 1 || w == 2 {
+            return q - p;
         }
-        let c = memory::known(mem, x, q);
-        if c < memory::UNKNOWN {
+        if let Some(c) = memory::known(mem, x, q) {
             return q - p + c;
         }
         let a = if w == 0 {
@@ -244,9 +206,7 @@ pub fn many(t: &Table, s: &[u8], cells: &[u32], mem: &Memory, n: usize, x: usize
             return q - p;
         }
         q += a - 1;
-        k -= 1;
     }
-    q - p
 }
 
 // What expression x - 1 takes at p, not evaluated where the byte there decides it.
@@ -265,10 +225,11 @@ pub fn round(
 {
     let b = byte_at(s, p);
     let w = memory::said(mem, x, b);
-    if w != 0 {
-        return w - 1;
+    if w == 0 {
+        eval_with(t, s, cells, mem, n, x, p)
+    } else {
+        w - 1
     }
-    eval_with(t, s, cells, mem, n, x, p)
 }
 
 // The rounds of `many`, where the newest run tells them, without its frame: at p itself, or behind the byte there if that is a round by itself.
@@ -287,17 +248,12 @@ pub fn many_at(
     let b = byte_at(s, p);
     let w = memory::said(mem, x, b);
     if w == 0 {
-        let c = memory::running(mem, x, p);
-        if c < memory::UNKNOWN {
+        if let Some(c) = memory::running(mem, x, p) {
             return c;
         }
-        return many(t, s, cells, mem, n, x, p);
-    }
-    if w < 3 {
+    } else if w < 3 {
         return 0;
-    }
-    let c = memory::running(mem, x, p + 1);
-    if c < memory::UNKNOWN {
+    } else if let Some(c) = memory::running(mem, x, p + 1) {
         return c + 1;
     }
     many(t, s, cells, mem, n, x, p)
@@ -325,26 +281,26 @@ pub fn piece(
         return any_at(s, p);
     }
     let e = x - 1;
-    let op = records::op(t, e);
     let l = records::left(t, e);
-    if op == grammar_table::SYMBOL {
-        return cell_at(s, cells, n, l, p);
-    }
-    if op == grammar_table::STAR {
-        let y = grammar_table::part(l, e);
-        return many_at(t, s, cells, mem, n, y, p) + 1;
-    }
-    if op == grammar_table::PLUS {
-        let y = grammar_table::part(l, e);
-        let v = memory::said(mem, y, b);
-        if v == 3 {
-            let d = byte_at(s, p + 1);
-            let u = memory::said(mem, y, d);
-            if u == 1 {
-                return 2;
-            }
+    match records::op(t, e) {
+        grammar_table::SYMBOL => return cell_at(s, cells, n, l, p),
+        grammar_table::STAR => {
+            let y = grammar_table::part(l, e);
             return many_at(t, s, cells, mem, n, y, p) + 1;
         }
+        grammar_table::PLUS => {
+            let y = grammar_table::part(l, e);
+            let v = memory::said(mem, y, b);
+            if v == 3 {
+                let d = byte_at(s, p + 1);
+                let u = memory::said(mem, y, d);
+                if u == 1 {
+                    return 2;
+                }
+                return many_at(t, s, cells, mem, n, y, p) + 1;
+            }
+        }
+        _ => {}
     }
     eval_with(t, s, cells, mem, n, x, p)
 }

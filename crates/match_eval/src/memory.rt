@@ -4,13 +4,13 @@
 // bytes decide, then entries. An entry is about a run of places from which rounds end at one place. Each key has one entry for its newest run, so that a run
 // of single bytes needs no other; some for places of their own, where a round of more than a byte may begin; and as many for blocks of places that lie in one
 // run, so that runs of any text are found again when its nodes are listed.
-ghost use Rattle.std.specs.Prelude.{◌+◌, ◌*◌, ◌^◌, ◌<◌, ◌≤◌, ◌≡◌, true, get_or, length, set};
+ghost use Rattle.std.specs.Prelude.{◌+◌, ◌*◌, ◌^◌, ◌<◌, ◌≤◌, ◌≡◌, true, IfSome, get_or, length, set};
 ghost use Rattle.std.specs.Int.Bits.{bit_or};
 ghost use Rattle.base_words.specs.Set.{bit};
 ghost use Rattle.match_eval.specs.steps.Firsts.{said_of};
-ghost use Rattle.match_eval.specs.steps.Memory.{Key, About, end_of, Told, Spoken};
+ghost use Rattle.match_eval.specs.steps.Memory.{entries_at, Key, About, first_of, past_of, end_of, Told, Spoken, Stored};
 
-use base_words::word;
+use base_words::{put, word};
 
 pub const PLACES: usize = 0;
 
@@ -57,20 +57,15 @@ pub const WORDS: usize = 34075;
 
 pub type Memory = [u32; WORDS];
 
-// More than a text has: nothing is known.
-pub const UNKNOWN: usize = 65536;
-
-// The key of part x; 0 where there is none.
-pub fn key(mem: &[u32], x: usize) -> usize
-    ensures { (0 < result → Key mem.now x result) × (result ≤ 1025) }
+// The key of part x, if it has one.
+pub fn key(mem: &[u32], x: usize) -> Option<usize>
+    ensures { IfSome result (λ k. Key mem.now x k × (k ≤ 1025)) }
 {
-    if x < PARTS {
-        let k = word(mem, KEYS_AT + x);
-        if k <= PARTS {
-            return k;
-        }
+    if PARTS <= x {
+        return None;
     }
-    0
+    let k = word(mem, KEYS_AT + x);
+    if 0 < k && k <= PARTS { Some(k) } else { None }
 }
 
 // The two bits from k on of the word at i.
@@ -78,18 +73,14 @@ fn bits_at(mem: &[u32], i: usize, k: usize) -> usize
     requires { k < 31 }
     ensures { result ≡ bit (get_or mem.now i 0) k + 2 * bit (get_or mem.now i 0) (k + 1) }
 {
-    let w = word(mem, i);
-    (w >> k) & 3
+    (word(mem, i) >> k) & 3
 }
 
-// What is said of part x where byte b stands: 0 nothing, else 1 + what it takes there.
+// What is said of part x where byte b stands: 0 nothing, else 1 + what it takes there, the two bits as they stand (01, Meaning of a match).
 pub fn said(mem: &[u32], x: usize, b: usize) -> usize
     ensures { result ≡ said_of mem.now b x }
 {
-    if BYTES <= b {
-        return 0;
-    }
-    if PARTS <= x {
+    if BYTES <= b || PARTS <= x {
         return 0;
     }
     bits_at(
@@ -104,10 +95,8 @@ fn mark(mem: &mut [u32], i: usize, k: usize, d: usize)
     requires { (k < 32) × (d < 2) }
     ensures { mem.new ≡ set mem.old i (bit_or (get_or mem.old i 0) (d * 2 ^ k)) }
 {
-    if d != 0 {
-        if i < mem.len() {
-            mem[i] = mem[i] | 1 << k;
-        }
+    if d != 0 && i < mem.len() {
+        mem[i] |= 1 << k;
     }
 }
 
@@ -116,8 +105,7 @@ pub fn say(mem: &mut [u32], x: usize, b: usize, v: usize)
     requires { (x < 1025) × (b < 256) × (v < 3) × (18709 ≤ length mem.old) }
     ensures { Spoken b x v mem.old mem.new }
 {
-    let w = said(mem, x, b);
-    if w == 0 {
+    if said(mem, x, b) == 0 {
         let i = SAID_AT + PART_WORDS * x + b / WORD_BYTES;
         let k = 2 * (b % WORD_BYTES);
         mark(mem, i, k, (v + 1) % 2);
@@ -131,10 +119,7 @@ pub fn slot(mem: &[u32], k: usize, q: usize) -> usize
     ensures { result < 4294967296 }
 {
     let w = word(mem, PLACES);
-    if w == 0 {
-        return 0;
-    }
-    if ENTRIES < w {
+    if w == 0 || ENTRIES < w {
         return 0;
     }
     (k - 1) * w + (q & (w - 1))
@@ -152,28 +137,62 @@ pub fn block(mem: &[u32], k: usize, q: usize) -> usize
     BLOCKS + (k - 1) * w + q * w / TEXT
 }
 
-// The bytes that rounds of key k take from q on if entry i is about them, else more than a text has.
-pub fn says(mem: &Memory, i: usize, k: usize, q: usize) -> usize
-    requires { (i < 4294967296) × (k ≤ 1025) × (q ≤ 65535) }
-    ensures { result < 65536 → About mem.now i k q × (end_of mem.now i ≡ q + result) }
+// Where entry i stands.
+pub fn entry_at(i: usize) -> usize
+    requires { i < 4294967296 }
+    ensures { result ≡ entries_at + 3 * i }
 {
-    let j = ENTRIES_AT + ENTRY_WORDS * i;
-    let a = word(mem, j);
-    if k * TEXT + q < a {
-        return UNKNOWN;
+    ENTRIES_AT + ENTRY_WORDS * i
+}
+
+// What an entry says: key · 65,536 + the first place that it is about, the place past the last, where rounds from all of them end.
+#[derive(Clone, Copy)]
+pub struct Entry {
+    pub first: usize,
+    pub past: usize,
+    pub end: usize,
+}
+
+impl Entry {
+    // What entry i says.
+    pub fn read(mem: &Memory, i: usize) -> Entry
+        requires { i < 4294967296 }
+        ensures says { (result.first ≡ first_of mem.now i) × (result.past ≡ past_of mem.now i) × (result.end ≡ end_of mem.now i) }
+        ensures words { (result.first < 4294967296) × (result.past < 4294967296) × (result.end < 4294967296) }
+    {
+        let j = entry_at(i);
+        Entry {
+            first: word(mem, j),
+            past: word(mem, j + PAST),
+            end: word(mem, j + ENDS),
+        }
     }
-    if a < k * TEXT {
-        return UNKNOWN;
+
+    // Entry i says this from now on, if the memory has it.
+    pub fn write(self, mem: &mut Memory, i: usize)
+        requires { (i < 4294967296) × (self.first < 4294967296) × (self.past < 4294967296) × (self.end < 4294967296) }
+        ensures { Stored i self.first self.past self.end mem.old mem.new }
+    {
+        let j = entry_at(i);
+        if j + ENDS < mem.len() {
+            put(mem, j, self.first);
+            put(mem, j + PAST, self.past);
+            put(mem, j + ENDS, self.end);
+        }
     }
-    let past = word(mem, j + PAST);
-    if past <= q {
-        return UNKNOWN;
+}
+
+// The bytes that rounds of key k take from q on, if entry i is about them.
+pub fn says(mem: &Memory, i: usize, k: usize, q: usize) -> Option<usize>
+    requires { (i < 4294967296) × (k ≤ 1025) × (q ≤ 65535) }
+    ensures { IfSome result (λ c. About mem.now i k q × (end_of mem.now i ≡ q + c)) }
+{
+    let entry = Entry::read(mem, i);
+    if k * TEXT <= entry.first && entry.first <= k * TEXT + q && q < entry.past && q <= entry.end {
+        Some(entry.end - q)
+    } else {
+        None
     }
-    let e = word(mem, j + ENDS);
-    if e < q {
-        return UNKNOWN;
-    }
-    e - q
 }
 
 // Whether the run of entry i begins at q, and is of key k.
@@ -181,48 +200,35 @@ pub fn begins(mem: &Memory, i: usize, k: usize, q: usize) -> bool
     requires { (i < 4294967296) × (k ≤ 1025) × (q ≤ 65535) }
     ensures { result ≡ true → About mem.now i k q }
 {
-    let j = ENTRIES_AT + ENTRY_WORDS * i;
-    let a = word(mem, j);
-    if a != k * TEXT + q {
-        return false;
-    }
-    let past = word(mem, j + PAST);
-    q < past
+    let entry = Entry::read(mem, i);
+    entry.first == k * TEXT + q && q < entry.past
 }
 
-// The bytes that rounds of part x take from q on if the newest run of its key is about them, else more than a text has.
-pub fn running(mem: &Memory, x: usize, q: usize) -> usize
+// The bytes that rounds of part x take from q on, if the newest run of its key is about them.
+pub fn running(mem: &Memory, x: usize, q: usize) -> Option<usize>
     requires { q ≤ 65535 }
-    ensures { result < 65536 → Told mem.now x q result }
+    ensures { IfSome result (λ c. Told mem.now x q c) }
 {
-    let k = key(mem, x);
-    if k == 0 {
-        return UNKNOWN;
-    }
+    let k = key(mem, x)?;
     says(mem, RUNS + k, k, q)
 }
 
-// The bytes that rounds of part x take from q on if an entry is about them, else more than a text has. What lies before a key's newest run is not known yet.
-pub fn known(mem: &Memory, x: usize, q: usize) -> usize
+// The bytes that rounds of part x take from q on, if an entry is about them. What lies before a key's newest run is not known yet.
+pub fn known(mem: &Memory, x: usize, q: usize) -> Option<usize>
     requires { q ≤ 65535 }
-    ensures { result < 65536 → Told mem.now x q result }
+    ensures { IfSome result (λ c. Told mem.now x q c) }
 {
-    let k = key(mem, x);
-    if k == 0 {
-        return UNKNOWN;
+    let k = key(mem, x)?;
+    let run = RUNS + k;
+    if k * TEXT + q < Entry::read(mem, run).first {
+        return None;
     }
-    let a = word(mem, ENTRIES_AT + ENTRY_WORDS * (RUNS + k));
-    if k * TEXT + q < a {
-        return UNKNOWN;
+    if let Some(c) = says(mem, run, k, q) {
+        return Some(c);
     }
-    let c = says(mem, RUNS + k, k, q);
-    if c < UNKNOWN {
-        return c;
+    let own = slot(mem, k, q);
+    if begins(mem, own, k, q) {
+        return says(mem, own, k, q);
     }
-    let i = slot(mem, k, q);
-    if begins(mem, i, k, q) {
-        return says(mem, i, k, q);
-    }
-    let m = block(mem, k, q);
-    says(mem, m, k, q)
+    says(mem, block(mem, k, q), k, q)
 }

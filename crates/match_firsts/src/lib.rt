@@ -3,83 +3,67 @@
 // would do too.
 #![tactic(auto)]
 
-ghost use Rattle.std.specs.Prelude.{ℕ, ◌+◌, ◌*◌, ◌<◌, ◌≤◌, ◌≡◌, true, get_or, length};
+ghost use Rattle.std.specs.Prelude.{ℕ, suc, ◌+◌, ◌*◌, ◌<◌, ◌≤◌, ◌≡◌, true, IfSome, get_or, length};
 ghost use Rattle.grammar.specs.Exp.{sym};
 ghost use Rattle.grammar_table.specs.Table.{leaf_in};
 ghost use Rattle.grammar_table.specs.Trees.{tree_of};
-ghost use Rattle.match_eval.specs.steps.Firsts.{LeafSure, Sure, Guards};
+ghost use Rattle.match_eval.specs.steps.Firsts.{said_of, LeafSure, Sure, Guards};
+ghost use Rattle.match_firsts.specs.steps.Taken.{taken_of};
 ghost use Rattle.match_firsts.specs.steps.Firm.{Firm};
 ghost use Rattle.match_eval.specs.steps.Memory.{Fresh, Ready, Roomy};
 
 use base_words::{put, word};
-use grammar_table::records;
+use grammar_table::{AHEAD, CHOICE, OPTION, PLUS, SEQUENCE, STAR, SYMBOL, TERMINAL, part, records};
 use match_eval::memory::{PARTS, SEEN_AT, said, say};
 
-// What is decided: 0 it fails, 1 it takes nothing, 2 it takes the byte; or nothing is.
-pub const FAILS: usize = 0;
+// What is decided: it fails, it takes nothing, or it takes the byte.
+#[derive(Clone, Copy, PartialEq, Eq)]
+pub enum Decided {
+    Fails,
+    Empty,
+    Takes,
+}
 
-pub const EMPTY: usize = 1;
+impl Decided {
+    // As evaluation has it: 0 for failure, else 1 + the bytes taken.
+    fn taken(self) -> usize
+        ensures { result ≡ taken_of self }
+    {
+        match self {
+            Decided::Fails => 0,
+            Decided::Empty => 1,
+            Decided::Takes => 2,
+        }
+    }
+}
 
-pub const TAKES: usize = 2;
-
-pub const OPEN: usize = 3;
-
-// What terminal x takes where byte b stands.
-fn leaf_first(t: &[u32], x: usize, b: usize) -> usize
+// What terminal x takes where byte b stands, if the byte alone decides it.
+fn leaf_first(t: &[u32], x: usize, b: usize) -> Option<Decided>
     requires { (x < 4294967296) × (b < 256) }
-    ensures { result < 3 → LeafSure b (leaf_in t.now x) result }
+    ensures { IfSome result (λ v. LeafSure b (leaf_in t.now x) (taken_of v)) }
 {
-    let k = records::leaf_kind(t, x);
-    if k == grammar_table::LITERAL {
-        let n = records::leaf_length(t, x);
-        if n == 0 {
-            return EMPTY;
+    match records::leaf_kind(t, x) {
+        grammar_table::ANY => Some(Decided::Takes),
+        grammar_table::LITERAL => {
+            let n = records::leaf_length(t, x);
+            if n == 0 {
+                Some(Decided::Empty)
+            } else if records::leaf_word(t, x, 0) != b {
+                Some(Decided::Fails)
+            } else if n == 1 {
+                Some(Decided::Takes)
+            } else {
+                None
+            }
         }
-        let c = records::leaf_word(t, x, 0);
-        if b != c {
-            return FAILS;
+        _ => {
+            if records::leaf_word(t, x, b) == 0 {
+                Some(Decided::Fails)
+            } else {
+                Some(Decided::Takes)
+            }
         }
-        if 1 < n {
-            return OPEN;
-        }
-        return TAKES;
     }
-    if k == grammar_table::ANY {
-        return TAKES;
-    }
-    let m = records::leaf_word(t, x, b);
-    if m == 0 {
-        return FAILS;
-    }
-    TAKES
-}
-
-// What is said of part x there.
-fn first(t: &[u32], mem: &[u32], n: usize, x: usize, b: usize) -> usize
-    requires { Ready t.now n mem.now }
-    ensures { result < 3 → Sure t.now mem.now n b (tree_of t.now x) result }
-{
-    let w = said(mem, x, b);
-    if w == 0 {
-        return OPEN;
-    }
-    w - 1
-}
-
-// What symbol r of n takes there: what is said of its body.
-fn symbol_first(t: &[u32], mem: &[u32], n: usize, r: usize, b: usize) -> usize
-    requires { (n ≤ 64) × (b < 256) }
-    ensures { result < 3 → Sure t.now mem.now n b (sym r) result }
-{
-    if n <= r {
-        return OPEN;
-    }
-    let x = records::body(t, r);
-    let w = said(mem, x, b);
-    if w == 0 {
-        return OPEN;
-    }
-    w - 1
 }
 
 // Whether expression x - 1 is a guard, which takes nothing.
@@ -87,14 +71,7 @@ fn guards(t: &[u32], x: usize) -> bool
     requires { x ≤ 4294967296 }
     ensures { result ≡ true → Guards (tree_of t.now x) }
 {
-    if x == 0 {
-        return false;
-    }
-    let op = records::op(t, x - 1);
-    if op < grammar_table::AHEAD {
-        return false;
-    }
-    true
+    x != 0 && records::op(t, x - 1) >= AHEAD
 }
 
 // Whether expression x - 1 is an option or a star, which matches wherever it is tried.
@@ -102,118 +79,134 @@ fn firm(t: &[u32], x: usize) -> bool
     requires { x ≤ 4294967296 }
     ensures { result ≡ true → Firm (tree_of t.now x) }
 {
-    if x == 0 {
-        return false;
-    }
-    let op = records::op(t, x - 1);
-    match op {
-        grammar_table::OPTION => true,
-        grammar_table::STAR => true,
-        _ => false,
-    }
+    x != 0 && matches!(records::op(t, x - 1), OPTION | STAR)
 }
 
-// What expression x - 1, and `.` for 0, takes where byte b stands, by what is said of its parts.
-fn decide(t: &[u32], mem: &[u32], n: usize, x: usize, b: usize) -> usize
-    requires { ((n ≤ 64) × (x ≤ 4294967296) × (b < 256)) × Ready t.now n mem.now }
-    ensures { result < 3 → Sure t.now mem.now n b (tree_of t.now x) result }
-{
-    if x == 0 {
-        return TAKES;
+// What is said of the parts of a table of n symbols where byte b stands.
+#[derive(Clone, Copy)]
+struct Sight<'a> {
+    table: &'a [u32],
+    mem: &'a [u32],
+    n: usize,
+    b: usize,
+    ghost few: { n ≤ 64 },
+    ghost byte: { b < 256 },
+}
+
+impl Sight<'_> {
+    // What is said of part x, if something is.
+    fn heard(&self, x: usize) -> Option<Decided>
+        ensures { let f = self.now in IfSome result (λ v. said_of f.mem.now f.b x ≡ suc (taken_of v)) }
+    {
+        match said(self.mem, x, self.b) {
+            1 => Some(Decided::Fails),
+            2 => Some(Decided::Empty),
+            3 => Some(Decided::Takes),
+            _ => None,
+        }
     }
-    let e = x - 1;
-    let op = records::op(t, e);
-    let l = records::left(t, e);
-    if op == grammar_table::TERMINAL {
-        return leaf_first(t, l, b);
+
+    // The same, by what it takes.
+    fn first(&self, x: usize) -> Option<Decided>
+        requires { let f = self.now in Ready f.table.now f.n f.mem.now }
+        ensures { let f = self.now in IfSome result (λ v. Sure f.table.now f.mem.now f.n f.b (tree_of f.table.now x) (taken_of v)) }
+    {
+        self.heard(x)
     }
-    if op == grammar_table::SYMBOL {
-        return symbol_first(t, mem, n, l, b);
+
+    // What symbol r of n takes: what is said of its body.
+    fn symbol_first(&self, r: usize) -> Option<Decided>
+        ensures { let f = self.now in IfSome result (λ v. Sure f.table.now f.mem.now f.n f.b (sym r) (taken_of v)) }
+    {
+        if self.n <= r {
+            return None;
+        }
+        self.heard(records::body(self.table, r))
     }
-    let y = grammar_table::part(l, e);
-    let a = first(t, mem, n, y, b);
-    if op == grammar_table::SEQUENCE {
-        if a == FAILS {
-            return FAILS;
+
+    // What expression x - 1, and `.` for 0, takes, by what is said of its parts.
+    fn decide(&self, x: usize) -> Option<Decided>
+        requires { let f = self.now in (x ≤ 4294967296) × Ready f.table.now f.n f.mem.now }
+        ensures { let f = self.now in IfSome result (λ v. Sure f.table.now f.mem.now f.n f.b (tree_of f.table.now x) (taken_of v)) }
+    {
+        if x == 0 {
+            return Some(Decided::Takes);
+        }
+        let t = self.table;
+        let e = x - 1;
+        let op = records::op(t, e);
+        let l = records::left(t, e);
+        if op == TERMINAL {
+            return leaf_first(t, l, self.b);
+        }
+        if op == SYMBOL {
+            return self.symbol_first(l);
         }
         let r = records::right(t, e);
-        let z = grammar_table::part(r, e);
-        let c = first(t, mem, n, z, b);
-        if a == EMPTY {
-            return c;
+        let y = part(l, e);
+        let z = part(r, e);
+        let left = self.first(y);
+        match op {
+            SEQUENCE => match left {
+                Some(Decided::Fails) => Some(Decided::Fails),
+                Some(Decided::Empty) => self.first(z),
+                _ => match self.first(z) {
+                    Some(Decided::Fails) if guards(t, y) => Some(Decided::Fails),
+                    _ => None,
+                },
+            },
+            CHOICE => match left {
+                Some(Decided::Fails) => self.first(z),
+                _ => left,
+            },
+            OPTION => match left {
+                Some(Decided::Fails) => Some(Decided::Empty),
+                _ => left,
+            },
+            STAR => match left {
+                Some(Decided::Fails | Decided::Empty) => Some(Decided::Empty),
+                _ => None,
+            },
+            PLUS => match left {
+                Some(Decided::Takes) => None,
+                _ => left,
+            },
+            AHEAD => match left {
+                Some(Decided::Fails) => Some(Decided::Fails),
+                Some(_) => Some(Decided::Empty),
+                None if firm(t, y) => Some(Decided::Empty),
+                None => None,
+            },
+            _ => match left {
+                Some(Decided::Fails) => Some(Decided::Empty),
+                Some(_) => Some(Decided::Fails),
+                None if firm(t, y) => Some(Decided::Fails),
+                None => None,
+            },
         }
-        if c != FAILS {
-            return OPEN;
-        }
-        if guards(t, y) {
-            return FAILS;
-        }
-        return OPEN;
     }
-    if op == grammar_table::CHOICE {
-        if a != FAILS {
-            return a;
-        }
-        let u = records::right(t, e);
-        let v = grammar_table::part(u, e);
-        return first(t, mem, n, v, b);
-    }
-    if OPEN <= a {
-        if op < grammar_table::AHEAD {
-            return OPEN;
-        }
-        if firm(t, y) {
-            if op == grammar_table::AHEAD {
-                return EMPTY;
-            }
-            return FAILS;
-        }
-        return OPEN;
-    }
-    if op == grammar_table::OPTION {
-        if a == FAILS {
-            return EMPTY;
-        }
-        return a;
-    }
-    if op == grammar_table::STAR {
-        if a <= EMPTY {
-            return EMPTY;
-        }
-        return OPEN;
-    }
-    if op == grammar_table::PLUS {
-        if a <= EMPTY {
-            return a;
-        }
-        return OPEN;
-    }
-    if op == grammar_table::AHEAD {
-        if a == FAILS {
-            return FAILS;
-        }
-        return EMPTY;
-    }
-    if a == FAILS {
-        return EMPTY;
-    }
-    FAILS
 }
 
-// Says of part x what is decided where byte b stands.
+// Says of part x what is decided where byte b stands. Here and below the memory is lent to be written: in one struct with it each contract would have to say
+// that the table stays as it is.
 fn decide_part(t: &[u32], mem: &mut [u32], n: usize, b: usize, x: usize)
     requires { ((n ≤ 64) × (b < 256)) × Ready t.now n mem.old }
     ensures { Ready t.now n mem.new }
 {
     if x < PARTS {
-        let v = decide(t, mem, n, x, b);
-        if v < OPEN {
-            say(mem, x, b, v);
+        let sight = Sight {
+            table: t,
+            mem,
+            n,
+            b,
+        };
+        if let Some(v) = sight.decide(x) {
+            say(mem, x, b, v.taken());
         }
     }
 }
 
-// The part of expression x that stands first among the expressions: parts come before wholes, the left ones first.
+// The part of expression x that stands first among the expressions: parts come before wholes, the left ones first. The walk goes down, and counts nothing.
 fn begin(t: &[u32], x: usize) -> usize
     requires { x < 4294967296 }
     ensures { result ≤ x }
@@ -221,12 +214,11 @@ fn begin(t: &[u32], x: usize) -> usize
     let mut y = x;
     while 0 < y {
         let e = y - 1;
-        let op = records::op(t, e);
-        if op <= grammar_table::SYMBOL {
+        if records::op(t, e) <= SYMBOL {
             return y;
         }
         let l = records::left(t, e);
-        y = grammar_table::part(l, e);
+        y = part(l, e);
     }
     y
 }
@@ -237,10 +229,8 @@ fn decide_body(t: &[u32], mem: &mut [u32], n: usize, b: usize, r: usize)
     ensures { Ready t.now n mem.new }
 {
     let last = records::body(t, r);
-    let mut x = begin(t, last);
-    while x <= last {
+    for x in begin(t, last)..=last {
         decide_part(t, mem, n, b, x);
-        x += 1;
     }
 }
 
@@ -249,11 +239,8 @@ fn decide_bodies(t: &[u32], mem: &mut [u32], order: &[u32], n: usize, b: usize)
     requires { ((n ≤ 64) × (b < 256) × ((j : ℕ) → j < n → get_or order.now j 0 < n)) × Ready t.now n mem.old }
     ensures { Ready t.now n mem.new }
 {
-    let mut j: usize = 0;
-    while j < n {
-        let r = word(order, j);
-        decide_body(t, mem, n, b, r);
-        j += 1;
+    for j in 0..n {
+        decide_body(t, mem, n, b, word(order, j));
     }
 }
 
@@ -262,8 +249,7 @@ fn decide_once(t: &[u32], mem: &mut [u32], order: &[u32], n: usize, b: usize)
     requires { ((n ≤ 64) × (b < 256) × ((j : ℕ) → j < n → get_or order.now j 0 < n)) × Ready t.now n mem.old }
     ensures { Ready t.now n mem.new }
 {
-    let w = word(mem, SEEN_AT + b);
-    if w == 0 {
+    if word(mem, SEEN_AT + b) == 0 {
         put(mem, SEEN_AT + b, 1);
         decide_part(t, mem, n, b, 0);
         decide_bodies(t, mem, order, n, b);
@@ -276,11 +262,8 @@ fn decide_text(t: &[u32], s: &[u8], mem: &mut [u32], order: &[u32], n: usize)
     requires { ((n ≤ 64) × (length s.now ≤ 65535) × ((j : ℕ) → j < n → get_or order.now j 0 < n)) × Ready t.now n mem.old }
     ensures { Ready t.now n mem.new }
 {
-    let mut p: usize = 0;
-    while p < s.len() {
-        let b = s[p] as usize;
-        decide_once(t, mem, order, n, b);
-        p += 1;
+    for b in s {
+        decide_once(t, mem, order, n, usize::from(*b));
     }
 }
 

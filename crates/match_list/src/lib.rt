@@ -6,7 +6,6 @@ ghost use Rattle.std.specs.Prelude.{ℕ, ◌-◌, ◌≤◌, ◌<◌, ◌≡◌,
 ghost use Rattle.read_tokens.specs.Bounds.{node_words};
 ghost use Rattle.match_meaning.specs.Meaning.{nd};
 ghost use Rattle.match_list.specs.Nodes.{put_node, node_word, sound_at, Handed};
-ghost use Rattle.match_list.specs.steps.Spans.{Spans};
 
 // How many words a node has.
 pub const NODE_WORDS: usize = 4;
@@ -39,13 +38,6 @@ pub fn node_word(nodes: &[u32], k: usize, j: usize) -> usize
     base_words::word(nodes, NODE_WORDS * k + j)
 }
 
-// From start to end.
-#[derive(Clone, Copy)]
-struct Range {
-    start: usize,
-    end: usize,
-}
-
 // Whether node k lies whole in the words with start ≤ end ≤ n.
 pub fn sound(nodes: &[u32], k: usize, n: usize) -> bool
     ensures { result ≡ sound_at nodes.now k n }
@@ -53,35 +45,19 @@ pub fn sound(nodes: &[u32], k: usize, n: usize) -> bool
     if nodes.len() / NODE_WORDS <= k {
         return false;
     }
-    let a = node_word(nodes, k, START);
-    let b = node_word(nodes, k, END);
-    if b < a {
-        return false;
-    }
-    b <= n
+    let start = node_word(nodes, k, START);
+    let end = node_word(nodes, k, END);
+    start <= end && end <= n
 }
 
-// The part of a text of n bytes that node k says; the empty part at 0 for an unsound node.
-fn span(nodes: &[u32], k: usize, n: usize) -> Range
-    ensures { Spans nodes.now k n result.start result.end }
-{
-    if nodes.len() / NODE_WORDS <= k {
-        return Range { start: 0, end: 0 };
-    }
-    if sound(nodes, k, n) {
-        let a = node_word(nodes, k, START);
-        let b = node_word(nodes, k, END);
-        return Range { start: a, end: b };
-    }
-    Range { start: 0, end: 0 }
-}
-
-// The text of node k, a part of the lent input.
+// The text of node k, a part of the lent input; for an unsound node the empty part at 0.
 pub fn text<'a>(input: &'a [u8], nodes: &[u32], k: usize) -> &'a [u8]
     ensures { Handed result.now result.ref_ptr input.now input.entry.ref_ptr nodes.now k }
 {
-    let g = span(nodes, k, input.len());
-    let start = g.start;
-    let end = g.end;
+    if !sound(nodes, k, input.len()) {
+        return &input[0..0];
+    }
+    let start = node_word(nodes, k, START);
+    let end = node_word(nodes, k, END);
     &input[start..end]
 }

@@ -1,137 +1,126 @@
 // Rounds that the byte at their place decides: they take just this byte, and list one node or none (01, Meaning of a match). Such rounds are most of what a
 // lake passes over, and the list needs no walk for them.
 #![tactic(auto)]
+// The table, the memory and the desk are handed on one by one, and no struct holds them: the desk is lent to write while lanes are laid, to read elsewhere.
 
 ghost use Rattle.std.specs.Prelude.{◌+◌, ◌*◌, ◌≤◌, ◌<◌, ◌≡◌, true};
 ghost use Rattle.grammar_table.specs.Table.{expression_count};
 ghost use Rattle.match_desk.specs.steps.Desk.{Desk};
-ghost use Rattle.match_lone.specs.steps.Lone.{Settles, Single, Lone, Repeated};
-ghost use Rattle.match_lone.specs.steps.Lanes.{Told, Tells, Laid, Among};
+ghost use Rattle.match_lone.specs.steps.Lone.{Settled, Single, Lone, Repeated};
+ghost use Rattle.match_lone.specs.steps.Lanes.{code_of, Told, Tells, Laid, Among};
 
 use base_words::{put, word};
 use grammar_table::{Table, records};
-use match_desk::look;
+use match_desk::{LANE_OF_AT, LANES_AT, PARENTS_AT, Seen, look};
 use match_eval::memory::{BYTES, Memory, SEEN_AT, said};
 
-// A round lists no node: above every symbol's number, and no expression has it.
-pub const SILENT: usize = 2048;
-// The byte does not decide it: above every expression's number.
-pub const UNKNOWN: usize = 4096;
-// More symbols no grammar has.
+// What a round that takes just a byte lists: no node, or that of a symbol.
+#[derive(Clone, Copy)]
+pub enum Round {
+    Silent,
+    Node(usize),
+}
+
+// More symbols no grammar has, and no more expressions.
 const SYMBOLS: usize = 64;
+
+const EXPRESSIONS: usize = 2048;
 // What is said of a part that fails, and of one that takes just the byte.
 const FAILS: usize = 1;
 
 const TAKES: usize = 3;
 // What bytes decide is laid out for the first repeated parts that list nodes, as many as there are lanes.
 const LANES: usize = 4;
-// A word of a lane: this times the part it is about, and 1 + what is said of it. 0 says nothing.
+// A word of a lane: this times the part it is about, and the code of what is said of it; 0 says nothing. Words of the desk are numbers: its memory is fixed.
 const ABOUT: usize = 8192;
+// The codes: the byte does not decide a round; it lists no node; from here on, that of a symbol. Greater ones are none.
+const UNDECIDED: usize = 1;
+
+const SILENT: usize = 2;
+
+const NODE: usize = 3;
+
+const CODES: usize = 4096;
 
 // What stands for x where byte b stands, if the byte decides that x takes just this byte: of a choice that lists nodes an alternative, else x itself.
-fn settle(t: &Table, mem: &Memory, desk: &[u32], x: usize, b: usize) -> usize
+fn settle(t: &Table, mem: &Memory, desk: &[u32], x: usize, b: usize) -> Option<usize>
     requires { x < 2048 }
-    ensures { (result ≡ 4096 → ⊥) → Settles t.now mem.now b x result }
+    ensures { Settled t.now mem.now b x result }
 {
-    let w = said(mem, x, b);
-    if w != TAKES {
-        return UNKNOWN;
+    if said(mem, x, b) != TAKES {
+        return None;
     }
-    let holds = word(desk, x);
-    if holds == 0 {
-        return x;
+    if x == 0 || word(desk, x) == 0 {
+        return Some(x);
     }
-    if x == 0 {
-        return x;
-    }
-    let g = look(t, x);
-    let op = g.op;
+    let Seen { op, y, z, .. } = look(t, x);
     if op != grammar_table::CHOICE {
-        return x;
+        return Some(x);
     }
-    let y = g.y;
-    let first = said(mem, y, b);
-    if first == FAILS {
-        let z = g.z;
+    if said(mem, y, b) == FAILS {
         return settle(t, mem, desk, z, b);
     }
     settle(t, mem, desk, y, b)
 }
 
-// Symbol r, if its body lists no node where byte b stands.
-fn single(t: &Table, mem: &Memory, desk: &[u32], r: usize, b: usize) -> usize
-    ensures { (result ≡ 4096 → ⊥) → (result ≡ r) × Single t.now mem.now desk.now b r }
+// Whether the node of symbol r is all that it lists where byte b stands.
+fn single(t: &Table, mem: &Memory, desk: &[u32], r: usize, b: usize) -> bool
+    ensures { result ≡ true → Single t.now mem.now desk.now b r }
 {
-    if SYMBOLS <= r {
-        return UNKNOWN;
+    if r >= SYMBOLS {
+        return false;
     }
     let z = records::body(t, r);
-    let holds = word(desk, z);
-    if holds == 0 {
-        return r;
+    if word(desk, z) == 0 {
+        return true;
     }
-    if SILENT <= z {
-        return UNKNOWN;
+    if z >= EXPRESSIONS {
+        return false;
     }
-    let v = settle(t, mem, desk, z, b);
-    if v == UNKNOWN {
-        return UNKNOWN;
-    }
-    let deeper = word(desk, v);
-    if deeper != 0 {
-        return UNKNOWN;
-    }
-    r
+    settle(t, mem, desk, z, b).is_some_and(|v| word(desk, v) == 0)
 }
 
 // What a round of the choice x lists where byte b stands, if the byte decides that it takes just this byte.
-fn chosen(t: &Table, mem: &Memory, desk: &[u32], x: usize, b: usize) -> usize
+fn chosen(t: &Table, mem: &Memory, desk: &[u32], x: usize, b: usize) -> Option<Round>
     requires { x < 2048 }
     ensures { Lone t.now mem.now desk.now b x result }
 {
-    let y = settle(t, mem, desk, x, b);
-    if y == UNKNOWN {
-        return UNKNOWN;
-    }
-    let holds = word(desk, y);
-    if holds == 0 {
-        return SILENT;
+    let y = settle(t, mem, desk, x, b)?;
+    if word(desk, y) == 0 {
+        return Some(Round::Silent);
     }
     if y == 0 {
-        return UNKNOWN;
+        return None;
     }
-    let g = look(t, y);
-    let op = g.op;
-    if op != grammar_table::SYMBOL {
-        return UNKNOWN;
+    let Seen { op, left, .. } = look(t, y);
+    if op == grammar_table::SYMBOL && single(t, mem, desk, left, b) {
+        return Some(Round::Node(left));
     }
-    let r = g.left;
-    single(t, mem, desk, r, b)
+    None
 }
 
-// The same of any x: the symbol of its one node, or no node. A repeat's part is most often a symbol, which needs no look at alternatives.
-pub fn lone(t: &Table, mem: &Memory, desk: &[u32], x: usize, b: usize) -> usize
+// The same of any x. A repeat's part is most often a symbol, which needs no look at alternatives.
+pub fn lone(t: &Table, mem: &Memory, desk: &[u32], x: usize, b: usize) -> Option<Round>
     requires { x < 2048 }
     ensures { Lone t.now mem.now desk.now b x result }
 {
-    let w = said(mem, x, b);
-    if w != TAKES {
-        return UNKNOWN;
+    if said(mem, x, b) != TAKES {
+        return None;
     }
-    let holds = word(desk, x);
-    if holds == 0 {
-        return SILENT;
+    if word(desk, x) == 0 {
+        return Some(Round::Silent);
     }
     if x == 0 {
-        return UNKNOWN;
+        return None;
     }
-    let g = look(t, x);
-    let op = g.op;
-    if op == grammar_table::SYMBOL {
-        let r = g.left;
-        return single(t, mem, desk, r, b);
+    let Seen { op, left, .. } = look(t, x);
+    if op != grammar_table::SYMBOL {
+        return chosen(t, mem, desk, x, b);
     }
-    chosen(t, mem, desk, x, b)
+    if single(t, mem, desk, left, b) {
+        return Some(Round::Node(left));
+    }
+    None
 }
 
 // Whether x is the part of a repeat.
@@ -139,37 +128,36 @@ pub fn repeats(t: &Table, desk: &[u32], x: usize) -> bool
     requires { Desk t.now desk.now (expression_count t.now) × (expression_count t.now ≤ 1024) × (x < 4294967296) }
     ensures { result ≡ true → Repeated t.now desk.now x }
 {
-    let e = word(desk, match_desk::PARENTS_AT + x);
+    let e = word(desk, PARENTS_AT + x);
     if e == 0 {
         return false;
     }
-    let g = look(t, e);
-    let op = g.op;
-    if op == grammar_table::STAR {
-        return true;
-    }
-    if op == grammar_table::PLUS {
-        return true;
-    }
-    false
+    matches!(look(t, e).op, grammar_table::STAR | grammar_table::PLUS)
 }
 
 // ── lanes: what `lone` says of a part and a byte, looked up ──
+
+// The code of what a byte decides of a round.
+fn code(r: Option<Round>) -> usize
+    requires { code_of r < 4294967296 }
+    ensures { result ≡ code_of r }
+{
+    match r {
+        None => UNDECIDED,
+        Some(Round::Silent) => SILENT,
+        Some(Round::Node(symbol)) => NODE + symbol,
+    }
+}
 
 // The word for byte b in the lane of part x. Of bytes that are not in the text it says nothing.
 fn lane_word(t: &Table, mem: &Memory, desk: &[u32], x: usize, b: usize) -> usize
     requires { Desk t.now desk.now (expression_count t.now) × (x ≤ 1024) × (b < 256) }
     ensures { (result < 4294967296) × Tells t.now mem.now b result }
 {
-    let seen = word(mem, SEEN_AT + b);
-    if seen == 0 {
+    if word(mem, SEEN_AT + b) == 0 {
         return 0;
     }
-    let v = lone(t, mem, desk, x, b);
-    if UNKNOWN < v {
-        return 0;
-    }
-    ABOUT * x + v + 1
+    ABOUT * x + code(lone(t, mem, desk, x, b))
 }
 
 // One word more, of lane k.
@@ -180,7 +168,7 @@ fn lay_byte(t: &Table, mem: &Memory, desk: &mut [u32], x: usize, k: usize, b: us
         × Laid t.now mem.now desk.new (256 * k + b + 1) }
 {
     let w = lane_word(t, mem, desk, x, b);
-    put(desk, match_desk::LANES_AT + (BYTES * k + b), w);
+    put(desk, LANES_AT + (BYTES * k + b), w);
 }
 
 // Lane k, for part x.
@@ -190,10 +178,8 @@ fn lay_part(t: &Table, mem: &Memory, desk: &mut [u32], x: usize, k: usize)
     ensures { Desk t.now desk.new (expression_count t.now)
         × Laid t.now mem.now desk.new (256 * k + 256) }
 {
-    let mut b: usize = 0;
-    while b < BYTES {
+    for b in 0..BYTES {
         lay_byte(t, mem, desk, x, k, b);
-        b += 1;
     }
 }
 
@@ -204,18 +190,11 @@ fn lay_repeat(t: &Table, mem: &Memory, desk: &mut [u32], x: usize, k: usize) -> 
     ensures { Desk t.now desk.new (expression_count t.now)
         × Laid t.now mem.now desk.new (256 * result) × (result ≤ 8) }
 {
-    if LANES <= k {
-        return k;
-    }
-    let holds = word(desk, x);
-    if holds == 0 {
-        return k;
-    }
-    if !repeats(t, desk, x) {
+    if k >= LANES || word(desk, x) == 0 || !repeats(t, desk, x) {
         return k;
     }
     lay_part(t, mem, desk, x, k);
-    put(desk, match_desk::LANE_OF_AT + x, k);
+    put(desk, LANE_OF_AT + x, k);
     k + 1
 }
 
@@ -225,12 +204,9 @@ pub fn lay_all(t: &Table, mem: &Memory, desk: &mut [u32]) -> usize
     ensures { Desk t.now desk.new (expression_count t.now)
         × Laid t.now mem.now desk.new result }
 {
-    let m = records::expressions(t);
-    let mut k: usize = 0;
-    let mut e: usize = 0;
-    while e < m {
+    let mut k = 0;
+    for e in 0..records::expressions(t) {
         k = lay_repeat(t, mem, desk, e + 1, k);
-        e += 1;
     }
     BYTES * k
 }
@@ -240,29 +216,37 @@ fn lane_at(desk: &[u32], laid: usize, x: usize, b: usize) -> usize
     requires { x < 2048 }
     ensures { (0 < result → Among desk.now laid b result) × (result < 4294967296) }
 {
-    if BYTES <= b {
+    if b >= BYTES {
         return 0;
     }
-    let k = word(desk, match_desk::LANE_OF_AT + x);
-    let i = BYTES * k + b;
-    if laid <= i {
-        return 0;
+    let i = BYTES * word(desk, LANE_OF_AT + x) + b;
+    if i < laid {
+        word(desk, LANES_AT + i)
+    } else {
+        0
     }
-    word(desk, match_desk::LANES_AT + i)
 }
 
 // What byte b decides of a round of x, looked up if it is laid out.
-pub fn lane_of(t: &Table, mem: &Memory, desk: &[u32], laid: usize, x: usize, b: usize) -> usize
+pub fn lane_of(
+    t: &Table,
+    mem: &Memory,
+    desk: &[u32],
+    laid: usize,
+    x: usize,
+    b: usize,
+) -> Option<Round>
     requires { Desk t.now desk.now (expression_count t.now) × (x < 2048) × Laid t.now mem.now desk.now laid }
     ensures { Told t.now mem.now b x result }
 {
     let w = lane_at(desk, laid, x, b);
     let about = ABOUT * x;
-    if w <= about {
+    if w <= about || w > about + CODES {
         return lone(t, mem, desk, x, b);
     }
-    if about + UNKNOWN + 1 < w {
-        return lone(t, mem, desk, x, b);
+    match w - about {
+        UNDECIDED => None,
+        SILENT => Some(Round::Silent),
+        k => Some(Round::Node(k - NODE)),
     }
-    w - about - 1
 }

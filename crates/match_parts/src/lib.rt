@@ -3,9 +3,9 @@
 // promised: they are checked when they are made, and lists that are not right are not used.
 #![tactic(auto)]
 
-ghost use Rattle.std.specs.Prelude.{ℕ, ◌+◌, ◌<◌, ◌≤◌, ◌≡◌, true, get_or, length};
-ghost use Rattle.grammar_table.specs.Table.{symbol_word};
-ghost use Rattle.match_eval.specs.steps.Memory.{count_at, parts_at, Knows};
+ghost use Rattle.std.specs.Prelude.{ℕ, ◌+◌, ◌-◌, ◌<◌, ◌≤◌, ◌≡◌, true, get_or, length};
+ghost use Rattle.grammar_table.specs.Table.{op_of, symbol_word};
+ghost use Rattle.match_eval.specs.steps.Memory.{parts_at, Knows};
 ghost use Rattle.match_parts.specs.steps.Lists.{list_of, Listed, AllListed};
 
 use base_words::{put, word};
@@ -40,10 +40,9 @@ pub fn list_at(t: &Table, s: &[u8], cells: &[u32], mem: &Memory, lists: &Lists, 
     ensures { result ≡ list_of t.now s.now cells.now ask.n lists.now ask.i ask.p }
 {
     let kind = word(lists, ask.i);
-    let mut k = word(lists, ask.i + 1);
+    let count = word(lists, ask.i + 1);
     let mut q = ask.p;
-    while 0 < k {
-        k -= 1;
+    for k in (0..count).rev() {
         let x = word(lists, ask.i + PARTS + k);
         let a = match_eval::piece(t, s, cells, mem, ask.n, x, q);
         if kind == CHOICE {
@@ -57,10 +56,15 @@ pub fn list_at(t: &Table, s: &[u8], cells: &[u32], mem: &Memory, lists: &Lists, 
             q += a - 1;
         }
     }
-    if kind == CHOICE {
-        return 0;
-    }
-    q - ask.p + 1
+    if kind == CHOICE { 0 } else { q - ask.p + 1 }
+}
+
+// Whether x is of that kind itself, so that its parts are listed.
+fn goes_on(t: &[u32], kind: usize, x: usize) -> bool
+    requires { x ≤ 4294967296 }
+    ensures { result ≡ true → (0 < x) × (op_of t.now (x - 1) ≡ kind) }
+{
+    x != 0 && records::op(t, x - 1) == kind
 }
 
 // Whether the list at i is of part x: the expression is gone down along its first parts.
@@ -69,39 +73,25 @@ fn is_of(t: &[u32], lists: &Lists, i: usize, x: usize) -> bool
     ensures { result ≡ true → Listed t.now lists.now i x }
 {
     let kind = word(lists, i);
-    if kind < SEQUENCE {
+    let count = word(lists, i + 1);
+    if count == 0 || kind < SEQUENCE || CHOICE < kind {
         return false;
     }
-    if CHOICE < kind {
-        return false;
-    }
-    let k = word(lists, i + 1);
-    if k == 0 {
-        return false;
-    }
+    let last = count - 1;
     let mut y = x;
-    let mut j: usize = 0;
-    while j + 1 < k {
-        if y == 0 {
+    for j in 0..last {
+        if !goes_on(t, kind, y) {
             return false;
         }
         let e = y - 1;
-        let op = records::op(t, e);
-        if op != kind {
-            return false;
-        }
         let r = records::right(t, e);
-        let z = part(r, e);
-        let w = word(lists, i + PARTS + j);
-        if w != z {
+        if word(lists, i + PARTS + j) != part(r, e) {
             return false;
         }
         let l = records::left(t, e);
         y = part(l, e);
-        j += 1;
     }
-    let first = word(lists, i + PARTS + j);
-    first == y
+    word(lists, i + PARTS + last) == y
 }
 
 // Whether the lists of n symbols' bodies are theirs.
@@ -110,47 +100,25 @@ fn bodies_checked(t: &[u32], n: usize, lists: &Lists) -> bool
     ensures { result ≡ true → (r : ℕ) → r < n
         → Listed t.now lists.now (get_or lists.now r 0) (symbol_word t.now r 1) }
 {
-    let mut r: usize = 0;
-    while r < n {
-        let x = records::body(t, r);
-        let i = word(lists, r);
-        if !is_of(t, lists, i, x) {
-            return false;
-        }
-        r += 1;
-    }
-    true
+    (0..n).all(|r| is_of(t, lists, word(lists, r), records::body(t, r)))
 }
 
-// Whether the lists of all keys' parts are theirs, and there are no more keys than have words.
-fn parts_checked(t: &[u32], mem: &[u32], lists: &Lists) -> bool
-    ensures { result ≡ true → (get_or mem.now count_at 0 ≤ 1025) × ((k : ℕ) → k < get_or mem.now count_at 0
-        → Listed t.now lists.now (get_or lists.now (64 + k) 0) (get_or mem.now (parts_at + k) 0)) }
+// Whether the lists of the first d keys' parts are theirs.
+fn parts_checked(t: &[u32], mem: &[u32], d: usize, lists: &Lists) -> bool
+    requires { d ≤ 1025 }
+    ensures { result ≡ true → (k : ℕ) → k < d
+        → Listed t.now lists.now (get_or lists.now (64 + k) 0) (get_or mem.now (parts_at + k) 0) }
 {
-    let d = word(mem, COUNT);
-    if match_eval::memory::PARTS < d {
-        return false;
-    }
-    let mut k: usize = 0;
-    while k < d {
-        let y = word(mem, PARTS_AT + k);
-        let i = word(lists, KEYS_AT + k);
-        if !is_of(t, lists, i, y) {
-            return false;
-        }
-        k += 1;
-    }
-    true
+    (0..d).all(|k| is_of(t, lists, word(lists, KEYS_AT + k), word(mem, PARTS_AT + k)))
 }
 
+// Whether all lists are right, and there are no more keys than have words.
 pub fn checked(t: &[u32], mem: &[u32], n: usize, lists: &Lists) -> bool
     requires { n ≤ 64 }
     ensures { result ≡ true → AllListed t.now mem.now n lists.now }
 {
-    if !bodies_checked(t, n, lists) {
-        return false;
-    }
-    parts_checked(t, mem, lists)
+    let d = word(mem, COUNT);
+    d <= match_eval::memory::PARTS && bodies_checked(t, n, lists) && parts_checked(t, mem, d, lists)
 }
 
 // ── made; nothing is promised but where they end ──
@@ -160,29 +128,14 @@ fn kind_of(t: &[u32], x: usize) -> usize
     requires { x ≤ 4294967296 }
     ensures { result < 4 }
 {
-    if x == 0 {
-        return SEQUENCE;
+    if x != 0 && records::op(t, x - 1) == CHOICE {
+        CHOICE
+    } else {
+        SEQUENCE
     }
-    let op = records::op(t, x - 1);
-    if op == CHOICE {
-        return CHOICE;
-    }
-    SEQUENCE
 }
 
-// Whether x is of that kind itself, so that its parts are listed.
-fn goes_on(t: &[u32], kind: usize, x: usize) -> bool
-    requires { x ≤ 4294967296 }
-    ensures { result ≡ true → 0 < x }
-{
-    if x == 0 {
-        return false;
-    }
-    let op = records::op(t, x - 1);
-    op == kind
-}
-
-// The list of part x from i on; the place behind it.
+// The list of part x from i on; the place behind it. The walk goes down the parts: how many there are is known at its end.
 fn put_list(t: &[u32], lists: &mut Lists, x: usize, i: usize) -> usize
     requires { (x < 1025) × (i < 2048) }
     ensures { result ≤ 4096 }
@@ -210,10 +163,7 @@ fn put_one(t: &[u32], lists: &mut Lists, x: usize, k: usize, i: usize) -> usize
     requires { i ≤ 4096 }
     ensures { result ≤ 4096 }
 {
-    if WORDS <= i {
-        return i;
-    }
-    if match_eval::memory::PARTS <= x {
+    if WORDS <= i || match_eval::memory::PARTS <= x {
         return i;
     }
     put(lists, k, i);
@@ -225,17 +175,12 @@ pub fn list_all(t: &[u32], mem: &[u32], n: usize, lists: &mut Lists)
     requires { n ≤ 64 }
 {
     let mut i = LISTS_AT;
-    let mut r: usize = 0;
-    while r < n {
+    for r in 0..n {
         let x = records::body(t, r);
         i = put_one(t, lists, x, r, i);
-        r += 1;
     }
-    let d = word(mem, COUNT);
-    let mut k: usize = 0;
-    while k < d {
+    for k in 0..word(mem, COUNT) {
         let y = word(mem, PARTS_AT + k);
         i = put_one(t, lists, y, KEYS_AT + k, i);
-        k += 1;
     }
 }

@@ -1,4 +1,5 @@
 // Rounds that are remembered: at each place that is done, entries for each key (01, Meaning of a match). What the words of the memory are: match_eval.
+// Table, text and cells are parameters, as there: the memory is written between two reads, so that a struct of what is lent would be made anew for each.
 #![tactic(auto)]
 
 ghost use Rattle.std.specs.Prelude.{ℕ, ◌+◌, ◌<◌, ◌≤◌, ◌≡◌, get_or, length};
@@ -12,8 +13,8 @@ ghost use Rattle.match_rounds.specs.steps.Noted.{Noted, GoesOn};
 use base_words::{put, word};
 use grammar_table::Table;
 use match_eval::memory::{
-    COUNT, ENDS, ENTRIES_AT, ENTRY_WORDS, Memory, PARTS_AT, PAST, PLACES, RUNS, TEXT, begins,
-    block, key, said, says, slot,
+    COUNT, Entry, Memory, PARTS_AT, PLACES, RUNS, TEXT, begins, block, entry_at, key, said, says,
+    slot,
 };
 use match_plan::Plan;
 
@@ -22,12 +23,12 @@ fn note(mem: &mut Memory, i: usize, k: usize, p: usize, c: usize)
     requires { (i < 4294967296) × (k ≤ 1025) × (p ≤ 65535) × (c ≤ 65535) }
     ensures { Noted k p c mem.old mem.new }
 {
-    let j = ENTRIES_AT + ENTRY_WORDS * i;
-    if j + ENDS < mem.len() {
-        put(mem, j, k * TEXT + p);
-        put(mem, j + PAST, p + 1);
-        put(mem, j + ENDS, p + c);
-    }
+    let entry = Entry {
+        first: k * TEXT + p,
+        past: p + 1,
+        end: p + c,
+    };
+    entry.write(mem, i);
 }
 
 // The run of entry i, which is about the place behind p, begins at p.
@@ -35,7 +36,7 @@ fn lengthen(mem: &mut Memory, i: usize, k: usize, p: usize)
     requires { ((i < 4294967296) × (k ≤ 1025) × (p < 65535)) × About mem.old i k (p + 1) }
     ensures { (c : ℕ) → end_of mem.old i ≡ p + c → Noted k p c mem.old mem.new }
 {
-    put(mem, ENTRIES_AT + ENTRY_WORDS * i, k * TEXT + p);
+    put(mem, entry_at(i), k * TEXT + p);
 }
 
 // Entry m says what entry i says.
@@ -43,16 +44,8 @@ fn copy(mem: &mut Memory, m: usize, i: usize)
     requires { (m < 4294967296) × (i < 4294967296) }
     ensures { (k p c : ℕ) → Noted k p c mem.old mem.new }
 {
-    let j = ENTRIES_AT + ENTRY_WORDS * i;
-    let first = word(mem, j);
-    let past = word(mem, j + PAST);
-    let end = word(mem, j + ENDS);
-    let at = ENTRIES_AT + ENTRY_WORDS * m;
-    if at + ENDS < mem.len() {
-        put(mem, at, first);
-        put(mem, at + PAST, past);
-        put(mem, at + ENDS, end);
-    }
+    let entry = Entry::read(mem, i);
+    entry.write(mem, m);
 }
 
 // The newest run of key k has come to p: where a block begins there, the block's entry says what the run's says.
@@ -73,12 +66,12 @@ fn go_on(mem: &mut Memory, k: usize, p: usize) -> bool
     ensures { GoesOn k p mem.old mem.new result }
 {
     let i = RUNS + k;
-    if begins(mem, i, k, p + 1) {
+    let goes = begins(mem, i, k, p + 1);
+    if goes {
         lengthen(mem, i, k, p);
         keep_block(mem, k, p);
-        return true;
     }
-    false
+    goes
 }
 
 // The newest run of key k goes on to p, from where rounds take c bytes, or a new one begins there.
@@ -87,8 +80,7 @@ fn run_on(mem: &mut Memory, k: usize, p: usize, c: usize)
     ensures { Noted k p c mem.old mem.new }
 {
     let i = RUNS + k;
-    let d = says(mem, i, k, p + 1);
-    if d == c - 1 {
+    if says(mem, i, k, p + 1) == Some(c - 1) {
         lengthen(mem, i, k, p);
     } else {
         note(mem, i, k, p, c);
@@ -108,7 +100,7 @@ fn remember(mem: &mut Memory, k: usize, p: usize, c: usize)
     run_on(mem, k, p, c);
 }
 
-// The first round of part y from p on: 0 for none, else 1 + the bytes that it takes.
+// The first round of part y from p on, as evaluation has it: 0 for none, else 1 + the bytes that it takes.
 #[derive(Clone, Copy)]
 pub struct First {
     pub y: usize,
@@ -117,6 +109,7 @@ pub struct First {
 }
 
 // The rounds of a part, if it has a key, whose first is known. Where there is none, nothing need be remembered.
+// Here and below the memory is lent to be written: in one struct with it each contract would have to say that table, text and cells stay as they are.
 pub fn learn_first(t: &Table, s: &[u8], cells: &[u32], mem: &mut Memory, n: usize, first: First)
     requires { ((n ≤ 64) × (first.y < 4294967296) × (length s.now ≤ 65535) × (first.p ≤ length s.now)
         × (first.a ≡ ev s.now cells.now n (tree_of t.now first.y) first.p))
@@ -124,15 +117,13 @@ pub fn learn_first(t: &Table, s: &[u8], cells: &[u32], mem: &mut Memory, n: usiz
     ensures { Knows t.now s.now cells.now n mem.new first.p first.p
         × Front mem.old mem.new }
 {
-    let k = key(mem, first.y);
-    if k == 0 {
-        return;
-    }
     if first.a <= 1 {
         return;
     }
-    let c = match_eval::many_at(t, s, cells, mem, n, first.y, first.p + (first.a - 1));
-    remember(mem, k, first.p, first.a - 1 + c);
+    if let Some(k) = key(mem, first.y) {
+        let c = match_eval::many_at(t, s, cells, mem, n, first.y, first.p + (first.a - 1));
+        remember(mem, k, first.p, first.a - 1 + c);
+    }
 }
 
 // The rounds of part y from p on, where the byte decides nothing.
@@ -141,7 +132,7 @@ fn learn_rounds(t: &Table, s: &[u8], cells: &[u32], mem: &mut Memory, n: usize, 
     ensures { Knows t.now s.now cells.now n mem.new p p × Front mem.old mem.new }
 {
     let a = match_eval::part_at(t, s, cells, mem, n, y, p);
-    learn_first(t, s, cells, mem, n, First { y: y, p: p, a: a });
+    learn_first(t, s, cells, mem, n, First { y, p, a });
 }
 
 // The same where the byte decides that the first round is just this byte: most often the newest run goes on.
@@ -150,8 +141,7 @@ fn learn_byte(t: &Table, s: &[u8], cells: &[u32], mem: &mut Memory, n: usize, y:
         × Knows t.now s.now cells.now n mem.old p p }
     ensures { Knows t.now s.now cells.now n mem.new p p × Front mem.old mem.new }
 {
-    let k = key(mem, y);
-    if k != 0 {
+    if let Some(k) = key(mem, y) {
         if !go_on(mem, k, p) {
             let c = match_eval::many_at(t, s, cells, mem, n, y, p + 1);
             note(mem, RUNS + k, k, p, c + 1);
@@ -180,12 +170,8 @@ fn learn(t: &Table, s: &[u8], cells: &[u32], mem: &mut Memory, n: usize, y: usiz
     let w = said(mem, y, b);
     if w == 0 {
         learn_rounds(t, s, cells, mem, n, y, p);
-        return;
-    }
-    if w == match_plan::JUST {
-        if p < s.len() {
-            learn_byte(t, s, cells, mem, n, y, p);
-        }
+    } else if w == match_plan::JUST && p < s.len() {
+        learn_byte(t, s, cells, mem, n, y, p);
     }
 }
 
@@ -194,9 +180,7 @@ pub fn learn_all(t: &Table, s: &[u8], cells: &[u32], mem: &mut Memory, n: usize,
     requires { ((n ≤ 64) × (length s.now ≤ 65535) × (p ≤ length s.now)) × Knows t.now s.now cells.now n mem.old p p }
     ensures { Knows t.now s.now cells.now n mem.new p p × Front mem.old mem.new }
 {
-    let mut k = word(mem, COUNT);
-    while 0 < k {
-        k -= 1;
+    for k in (0..word(mem, COUNT)).rev() {
         let y = word(mem, PARTS_AT + k);
         learn(t, s, cells, mem, n, y, p);
     }
@@ -225,11 +209,8 @@ pub fn run_all(
         × Knows t.now s.now cells.now n mem.old all.p all.p }
     ensures { Knows t.now s.now cells.now n mem.new all.p all.p × Front mem.old mem.new }
 {
-    let d = all.d;
-    let mut j: usize = 0;
-    while j < d {
+    for j in 0..all.d {
         let k = word(plan, all.i + j);
         run_byte(t, s, cells, mem, n, k, all.p);
-        j += 1;
     }
 }

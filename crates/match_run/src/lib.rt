@@ -6,6 +6,7 @@ ghost use Rattle.match_run.specs.steps.Runs.{Loopless, Ran, listed_match, not_ma
 
 use grammar_table::Table;
 use match_eval::memory::Memory;
+use match_nodes::Offence;
 use prepare::Verdict;
 
 // Matched to a place, none, or refused with number and place.
@@ -26,55 +27,34 @@ pub struct Match {
 pub fn not_matched(v: Verdict) -> Match
     ensures { result ≡ not_matched v }
 {
-    match v {
-        Verdict::Accepted => Match {
-            nodes: 0,
-            outcome: Outcome::NoMatch,
-        },
-        Verdict::Refused {
-            number: n,
-            place: p,
-        } => Match {
-            nodes: 0,
-            outcome: Outcome::Refused {
-                number: n,
-                place: p,
-            },
-        },
-    }
+    let outcome = match v {
+        Verdict::Accepted => Outcome::NoMatch,
+        Verdict::Refused { number, place } => Outcome::Refused { number, place },
+    };
+    Match { nodes: 0, outcome }
 }
 
-fn listed_match(taken: usize, l: match_nodes::Listed) -> Match
+// A list's answer for a match of so many bytes.
+fn listed_match(taken: usize, l: Result<usize, Offence>) -> Match
     ensures { result ≡ listed_match taken l }
 {
     match l {
-        match_nodes::Listed::All(k) => Match {
-            nodes: k,
+        Ok(nodes) => Match {
+            nodes,
             outcome: Outcome::Matched(taken),
         },
-        match_nodes::Listed::Deep(k) => Match {
-            nodes: 0,
-            outcome: Outcome::Refused {
-                number: 11,
-                place: k,
-            },
-        },
-        match_nodes::Listed::Full(k) => Match {
-            nodes: 0,
-            outcome: Outcome::Refused {
-                number: 12,
-                place: k,
-            },
-        },
+        Err(Offence::Deep(place)) => not_matched(Verdict::Refused { number: 11, place }),
+        Err(Offence::Full(place)) => not_matched(Verdict::Refused { number: 12, place }),
     }
 }
 
+// 9 and 10 are told here and in `match_ask::ask` alike: what follows reads off both tests that the cells are enough, and each answer is of its own type.
 // The table of a plain grammar matched: 9, 10, then the cells, then 11 and 12. What filling remembers serves the list too.
 pub fn run(t: &Table, input: &[u8], cells: &mut [u32], nodes: &mut [u32]) -> Match
     requires { Loopless t.now }
     ensures { Ran t.now input.now cells.old nodes.old cells.new nodes.new result }
 {
-    if 65535 < input.len() {
+    if input.len() > 65535 {
         return not_matched(Verdict::Refused {
             number: 9,
             place: 65535,
@@ -92,11 +72,7 @@ pub fn run(t: &Table, input: &[u8], cells: &mut [u32], nodes: &mut [u32]) -> Mat
     match_cells::filling::fill(t, input, cells, &mut mem);
     let c = base_words::word(cells, 0);
     if c == 0 {
-        return Match {
-            nodes: 0,
-            outcome: Outcome::NoMatch,
-        };
+        return not_matched(Verdict::Accepted);
     }
-    let l = match_nodes::list(t, input, cells, &mem, n, nodes);
-    listed_match(c - 1, l)
+    listed_match(c - 1, match_nodes::list(t, input, cells, &mem, n, nodes))
 }

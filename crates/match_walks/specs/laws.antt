@@ -4,3 +4,4 @@ pub mod Waits
 pub mod Picks
 pub mod Walks
 pub mod Ups
+pub mod Known

@@ -2,351 +2,207 @@
 // that is done.
 #![tactic(auto)]
 
-ghost use Rattle.std.specs.Prelude.{◌≤◌, ◌<◌, ◌≡◌, true, ◌⊎◌, length};
+ghost use Rattle.std.specs.Prelude.{◌+◌, ◌-◌, ◌≤◌, ◌<◌, ◌≡◌, true, ◌⊎◌, length};
 ghost use Rattle.grammar_table.specs.Table.{expression_count};
-ghost use Rattle.grammar_table.specs.Trees.{tree_of};
-ghost use Rattle.match_eval.specs.steps.Firsts.{byte_at, said_of};
 ghost use Rattle.match_eval.specs.steps.Memory.{Knows};
-ghost use Rattle.match_desk.specs.steps.Desk.{Desk, Silent, kind_of};
+ghost use Rattle.match_desk.specs.steps.Desk.{Desk, kind_of};
+ghost use Rattle.match_desk.specs.steps.Parts.{Made};
+ghost use Rattle.match_walks.specs.laws.Known.{Knows-prop};
 ghost use Rattle.match_walks.specs.steps.Tasks.{takes};
 ghost use Rattle.match_walks.specs.steps.Picks.{Picked, Chosen};
-ghost use Rattle.match_walks.specs.steps.Walks.{Walkable, Walked, Risen};
+ghost use Rattle.match_walks.specs.steps.Walks.{Walkable, Descends, Ascends};
 
-use grammar_table::Table;
-use match_desk::{Seen, look};
-use match_eval::memory::Memory;
+use base_words::word;
+use grammar_table::{Table, records};
+use match_desk::{PARENTS_AT, Seen, look};
+use match_eval::memory::{Memory, said};
 
-// No alternative matches: above every expression's number.
-const FAILS: usize = 4096;
-// How a pass stands: it is over; its expression is done, or is to be walked.
-pub const OVER: usize = 0;
-
-pub const DONE: usize = 1;
-
-pub const WALK: usize = 2;
-// What walking an expression can come to beside: a symbol is to be entered.
-pub const ENTER: usize = 3;
-
-// Where a pass stands: how, on which level, at which expression; in the text, in the list.
+// What walking an expression comes to: it is done, up to a place; another is to be walked where it stands; a symbol is to be entered there.
 #[derive(Clone, Copy)]
-pub struct Stand {
-    pub mode: usize,
-    pub level: usize,
-    pub x: usize,
-    pub place: usize,
-    pub at: usize,
+pub enum Down {
+    Done(usize),
+    Walk(usize),
+    Enter(usize),
 }
 
-// How a pass stands then, at which expression (or before which symbol) and where in the text.
+// What comes behind an expression that is done, at the place where it ends: its body is done; its parent is; another is to be walked.
 #[derive(Clone, Copy)]
-pub struct Next {
-    pub kind: usize,
-    pub x: usize,
-    pub place: usize,
+pub enum Up {
+    Over,
+    Done(usize),
+    Walk(usize),
 }
 
-// x where it matches at p, 4,096 where it fails.
-fn whole(t: &Table, s: &[u8], cells: &[u32], mem: &Memory, n: usize, x: usize, p: usize) -> usize
-    requires { ((n ≤ 64) × (x < 2048) × (length s.now ≤ 65535) × (p ≤ length s.now)) × Knows t.now s.now cells.now n mem.now 0 0 }
-    ensures { Picked t.now s.now cells.now n x p result }
-{
-    let v = match_eval::part_at(t, s, cells, mem, n, x, p);
-    if v == 0 {
-        return FAILS;
-    }
-    x
+// A text's cells, filled by a table of n symbols, and what filling them left in the memory.
+#[derive(Clone, Copy)]
+pub struct Filled<'a> {
+    pub table: &'a Table,
+    pub text: &'a [u8],
+    pub cells: &'a [u32],
+    pub mem: &'a Memory,
+    pub n: usize,
+    pub ghost few: { n ≤ 64 },
+    pub ghost short: { length text.now ≤ 65535 },
+    pub ghost known: { Knows table.now text.now cells.now n mem.now 0 0 } by { Knows-prop table.now text.now cells.now n mem.now 0 0 },
 }
 
-// Whether the byte at p decides that x fails there.
-fn barred(s: &[u8], mem: &Memory, x: usize, p: usize) -> bool
-    ensures { result ≡ true → said_of mem.now (byte_at s.now p) x ≡ 1 }
-{
-    let b = match_eval::byte_at(s, p);
-    let w = match_eval::memory::said(mem, x, b);
-    w == 1
-}
+impl Filled<'_> {
+    // Expression x - 1.
+    fn look(&self, x: usize) -> Seen
+        requires { (0 < x) × (x < 2048) }
+        ensures { Made self.now.table.now x result.op result.left result.y result.z }
+    {
+        let table = self.table;
+        look(table, x)
+    }
 
-// The first alternative of x that matches at p and is no choice itself: choices nest to the left, each alternative is evaluated once, and a choice of which the
-// byte at p rules out all is passed over.
-fn pick(t: &Table, s: &[u8], cells: &[u32], mem: &Memory, n: usize, x: usize, p: usize) -> usize
-    requires { ((n ≤ 64) × (x < 2048) × (length s.now ≤ 65535) × (p ≤ length s.now)) × Knows t.now s.now cells.now n mem.now 0 0 }
-    ensures { Picked t.now s.now cells.now n x p result }
-{
-    if barred(s, mem, x, p) {
-        return FAILS;
+    // Whether x is a choice.
+    fn is_choice(&self, x: usize) -> bool
+        requires { x < 2048 }
+        ensures { result ≡ true → (0 < x) × (kind_of self.now.table.now x ≡ 3) }
+    {
+        let table = self.table;
+        x > 0 && records::op(table, x - 1) == grammar_table::CHOICE
     }
-    if x == 0 {
-        return whole(t, s, cells, mem, n, x, p);
-    }
-    let g = look(t, x);
-    let op = g.op;
-    if op != grammar_table::CHOICE {
-        return whole(t, s, cells, mem, n, x, p);
-    }
-    let y = g.y;
-    let a = pick(t, s, cells, mem, n, y, p);
-    if a != FAILS {
-        return a;
-    }
-    let z = g.z;
-    pick(t, s, cells, mem, n, z, p)
-}
 
-// Of a choice, one of whose parts matches, that part, or an alternative of it: where the byte at p rules out one part, nothing is evaluated.
-fn half(t: &Table, s: &[u8], cells: &[u32], mem: &Memory, n: usize, g: Seen, p: usize) -> usize
-    requires { ((n ≤ 64) × (g.y < 2048) × (g.z < 2048) × (length s.now ≤ 65535) × (p ≤ length s.now))
-        × Knows t.now s.now cells.now n mem.now 0 0 }
-    ensures { Chosen t.now s.now cells.now n g.y g.z p result × ((result ≤ g.y) ⊎ (result ≤ g.z)) }
-{
-    let y = g.y;
-    let z = g.z;
-    if barred(s, mem, z, p) {
-        return y;
+    // What x takes at p, where most often the byte there decides it.
+    fn round(&self, x: usize, p: usize) -> usize
+        requires { (x < 4294967296) × (p ≤ length self.now.text.now) }
+        ensures { let f = self.now in result ≡ takes f.table.now f.text.now f.cells.now f.n x p }
+    {
+        match_eval::round(self.table, self.text, self.cells, self.mem, self.n, x, p)
     }
-    let a = pick(t, s, cells, mem, n, y, p);
-    if a != FAILS {
-        return a;
-    }
-    z
-}
 
-// Whether x is a choice.
-fn is_choice(t: &Table, x: usize) -> bool
-    requires { x < 2048 }
-    ensures { result ≡ true → (0 < x) × (kind_of t.now x ≡ 3) }
-{
-    if x == 0 {
-        return false;
+    // The same of what is most often a symbol.
+    fn part_at(&self, x: usize, p: usize) -> usize
+        requires { (x < 4294967296) × (p ≤ length self.now.text.now) }
+        ensures { let f = self.now in result ≡ takes f.table.now f.text.now f.cells.now f.n x p }
+    {
+        match_eval::part_at(self.table, self.text, self.cells, self.mem, self.n, x, p)
     }
-    let op = grammar_table::records::op(t, x - 1);
-    op == grammar_table::CHOICE
-}
 
-// Of a choice, one of whose parts matches, the alternative that does.
-fn choose(t: &Table, s: &[u8], cells: &[u32], mem: &Memory, n: usize, g: Seen, p: usize) -> usize
-    requires { ((n ≤ 64) × (g.y < 2048) × (g.z < 2048) × (length s.now ≤ 65535) × (p ≤ length s.now))
-        × Knows t.now s.now cells.now n mem.now 0 0 }
-    ensures { Chosen t.now s.now cells.now n g.y g.z p result }
-{
-    let y = g.y;
-    let z = g.z;
-    let mut x = half(t, s, cells, mem, n, g, p);
-    while is_choice(t, x) {
-        let h = look(t, x);
-        x = half(t, s, cells, mem, n, h, p);
+    // Whether the byte at p decides that x fails there.
+    fn barred(&self, x: usize, p: usize) -> bool
+        requires { p ≤ length self.now.text.now }
+        ensures { let f = self.now in result ≡ true → takes f.table.now f.text.now f.cells.now f.n x p ≡ 0 }
+    {
+        let mem = self.mem;
+        said(mem, x, match_eval::byte_at(self.text, p)) == 1
     }
-    x
-}
 
-// What lists no node is passed over by what it takes.
-fn across(
-    t: &Table,
-    s: &[u8],
-    cells: &[u32],
-    mem: &Memory,
-    n: usize,
-    desk: &[u32],
-    st: Stand,
-) -> Next
-    requires { Walkable t.now s.now cells.now n desk.now st.x st.place × Silent (tree_of t.now st.x)
-        × Knows t.now s.now cells.now n mem.now 0 0 }
-    ensures { Walked t.now s.now cells.now n desk.now st.x st.place result.kind result.x result.place }
-{
-    let x = st.x;
-    let p = st.place;
-    let a = match_eval::round(t, s, cells, mem, n, x, p);
-    Next {
-        kind: DONE,
-        x: x,
-        place: p + (a - 1),
-    }
-}
-
-// A guard takes nothing: it is passed over without evaluation.
-fn skip(t: &Table, s: &[u8], cells: &[u32], mem: &Memory, n: usize, desk: &[u32], st: Stand) -> Next
-    requires { Walkable t.now s.now cells.now n desk.now st.x st.place × Silent (tree_of t.now st.x)
-        × Knows t.now s.now cells.now n mem.now 0 0 }
-    ensures { Walked t.now s.now cells.now n desk.now st.x st.place result.kind result.x result.place }
-{
-    let x = st.x;
-    let p = st.place;
-    if x == 0 {
-        return across(t, s, cells, mem, n, desk, st);
-    }
-    let g = look(t, x);
-    let op = g.op;
-    if grammar_table::AHEAD <= op {
-        return Next {
-            kind: DONE,
-            x: x,
-            place: p,
-        };
-    }
-    across(t, s, cells, mem, n, desk, st)
-}
-
-// What walking the expression of a stand comes to: it matches there, so that nothing is evaluated but what is chosen by it.
-pub fn walk(
-    t: &Table,
-    s: &[u8],
-    cells: &[u32],
-    mem: &Memory,
-    n: usize,
-    desk: &[u32],
-    st: Stand,
-) -> Next
-    requires { Walkable t.now s.now cells.now n desk.now st.x st.place × Knows t.now s.now cells.now n mem.now 0 0 }
-    ensures { Walked t.now s.now cells.now n desk.now st.x st.place result.kind result.x result.place }
-{
-    let x = st.x;
-    let p = st.place;
-    let holds = base_words::word(desk, x);
-    if holds == 0 {
-        return skip(t, s, cells, mem, n, desk, st);
-    }
-    if x == 0 {
-        return skip(t, s, cells, mem, n, desk, st);
-    }
-    let g = look(t, x);
-    let op = g.op;
-    let left = g.left;
-    let y = g.y;
-    match op {
-        grammar_table::SYMBOL => Next {
-            kind: ENTER,
-            x: left,
-            place: p,
-        },
-        grammar_table::SEQUENCE => Next {
-            kind: WALK,
-            x: y,
-            place: p,
-        },
-        grammar_table::CHOICE => {
-            let a = choose(t, s, cells, mem, n, g, p);
-            Next {
-                kind: WALK,
-                x: a,
-                place: p,
-            }
+    // The first alternative of x that matches at p and is no choice itself: choices nest to the left, each alternative is evaluated once, and a choice of
+    // which the byte at p rules out all is passed over.
+    fn pick(&self, x: usize, p: usize) -> Option<usize>
+        requires { (x < 2048) × (p ≤ length self.now.text.now) }
+        ensures { let f = self.now in Picked f.table.now f.text.now f.cells.now f.n x p result }
+    {
+        if self.barred(x, p) {
+            return None;
         }
-        grammar_table::OPTION => {
-            let a = match_eval::round(t, s, cells, mem, n, y, p);
-            if a == 0 {
-                return Next {
-                    kind: DONE,
-                    x: x,
-                    place: p,
-                };
-            }
-            Next {
-                kind: WALK,
-                x: y,
-                place: p,
-            }
-        }
-        grammar_table::STAR => {
-            let a = match_eval::round(t, s, cells, mem, n, y, p);
-            if a <= 1 {
-                return Next {
-                    kind: DONE,
-                    x: x,
-                    place: p,
-                };
-            }
-            Next {
-                kind: WALK,
-                x: y,
-                place: p,
-            }
-        }
-        grammar_table::PLUS => Next {
-            kind: WALK,
-            x: y,
-            place: p,
-        },
-        _ => skip(t, s, cells, mem, n, desk, st),
-    }
-}
-
-// A round of a part of e is done: a further one, up to the first that fails or takes nothing.
-fn further(t: &Table, s: &[u8], cells: &[u32], mem: &Memory, n: usize, st: Stand, e: usize) -> Next
-    requires { ((n ≤ 64) × (st.x < 4294967296) × (length s.now ≤ 65535) × (st.place ≤ length s.now))
-        × Knows t.now s.now cells.now n mem.now 0 0 }
-    ensures { ((takes t.now s.now cells.now n st.x st.place ≤ 1) × (result.kind ≡ 1) × (result.x ≡ e)
-        × (result.place ≡ st.place))
-        ⊎ ((1 < takes t.now s.now cells.now n st.x st.place) × (result.kind ≡ 2) × (result.x ≡ st.x)
-        × (result.place ≡ st.place)) }
-{
-    let x = st.x;
-    let p = st.place;
-    let a = match_eval::round(t, s, cells, mem, n, x, p);
-    if a <= 1 {
-        return Next {
-            kind: DONE,
-            x: e,
-            place: p,
-        };
-    }
-    Next {
-        kind: WALK,
-        x: x,
-        place: p,
-    }
-}
-
-// What comes behind an expression that is done: the right part of its sequence, a further round, or its parent is done; OVER says that its body is.
-pub fn rise(
-    t: &Table,
-    s: &[u8],
-    cells: &[u32],
-    mem: &Memory,
-    n: usize,
-    desk: &[u32],
-    st: Stand,
-) -> Next
-    requires { Desk t.now desk.now (expression_count t.now) × (expression_count t.now ≤ 1024) × (n ≤ 64) × (st.x < 4294967296)
-        × (length s.now ≤ 65535) × (st.place ≤ length s.now) × Knows t.now s.now cells.now n mem.now 0 0 }
-    ensures { Risen t.now s.now cells.now n desk.now st.x st.place result.kind result.x × (result.kind ≤ 2)
-        × (result.place ≡ st.place) }
-{
-    let x = st.x;
-    let p = st.place;
-    let e = base_words::word(desk, match_desk::PARENTS_AT + x);
-    if e == 0 {
-        return Next {
-            kind: OVER,
-            x: 0,
-            place: p,
-        };
-    }
-    let g = look(t, e);
-    let op = g.op;
-    let y = g.y;
-    let z = g.z;
-    if op == grammar_table::SEQUENCE {
-        if x == y {
-            return Next {
-                kind: WALK,
-                x: z,
-                place: p,
+        if self.is_choice(x) {
+            let Seen { y, z, .. } = self.look(x);
+            // the arms of `or_else`: a closure that calls its own function has no measure of its own
+            return match self.pick(y, p) {
+                Some(a) => Some(a),
+                None => self.pick(z, p),
             };
         }
-        return Next {
-            kind: DONE,
-            x: e,
-            place: p,
-        };
+        if self.part_at(x, p) == 0 {
+            None
+        } else {
+            Some(x)
+        }
     }
-    if op == grammar_table::STAR {
-        return further(t, s, cells, mem, n, st, e);
+
+    // Of a choice, one of whose parts matches, that part, or an alternative of it: where the byte at p rules out one part, nothing is evaluated.
+    fn half(&self, g: Seen, p: usize) -> usize
+        requires { (g.y < 2048) × (g.z < 2048) × (p ≤ length self.now.text.now) }
+        ensures { let f = self.now in Chosen f.table.now f.text.now f.cells.now f.n g.y g.z p result × ((result ≤ g.y) ⊎ (result ≤ g.z)) }
+    {
+        let Seen { y, z, .. } = g;
+        if self.barred(z, p) {
+            return y;
+        }
+        // the arms of `unwrap_or`, so that each has the law of its own case
+        match self.pick(y, p) {
+            Some(a) => a,
+            None => z,
+        }
     }
-    if op == grammar_table::PLUS {
-        return further(t, s, cells, mem, n, st, e);
+
+    // Of a choice, one of whose parts matches, the alternative that does.
+    fn choose(&self, g: Seen, p: usize) -> usize
+        requires { (g.y < 2048) × (g.z < 2048) × (p ≤ length self.now.text.now) }
+        ensures { let f = self.now in Chosen f.table.now f.text.now f.cells.now f.n g.y g.z p result }
+    {
+        // no counted loop: a cursor down the choices, to where there is none
+        let mut x = self.half(g, p);
+        while self.is_choice(x) {
+            x = self.half(self.look(x), p);
+        }
+        x
     }
-    Next {
-        kind: DONE,
-        x: e,
-        place: p,
+
+    // Where x ends, which matches at p. A guard takes nothing, and is not evaluated.
+    fn past(&self, x: usize, p: usize) -> usize
+        requires { let f = self.now in (x < 2048) × (p ≤ length f.text.now) × (takes f.table.now f.text.now f.cells.now f.n x p ≡ 0 → ⊥) }
+        ensures { let f = self.now in result ≡ p + (takes f.table.now f.text.now f.cells.now f.n x p - 1) }
+    {
+        if x > 0 && self.look(x).op >= grammar_table::AHEAD {
+            return p;
+        }
+        p + (self.round(x, p) - 1)
+    }
+
+    // What walking x comes to: it matches at p, so that nothing is evaluated but what is chosen by it.
+    pub fn walk(&self, desk: &[u32], x: usize, p: usize) -> Down
+        requires { let f = self.now in Walkable f.table.now f.text.now f.cells.now f.n desk.now x p }
+        ensures { let f = self.now in Descends f.table.now f.text.now f.cells.now f.n desk.now x p result }
+    {
+        // what lists no node is passed over
+        if x == 0 || word(desk, x) == 0 {
+            return Down::Done(self.past(x, p));
+        }
+        let g = self.look(x);
+        match g.op {
+            grammar_table::SYMBOL => Down::Enter(g.left),
+            grammar_table::SEQUENCE => Down::Walk(g.y),
+            grammar_table::CHOICE => Down::Walk(self.choose(g, p)),
+            grammar_table::OPTION => {
+                if self.round(g.y, p) == 0 {
+                    Down::Done(p)
+                } else {
+                    Down::Walk(g.y)
+                }
+            }
+            grammar_table::STAR => {
+                if self.round(g.y, p) <= 1 {
+                    Down::Done(p)
+                } else {
+                    Down::Walk(g.y)
+                }
+            }
+            grammar_table::PLUS => Down::Walk(g.y),
+            _ => Down::Done(self.past(x, p)),
+        }
+    }
+
+    // What comes behind x, which is done at p: the right part of its sequence; a further round, up to the first that fails or takes nothing; or its parent is
+    // done.
+    pub fn rise(&self, desk: &[u32], x: usize, p: usize) -> Up
+        requires { let f = self.now in Desk f.table.now desk.now (expression_count f.table.now) × (expression_count f.table.now ≤ 1024)
+            × (x < 4294967296) × (p ≤ length f.text.now) }
+        ensures { let f = self.now in Ascends f.table.now f.text.now f.cells.now f.n desk.now x p result }
+    {
+        let e = word(desk, PARENTS_AT + x);
+        if e == 0 {
+            return Up::Over;
+        }
+        let Seen { op, y, z, .. } = self.look(e);
+        match op {
+            grammar_table::SEQUENCE if x == y => Up::Walk(z),
+            grammar_table::STAR | grammar_table::PLUS if self.round(x, p) > 1 => Up::Walk(x),
+            _ => Up::Done(e),
+        }
     }
 }

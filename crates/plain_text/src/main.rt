@@ -2,27 +2,17 @@
 #![tactic(auto)]
 
 use gurkenmond::{Mode, Verdict};
-use std::os::fd::AsRawFd;
 
+// A match of its own, as in each program: `console` knows none of the public calls.
 fn answer(text: &[u8]) {
     let mut out = io::large_buffer();
     let w = gurkenmond::write_plain(Mode::Lake, text, &mut out);
-    let v = w.verdict;
-    match v {
+    match w.verdict {
         Verdict::Accepted => console::print_front(&out, w.bytes),
-        Verdict::Refused {
-            number: n,
-            place: p,
-        } => console::refused(n, p),
+        Verdict::Refused { number, place } => console::refused(number, place),
     }
 }
 
 fn main(rt: HostRuntime) {
-    let Some(file) = console::open_grammar(&rt) else {
-        console::unreadable();
-        return;
-    };
-    let mut text = console::text_room();
-    let n = io::read_full(file.as_raw_fd(), &mut text);
-    answer(&text[..n]);
+    console::with_grammar(&rt, answer);
 }

@@ -2,7 +2,7 @@
 // its sets, and that a plain grammar; or a refusal with number and place.
 #![tactic(auto)]
 
-ghost use Rattle.std.specs.Prelude.{◌≡◌, length};
+ghost use Rattle.std.specs.Prelude.{◌≡◌, length, None};
 ghost use Rattle.std.proofs.Math.Option.{none};
 ghost use Rattle.grammar.specs.Numbers.{numbered};
 ghost use Rattle.grammar_table.specs.Holds.{Holds};
@@ -20,13 +20,22 @@ ghost use Rattle.prepare.specs.declared.Verdict.TheVariants.{Refused as VerdictR
 pub mod refusals;
 
 use grammar_table::{Table, records, renew};
+use lake_analysis::Analysis;
 use read_tokens::Mode;
 
-// A grammar is accepted, or refused with number and place.
-#[derive(Clone, Copy)]
+// A grammar is accepted, or refused with number and place: 01's form of an answer, which stands beside its counts.
+#[derive(Clone, Copy, PartialEq, Eq)]
 pub enum Verdict {
     Accepted,
     Refused { number: usize, place: usize },
+}
+
+impl Verdict {
+    pub fn is_refused(self) -> bool
+        ensures { result ≡ is_refused self }
+    {
+        matches!(self, Verdict::Refused { .. })
+    }
 }
 
 #[derive(Clone, Copy)]
@@ -44,13 +53,11 @@ fn refusal(number: usize, place: usize) -> Counted
         symbols: 0,
         terminals: 0,
         expressions: 0,
-        verdict: Verdict::Refused {
-            number: number,
-            place: place,
-        },
+        verdict: Verdict::Refused { number, place },
     }
 }
 
+// Of each bound that 01 gives for both modes there is one function, as there is one definition: one for all would be no plainer.
 fn expression_bound(mode: Mode) -> usize
     ensures { result ≡ expression_bound mode }
 {
@@ -62,7 +69,7 @@ fn expression_bound(mode: Mode) -> usize
 
 // The counts of a grammar that 1 to 5 let through, which the table then holds, or refusal 6.
 fn gather(mode: Mode, text: &[u8], t: &mut Table) -> Counted
-    requires { (length t.old ≡ table_words) × ((found (scanned mode text.now)).number ≡ 0) }
+    requires { (length t.old ≡ table_words) × (found (scanned mode text.now) ≡ None) }
     ensures { Loads mode text.now t.new result }
 {
     let c = read_grammar::build(mode, text, t);
@@ -87,8 +94,7 @@ fn gather(mode: Mode, text: &[u8], t: &mut Table) -> Counted
 pub fn load(mode: Mode, text: &[u8], t: &mut Table) -> Counted
     ensures { Loads mode text.now t.new result }
 {
-    let f = refusals::refused(mode, text, t);
-    if f.number != 0 {
+    if let Some(f) = refusals::refused(mode, text, t) {
         return refusal(f.number, f.place);
     }
     renew(t);
@@ -106,14 +112,10 @@ pub struct Intermediate {
 pub fn analyse(
     t: &Table,
     mid: &mut Table,
-    marks: &mut [bool; 64],
-    sets: &mut [[u64; 2]; 1024],
-    eps: &mut [bool; 1024],
-    succ: &mut [[u64; 2]; 1024],
+    a: &mut Analysis,
     alts: &mut [[u64; 2]; 1024],
 ) -> Intermediate
-    ensures { Between t.now mid.new marks.new sets.new eps.new succ.new alts.new
-        result.expressions result.rounds }
+    ensures { let n = a.new in Between t.now mid.new n.marks n.sets n.eps n.succ alts.new result.expressions result.rounds }
 {
     let n = lake_step_one::step_one(t, mid);
     if 1024 < n {
@@ -122,10 +124,10 @@ pub fn analyse(
             rounds: 0,
         };
     }
-    let k = lake_analysis::analyse_table(mid, marks, sets, eps, succ, alts);
+    let rounds = a.analyse_table(mid, alts);
     Intermediate {
         expressions: n,
-        rounds: k,
+        rounds,
     }
 }
 
@@ -133,14 +135,11 @@ pub fn analyse(
 pub fn alternatives(t: &Table, mid: &mut Table, alts: &mut [[u64; 2]; 1024]) -> Intermediate
     ensures { WithAlts t.now mid.new alts.new result.expressions result.rounds }
 {
-    let mut marks = [false; 64];
-    let mut sets: [[u64; 2]; 1024] = [[0, 0]; 1024];
-    let mut eps = [false; 1024];
-    let mut succ: [[u64; 2]; 1024] = [[0, 0]; 1024];
-    analyse(t, mid, &mut marks, &mut sets, &mut eps, &mut succ, alts)
+    let mut a = Analysis::new();
+    analyse(t, mid, &mut a, alts)
 }
 
-// The plain grammar of an intermediate one with n expressions: how many it has, more than 1,024 where it is refused.
+// The plain grammar of an intermediate one with n expressions: how many it has, more than 1,024 where it is refused, as `SteppedTwo` promises it.
 fn translate(n: usize, mid: &Table, alts: &[[u64; 2]; 1024], out: &mut Table) -> usize
     ensures { Follows n mid.now alts.now out.new result }
 {
@@ -150,7 +149,7 @@ fn translate(n: usize, mid: &Table, alts: &[[u64; 2]; 1024], out: &mut Table) ->
     lake_step_two::step_two(mid, alts, out)
 }
 
-// The smallest symbol on a loop of first calls; the number of symbols where there is none.
+// The smallest symbol on a loop of first calls; the number of symbols where there is none, as `LoopedAll` has it.
 fn loop_of(t: &Table) -> usize
     ensures { LoopedAll t.now result }
 {
@@ -159,18 +158,6 @@ fn loop_of(t: &Table) -> usize
         return 0;
     }
     lake_calls::loops::table_loop(t)
-}
-
-pub fn is_refused(v: Verdict) -> bool
-    ensures { result ≡ is_refused v }
-{
-    match v {
-        Verdict::Accepted => false,
-        Verdict::Refused {
-            number: n,
-            place: p,
-        } => true,
-    }
 }
 
 // How many symbols a table holds.
@@ -213,21 +200,16 @@ pub fn finish(
 ) -> Prepared
     ensures { Finished r made.expressions made.rounds mid.now alts.now out.new result.counted result.rounds }
 {
-    let v = r.verdict;
-    if is_refused(v) {
+    if r.verdict.is_refused() {
         return refused(r);
     }
-    let n = made.expressions;
-    let e = translate(n, mid, alts, out);
+    let e = translate(made.expressions, mid, alts, out);
     if 1024 < e {
-        let f = refusal(7, 1025);
-        return refused(f);
+        return refused(refusal(7, 1025));
     }
-    let k = r.symbols;
     let l = loop_of(out);
-    if l < k {
-        let f = refusal(8, l);
-        return refused(f);
+    if l < r.symbols {
+        return refused(refusal(8, l));
     }
     Prepared {
         counted: r,
@@ -240,20 +222,17 @@ pub fn finish(
 fn translated(mode: Mode, text: &[u8], mid: &mut Table, out: &mut Table) -> Counted
     ensures { PlainOnly mode text.now out.new result }
 {
-    let f = refusals::refused(mode, text, out);
-    if f.number != 0 {
+    if let Some(f) = refusals::refused(mode, text, out) {
         return refusal(f.number, f.place);
     }
     renew(out);
     let r = gather(mode, text, out);
-    let v = r.verdict;
-    if is_refused(v) {
+    if r.verdict.is_refused() {
         return r;
     }
     let mut alts: [[u64; 2]; 1024] = [[0, 0]; 1024];
     let made = alternatives(out, mid, &mut alts);
-    let p = finish(r, made, mid, &alts, out);
-    p.counted
+    finish(r, made, mid, &alts, out).counted
 }
 
 // The plain form alone.
@@ -278,8 +257,7 @@ pub fn plainly(mode: Mode, text: &[u8], t: &mut Table, out: &mut Table) -> Count
     ensures { Plainly mode text.now t.new out.new result }
 {
     let c = translated(mode, text, t, out);
-    let v = c.verdict;
-    if is_refused(v) {
+    if c.verdict.is_refused() {
         return c;
     }
     own_again(mode, text, t);

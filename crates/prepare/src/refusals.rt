@@ -9,6 +9,7 @@ use read_syntax::syntax;
 use read_syntax::syntax::Found;
 use read_tokens::Mode;
 
+// One function for each bound, as for `expression_bound`.
 fn text_bound(mode: Mode) -> usize
     ensures { result ≡ text_bound mode }
 {
@@ -18,27 +19,23 @@ fn text_bound(mode: Mode) -> usize
     }
 }
 
-// Refusals 1 to 5 in order of check; number 0 where there is none. The names are ordered in a table that nothing is in yet: its words may be any, before and
-// after.
-pub fn refused(mode: Mode, text: &[u8], room: &mut Table) -> Found
+// Refusals 1 to 5 in order of check. The names are ordered in a table that nothing is in yet: its words may be any, before and after.
+pub fn refused(mode: Mode, text: &[u8], room: &mut Table) -> Option<Found>
     ensures { result ≡ found (scanned mode text.now) }
 {
     let bound = text_bound(mode);
     if bound < text.len() {
-        return syntax::refuse(1, bound);
+        return Some(syntax::refuse(1, bound));
     }
-    let f = syntax::offending(mode, text);
-    if f.number != 0 {
-        return f;
+    if let Some(f) = syntax::offending(mode, text) {
+        return Some(f);
     }
     let names = read_names::lefts::refused(mode, text, room);
-    let p = names.second;
-    if p != 0 {
-        return syntax::refuse(4, p - 1);
+    if let Some(place) = names.second {
+        return Some(syntax::refuse(4, place));
     }
-    let u = names.unruled;
-    if u != 0 {
-        return syntax::refuse(5, u - 1);
+    if let Some(place) = names.unruled {
+        return Some(syntax::refuse(5, place));
     }
-    syntax::refuse(0, 0)
+    None
 }

@@ -1,23 +1,30 @@
 -- One law for each way through the functions over records and expressions. Assumes nothing.
-use Prim.Native.Nat.{ℕ, suc, ◌+◌, ◌-◌, ◌*◌, ◌≤◌, ◌<◌}
-use mathlib.Core.Path.{◌≡◌, refl, sym, ap, ◌∙◌}
-use mathlib.Core.Bool.{Bool, true, false, cond}
+use mir.Val.{bool_byte as from_bool}
+use Prim.Native.Nat.{ℕ, zero, suc, ◌+◌, ◌-◌, ◌*◌, ◌≤◌, ◌<◌}
+use mathlib.Core.Path.{◌≡◌, refl, sym, ap, ◌∙◌, subst}
+use mathlib.Core.Bool.{Bool, true, false, cond, ◌&&◌}
 use mathlib.Core.List.{List, [], ◌∷◌, map}
 use native.Mathlib.Omega.{arith}
 use native.Mathlib.Numerals.{add-one}
-use lib.Dec.{eqb}
+use lib.Dec.{eqb, leb}
 use lib.ListN.{length, length-set, get_or, set, drop, replicate, drop_of_length-le}
-use lib.Seq.{sets, length-sets, drop-cons}
-use borrow.Author.Tests.{eq-eqb, ne_eqb, lt-ltb, le-ltb}
+use lib.Seq.{sets, drop-cons}
+use borrow.Author.Tests.{lt-ltb, le-ltb}
+use Rattle.std.specs.Bool.{MatchBool}
+use Rattle.std.specs.List.{range_with_len, AllWithin, HoldsAt}
+use Rattle.std.proofs.lemmas.List.FromFn.{get_or-range_with_len, length-range_with_len}
 use Rattle.grammar.specs.Same.{same_bytes}
-use Rattle.read_tokens.specs.Chars.{char}
+use Rattle.grammar.specs.laws.Same.{bytes-refl, bytes-sound}
+use Rattle.read_tokens.specs.Bounds.{first_octal}
+use Rattle.read_tokens.specs.Chars.{Char, octal, octals, letters, four, char}
 use Rattle.read_tokens.specs.steps.Code.{literal_from}
 use Rattle.grammar_table.specs.Table.{expressions_at, expression_words, expression_count, terminal_key, terminal_words, symbols_at, symbol_words, body_at, words_from}
 use Rattle.grammar_table.specs.steps.Rows.{row_is}
-use Rattle.grammar_table.specs.laws.Words.{no_more, words-length, words-at}
-use Rattle.grammar_table.specs.laws.Compared.{compared-on, compared-not, compared-none, row_first, row-rest, words-all, words-but-one}
-use Rattle.read_entries.specs.steps.Entries.{symbol_row, lake_of, bit_of, push_by, pushed, bodied_by, bodied, prefix_op, suffix_op}
-use Rattle.read_entries.specs.steps.Leaves.{zeros, spelled, content_words, leaf_words}
+use Rattle.grammar_table.specs.laws.Words.{no_more, words-length, words-at, words-ext, words-places}
+use Rattle.grammar_table.specs.laws.Compared.{compared-on, compared-not, row_first, row-rest, words-all, words-but-one}
+use Rattle.read_entries.specs.steps.Entries.{symbol_row, bit_of, push_by, pushed, bodied_by, bodied}
+use Rattle.read_entries.specs.steps.Leaves.{zeros, spelled, Stands, words_of}
+use Rattle.read_entries.specs.declared.leaves.Leaf.{Leaf}
 use Rattle.read_entries.specs.laws.Decoded.{words_long}
 
 -- ── stores into a record, one after the other ──
@@ -32,9 +39,6 @@ store-whole row k l m e = ap (λ (x : List ℕ). sets row k x) e ∙ ap (λ (y :
 
 pub store-none : (row : List ℕ) (k : ℕ) (l : List ℕ) → l ≡ [] → sets row k l ≡ row
 store-none row k l e = ap (λ (x : List ℕ). sets row k x) e
-
-pub kept-length : (old new : List ℕ) (at : ℕ) (l : List ℕ) → new ≡ sets old at l → length new ≡ length old
-kept-length old new at l e = ap length e ∙ length-sets old at l
 
 -- ── names ──
 pub words-whole : (s : List ℕ) (from n : ℕ) → words_from s from n ≡ words_from s (from + 0) (n - 0)
@@ -63,6 +67,36 @@ pub zeros-none : (n i : ℕ) → n ≤ i → zeros (n - i) ≡ []
 zeros-none n i h = let e : n - i ≡ 0 = omega arith in ap (λ (x : ℕ). zeros x) e
 
 -- ── literals ──
+-- what is no character has no byte
+bare_by : (b : Bool) (x y : Char) → (x.width ≡ 0 → x.byte ≡ 0) → (y.width ≡ 0 → y.byte ≡ 0) → (cond b x y).width ≡ 0 → (cond b x y).byte ≡ 0
+bare_by true x y f g = f
+bare_by false x y f g = g
+
+bare-octals : (c d e : ℕ) → (octals c d e).width ≡ 0 → (octals c d e).byte ≡ 0
+unfolding octals
+bare-octals c d e =
+    bare_by (octal d) _ _ (bare_by (leb c first_octal && octal e) _ _ (λ z. absurd (omega (arith, z))) (λ z. absurd (omega (arith, z)))) (λ z. absurd (omega (arith, z)))
+
+bare-letters : (c : ℕ) → (letters c).width ≡ 0 → (letters c).byte ≡ 0
+unfolding letters
+bare-letters c =
+    bare_by (eqb c 110) _ _ (λ z. absurd (omega (arith, z))) (
+    bare_by (eqb c 114) _ _ (λ z. absurd (omega (arith, z))) (
+    bare_by (eqb c 116) _ _ (λ z. absurd (omega (arith, z))) (
+    bare_by (eqb c 39) _ _ (λ z. absurd (omega (arith, z))) (
+    bare_by (eqb c 34) _ _ (λ z. absurd (omega (arith, z))) (
+    bare_by (eqb c 91) _ _ (λ z. absurd (omega (arith, z))) (
+    bare_by (eqb c 93) _ _ (λ z. absurd (omega (arith, z))) (
+    bare_by (eqb c 92) _ _ (λ z. absurd (omega (arith, z))) (λ z. refl))))))))
+
+pub bare : (l : List ℕ) → (char l).width ≡ 0 → (char l).byte ≡ 0
+unfolding char four
+bare l =
+    bare_by (eqb (get_or l 0 256) 256) _ _ (λ z. refl)
+    (bare_by (eqb (get_or l 0 256) 92) _ _
+    (bare_by (octal (get_or l 1 256)) _ _ (bare-octals (get_or l 1 256) (get_or l 2 256) (get_or l 3 256)) (bare-letters (get_or l 1 256)))
+    (λ z. absurd (omega (arith, z))))
+
 spelled_by : (s : List ℕ) (z p x j : ℕ) → x ≡ suc j → spelled x z s p ≡ (char (drop p s)).byte ∷ spelled j z s (p + (char (drop p s)).width)
 unfolding spelled literal_from
 spelled_by s z p x j e = ap (λ (y : ℕ). spelled y z s p) e
@@ -78,8 +112,12 @@ unfolding spelled literal_from
 spelled_none s z p i n h = let e : n - i ≡ 0 = omega arith in ap (λ (x : ℕ). spelled x z s p) e
 
 -- ── classes ──
-pub marks-at : (l : List Bool) (i b : ℕ) → i < length l → b ≡ bit_of (get_or l i false) → map bit_of (drop i l) ≡ b ∷ map bit_of (drop (i + 1) l)
-marks-at l i b h e = rw add-one (ap (λ (x : List Bool). map bit_of x) (drop-cons l i false h) ∙ ap (λ (x : ℕ). x ∷ map bit_of (drop (suc i) l)) (sym e))
+same-bit : (b : Bool) → from_bool b ≡ bit_of b
+same-bit true = refl
+same-bit false = refl
+
+pub marks-at : (l : List Bool) (i b : ℕ) → i < length l → b ≡ from_bool (get_or l i false) → map bit_of (drop i l) ≡ b ∷ map bit_of (drop (i + 1) l)
+marks-at l i b h e = rw add-one (ap (λ (x : List Bool). map bit_of x) (drop-cons l i false h) ∙ ap (λ (x : ℕ). x ∷ map bit_of (drop (suc i) l)) (sym (e ∙ same-bit (get_or l i false))))
 
 pub marks-none : (l : List Bool) (i : ℕ) → length l ≤ i → map bit_of (drop i l) ≡ []
 marks-none l i h = ap (λ (x : List Bool). map bit_of x) (drop_of_length-le l h)
@@ -98,114 +136,87 @@ module _ (t : List ℕ) (at i n x v : ℕ) (l m : List ℕ) (h : i < n) (e : l �
   pub same-no : (v ≡ x → ⊥) → same_bytes (words_from t (at + i) (n - i)) l ≡ false
   same-no g = ap (same_bytes (words_from t (at + i) (n - i))) e ∙ compared-not t at i n x m h (λ k. g (f ∙ k))
 
-pub same_none : (t : List ℕ) (p i n : ℕ) (l : List ℕ) → n ≤ i → l ≡ [] → same_bytes (words_from t p (n - i)) l ≡ true
-same_none t p i n l h e = ap (same_bytes (words_from t p (n - i))) e ∙ compared-none t p i n h
+-- ── all words at once: v tells the list's ──
+module _ (t : List ℕ) (at n : ℕ) (l : List ℕ) (v : ℕ → ℕ) (long : length l ≡ n) (tells : (k : ℕ) → k < n → v k ≡ get_or l k 0) where
+  abbrev pub Same : ℕ → Type 0
+  Same k = get_or t (at + k) 0 ≡ v k
 
--- ── a literal: what is still to be compared of its n characters, and where ──
-pub record Unread (t : List ℕ) (at n : ℕ) (s : List ℕ) (from b left p : ℕ) : Type 0 where
-  pub few : left ≤ n
-  pub at-is : b ≡ at + (n - left)
-  pub same : same_bytes (words_from t at 256) (spelled n (256 - n) s from) ≡ same_bytes (words_from t (at + (n - left)) (256 - (n - left))) (spelled left (256 - n) s p)
+  numbered : (k : ℕ) → k < length (range_with_len 0 n) → (k < n) × (get_or (range_with_len 0 n) k 0 ≡ k)
+  numbered k h =
+      let b : k < n = omega (arith, length-range_with_len 0 n) in
+      (b, omega (arith, get_or-range_with_len 0 n k 0 b))
 
-pub unread-whole : (t : List ℕ) (at n : ℕ) (s : List ℕ) (from : ℕ) → Unread t at n s from at n from
-unread-whole t at n s from = record {
-  few = omega arith;
-  at-is = omega arith;
-  same = let e : 0 ≡ n - n = omega arith in
-      same_whole t at 256 (spelled n (256 - n) s from) (spelled n (256 - n) s from) refl
-      ∙ ap (λ (x : ℕ). same_bytes (words_from t (at + x) (256 - x)) (spelled n (256 - n) s from)) e;
-}
+  itself : words_from l 0 n ≡ l
+  itself = ap (words_from l 0) (sym long) ∙ words-all l
 
-module _ (t : List ℕ) (at n : ℕ) (s : List ℕ) (from b left p : ℕ) (w : Unread t at n s from b left p) where
-  module _ (small : n ≤ 256) (h : 0 < left) (x c d : ℕ) (e : c ≡ (char (drop p s)).byte) (f : d ≡ (char (drop p s)).width) (g : x ≡ get_or t b 0) where
-    next : spelled left (256 - n) s p ≡ c ∷ spelled (left - 1) (256 - n) s (p + d)
-    next =
-        let z : left ≡ left - 0 = omega arith in
-        ap (λ (y : ℕ). spelled y (256 - n) s p) z ∙ spelled_at s (256 - n) p 0 left c d h e f
+  pub same-by : (r : Bool) → MatchBool r (AllWithin Same (range_with_len 0 n) 0 (length (range_with_len 0 n)))
+      ((k : ℕ) × (k < length (range_with_len 0 n)) × HoldsAt (λ x. Same x → ⊥) (range_with_len 0 n) k) → r ≡ same_bytes (words_from t at n) l
+  same-by true h =
+      let e : words_from t at n ≡ words_from l 0 n = words-ext t at l 0 n (λ k b. let m : k < length (range_with_len 0 n) = omega (arith, length-range_with_len 0 n) in
+      subst Same (numbered k m).1 (h k 0 (omega arith) m) ∙ tells k b ∙ ap (λ (x : ℕ). get_or l x 0) (let f : k ≡ 0 + k = omega arith in f)) in
+      sym (ap (same_bytes (words_from t at n)) (sym (e ∙ itself)) ∙ bytes-refl (words_from t at n))
+  same-by false h = go (same_bytes (words_from t at n) l) refl
+    where
+      go : (x : Bool) → same_bytes (words_from t at n) l ≡ x → false ≡ x
+      go false e = refl
+      go true e =
+          let b : h.0 < n = (numbered h.0 h.1).0 in
+          let w = words-places t at l 0 n (bytes-sound _ _ e ∙ sym itself) h.0 b in
+          absurd (h.2 0 (subst Same (sym (numbered h.0 h.1).1) (w ∙ ap (λ (x : ℕ). get_or l x 0) (let f : 0 + h.0 ≡ h.0 = omega arith in f) ∙ sym (tells h.0 b))))
 
-    here : x ≡ get_or t (at + (n - left)) 0
-    here = g ∙ ap (λ (y : ℕ). get_or t y 0) w.at-is
+pub mark-told : (l : List Bool) (k : ℕ) → k < length l → from_bool (get_or l k false) ≡ get_or (map bit_of l) k 0
+mark-told [] k h = absurd (omega arith)
+mark-told (b ∷ l) zero h = same-bit b
+mark-told (b ∷ l) (suc k) h = mark-told l k (omega arith)
 
-    inside : n - left < 256
-    inside = omega (arith, small, h)
+pub marks-long : (l : List Bool) → length (map bit_of l) ≡ length l
+marks-long [] = refl
+marks-long (b ∷ l) = ap suc (marks-long l)
 
-    pub unread-on : x ≡ c → Unread t at n s from (b + 1) (left - 1) (p + d)
-    unread-on k = record {
-      few = omega (arith, w.few);
-      at-is = omega (arith, w.at-is, w.few, h);
-      same = let z : n - left + 1 ≡ n - (left - 1) = omega (arith, w.few, h) in
-          w.same ∙ same-on t at (n - left) 256 c x (spelled left (256 - n) s p) (spelled (left - 1) (256 - n) s (p + d)) inside next here k
-          ∙ ap (λ (y : ℕ). same_bytes (words_from t (at + y) (256 - y)) (spelled (left - 1) (256 - n) s (p + d))) z;
-    }
+-- ── what stands behind the characters of a literal ──
+module _ (t : List ℕ) (at n i : ℕ) (s : List ℕ) (p : ℕ) (e : i ≡ n) where
+  pub same-rest : same_bytes (words_from t (at + i) (256 - i)) (spelled (n - i) (256 - n) s p) ≡ same_bytes (words_from t (at + n) (256 - n)) (zeros (256 - n))
+  same-rest = ap (same_bytes (words_from t (at + i) (256 - i))) (spelled_none s (256 - n) p i n (omega arith))
+      ∙ ap (λ (x : ℕ). same_bytes (words_from t (at + x) (256 - x)) (zeros (256 - n))) e
 
-    pub unread-not : (x ≡ c → ⊥) → same_bytes (words_from t (at + (n - left)) (256 - (n - left))) (spelled left (256 - n) s p) ≡ false
-    unread-not k = same-no t at (n - left) 256 c x (spelled left (256 - n) s p) (spelled (left - 1) (256 - n) s (p + d)) inside next here k
-
-  pub unread-none : left ≤ 0 → same_bytes (words_from t (at + (n - left)) (256 - (n - left))) (spelled left (256 - n) s p) ≡ same_bytes (words_from t (at + n) (256 - n)) (zeros (256 - n))
-  unread-none h =
-      let z : n - left ≡ n = omega arith in
-      let y : left ≡ left - 0 = omega arith in
-      ap (λ (x : ℕ). same_bytes (words_from t (at + x) (256 - x)) (spelled left (256 - n) s p)) z
-      ∙ ap (same_bytes (words_from t (at + n) (256 - n))) (ap (λ (x : ℕ). spelled x (256 - n) s p) y ∙ spelled_none s (256 - n) p 0 left h)
+  pub store-rest : sets t (at + i) (spelled (n - i) (256 - n) s p) ≡ sets t (at + n) (zeros (256 - n))
+  store-rest = ap (sets t (at + i)) (spelled_none s (256 - n) p i n (omega arith)) ∙ ap (λ (x : ℕ). sets t (at + x) (zeros (256 - n))) e
 
 -- ── a record, word by word ──
-module _ (t : List ℕ) (b : ℕ) (s : List ℕ) (kind n from : ℕ) (marks : List Bool) where
-  pub leaf-kind : (get_or t b 0 ≡ kind → ⊥) → false ≡ row_is t b (leaf_words s kind n from marks) terminal_key terminal_words
-  unfolding leaf_words
-  leaf-kind e = row_first t b (leaf_words s kind n from marks) terminal_key terminal_words e
+module _ (t : List ℕ) (b k n : ℕ) (w : List ℕ) where
+  pub row-kind : (get_or t b 0 ≡ k → ⊥) → false ≡ row_is t b (k ∷ n ∷ w) terminal_key terminal_words
+  row-kind e = row_first t b (k ∷ n ∷ w) terminal_key terminal_words e
 
-  module _ (a : get_or t b 0 ≡ kind) (h : n ≤ 256) (long : length marks ≡ 256) where
+  module _ (a : get_or t b 0 ≡ k) (long : length w ≡ 256) where
     -- the words from the second on
-    behind : same_bytes (words_from t (b + 1 + 0) (257 - 0)) (n ∷ content_words s kind n from marks) ≡ row_is t b (leaf_words s kind n from marks) terminal_key terminal_words
-    unfolding leaf_words
+    behind : same_bytes (words_from t (b + 1 + 0) (257 - 0)) (n ∷ w) ≡ row_is t b (k ∷ n ∷ w) terminal_key terminal_words
     behind =
-        ap (λ (p : ℕ). same_bytes (words_from t p 257) (n ∷ content_words s kind n from marks)) (let g : b + 1 + 0 ≡ b + 1 = omega arith in g)
+        ap (λ (p : ℕ). same_bytes (words_from t p 257) (n ∷ w)) (let g : b + 1 + 0 ≡ b + 1 = omega arith in g)
         ∙ ap (λ (l : List ℕ). same_bytes (words_from t (b + 1) 257) l)
-        (sym (words-but-one kind (n ∷ content_words s kind n from marks)) ∙ ap (words_from (leaf_words s kind n from marks) 1)
-        (let g : length (n ∷ content_words s kind n from marks) ≡ 257 = omega (arith, words_long s kind n from marks h long) in g))
-        ∙ row-rest t b (leaf_words s kind n from marks) terminal_key terminal_words a
+        (sym (words-but-one k (n ∷ w)) ∙ ap (words_from (k ∷ n ∷ w) 1) (let g : length (n ∷ w) ≡ 257 = omega (arith, long) in g))
+        ∙ row-rest t b (k ∷ n ∷ w) terminal_key terminal_words a
 
-    pub leaf-length : (get_or t (b + 1) 0 ≡ n → ⊥) → false ≡ row_is t b (leaf_words s kind n from marks) terminal_key terminal_words
-    leaf-length e =
-        sym (compared-not t (b + 1) 0 257 n (content_words s kind n from marks) (omega arith) (λ g. e (sym (no_more t (b + 1)) ∙ g))) ∙ behind
+    pub row-length : (get_or t (b + 1) 0 ≡ n → ⊥) → false ≡ row_is t b (k ∷ n ∷ w) terminal_key terminal_words
+    row-length e = sym (compared-not t (b + 1) 0 257 n w (omega arith) (λ g. e (sym (no_more t (b + 1)) ∙ g))) ∙ behind
 
-    pub leaf-content : get_or t (b + 1) 0 ≡ n → same_bytes (words_from t (b + 2) 256) (content_words s kind n from marks) ≡ row_is t b (leaf_words s kind n from marks) terminal_key terminal_words
-    leaf-content e =
-        ap (λ (p : ℕ). same_bytes (words_from t p 256) (content_words s kind n from marks)) (let g : b + 2 ≡ b + 1 + (0 + 1) = omega arith in g)
-        ∙ sym (compared-on t (b + 1) 0 257 n (content_words s kind n from marks) (omega arith) (no_more t (b + 1) ∙ e))
+    pub row-content : get_or t (b + 1) 0 ≡ n → same_bytes (words_from t (b + 2) 256) w ≡ row_is t b (k ∷ n ∷ w) terminal_key terminal_words
+    row-content e =
+        ap (λ (p : ℕ). same_bytes (words_from t p 256) w) (let g : b + 2 ≡ b + 1 + (0 + 1) = omega arith in g)
+        ∙ sym (compared-on t (b + 1) 0 257 n w (omega arith) (no_more t (b + 1) ∙ e))
         ∙ behind
 
-module _ (s : List ℕ) (kind n from : ℕ) (marks : List Bool) where
-  pub content-class : kind ≡ 2 → map bit_of marks ≡ content_words s kind n from marks
-  unfolding content_words
-  content-class e = ap (λ (b : Bool). cond b (map bit_of marks) (spelled n (256 - n) s from)) (sym (eq-eqb kind 2 e))
+pub row-stored : (t t₁ t₂ t₃ : List ℕ) (b k n : ℕ) (w : List ℕ) → t₁ ≡ set t b k → t₂ ≡ set t₁ (b + 1) n → t₃ ≡ sets t₂ (b + 2) w → t₃ ≡ sets t b (k ∷ n ∷ w)
+row-stored t t₁ t₂ t₃ b k n w e f h =
+    h ∙ ap (λ (x : List ℕ). sets x (b + 2) w) (f ∙ ap (λ (x : List ℕ). set x (b + 1) n) e) ∙ here (b + 1) (suc b) (b + 2) (suc (suc b)) (omega arith) (omega arith)
+  where
+    here : (x x' y y' : ℕ) → x ≡ x' → y ≡ y' → sets (set (set t b k) x n) y w ≡ sets (set (set t b k) x' n) y' w
+    here x x' y y' u v = rw (u, v)
 
-  pub content-other : (kind ≡ 2 → ⊥) → spelled n (256 - n) s from ≡ content_words s kind n from marks
-  unfolding content_words
-  content-other e = ap (λ (b : Bool). cond b (map bit_of marks) (spelled n (256 - n) s from)) (sym (ne_eqb kind 2 e))
-
-  pub leaf-stored : (t t₁ t₂ t₃ : List ℕ) (b : ℕ) (l : List ℕ) → t₁ ≡ set t b kind → t₂ ≡ set t₁ (b + 1) n → l ≡ content_words s kind n from marks → t₃ ≡ sets t₂ (b + 2) l
-      → t₃ ≡ sets t b (leaf_words s kind n from marks)
-  unfolding leaf_words
-  leaf-stored t t₁ t₂ t₃ b l e f g h =
-      h ∙ ap (sets t₂ (b + 2)) g
-      ∙ ap (λ (x : List ℕ). sets x (b + 2) (content_words s kind n from marks)) (f ∙ ap (λ (x : List ℕ). set x (b + 1) n) e)
-      ∙ here (b + 1) (suc b) (b + 2) (suc (suc b)) (omega arith) (omega arith)
-    where
-      here : (x x' y y' : ℕ) → x ≡ x' → y ≡ y' → sets (set (set t b kind) x n) y (content_words s kind n from marks) ≡ sets (set (set t b kind) x' n) y' (content_words s kind n from marks)
-      here x x' y y' u v = rw (u, v)
-
-  pub leaf-added : (t : List ℕ) (b : ℕ) → n ≤ 256 → length marks ≡ 256 → sets t b (leaf_words s kind n from marks) ≡ sets t b (words_from (leaf_words s kind n from marks) 0 terminal_words)
-  leaf-added t b h long = ap (sets t b) (sym (words-all (leaf_words s kind n from marks)) ∙ ap (words_from (leaf_words s kind n from marks) 0) (words_long s kind n from marks h long))
+pub leaf-added : (t : List ℕ) (b : ℕ) (l : Leaf) → Stands l → sets t b (words_of l) ≡ sets t b (words_from (words_of l) 0 terminal_words)
+leaf-added t b l h = ap (sets t b) (sym (words-all (words_of l)) ∙ ap (words_from (words_of l) 0) (words_long l h))
 
 pub grown : (row row' : List ℕ) (i b n : ℕ) → row' ≡ set row i b → length row ≡ n → length row' ≡ n
 grown row row' i b n e h = ap length e ∙ length-set row i b ∙ h
-
-pub lake-yes : (kind : ℕ) → kind ≡ 2 → 1 ≡ lake_of kind
-lake-yes kind e = ap (λ (b : Bool). cond b 1 0) (sym (eq-eqb kind 2 e))
-
-pub lake-no : (kind : ℕ) → (kind ≡ 2 → ⊥) → 0 ≡ lake_of kind
-lake-no kind e = ap (λ (b : Bool). cond b 1 0) (sym (ne_eqb kind 2 e))
 
 -- ── expressions ──
 three-stores : (t : List ℕ) (b k l r : ℕ) → set (set (set t b k) (b + 1) l) (b + 2) r ≡ sets t b (k ∷ l ∷ r ∷ [])
@@ -228,9 +239,6 @@ pub pushed-over : (t t₁ : List ℕ) (c k l r : ℕ) → c ≡ get_or t 2 0 →
 unfolding pushed
 pushed-over t t₁ c k l r e h p = p ∙ ap (λ (x : Bool). push_by x (get_or t 2 0) k l r t) (sym (le-ltb (get_or t 2 0) 1024 (omega (arith, e))))
 
-pub pushed-args : (t t₁ : List ℕ) (k l l' r r' : ℕ) → t₁ ≡ pushed k l r t → l ≡ l' → r ≡ r' → t₁ ≡ pushed k l' r' t
-pushed-args t t₁ k l l' r r' e f g = e ∙ ap (λ (x : ℕ). pushed k x r t) f ∙ ap (λ (x : ℕ). pushed k l' x t) g
-
 pub bodied-in : (t t₁ : List ℕ) (c k : ℕ) → k < 64 → c ≡ expression_count t → t₁ ≡ set t (symbols_at + symbol_words * k + 1) c → t₁ ≡ bodied k t
 unfolding bodied
 bodied-in t t₁ c k h e p =
@@ -240,35 +248,3 @@ bodied-in t t₁ c k h e p =
 pub bodied-out : (t : List ℕ) (k : ℕ) → 64 ≤ k → t ≡ bodied k t
 unfolding bodied
 bodied-out t k h = ap (λ (x : Bool). bodied_by x k t) (sym (le-ltb k 64 h))
-
--- ── operators ──
-pub prefix-amp : (k : ℕ) → k ≡ 6 → 7 ≡ prefix_op k
-unfolding prefix_op
-prefix-amp k e = sym (ap (λ (b : Bool). cond b 7 (cond (eqb k 7) 8 0)) (eq-eqb k 6 e))
-
-pub prefix-bang : (k : ℕ) → (k ≡ 6 → ⊥) → k ≡ 7 → 8 ≡ prefix_op k
-unfolding prefix_op
-prefix-bang k a e = sym (ap (λ (b : Bool). cond b 7 (cond (eqb k 7) 8 0)) (ne_eqb k 6 a) ∙ ap (λ (b : Bool). cond b 8 0) (eq-eqb k 7 e))
-
-pub prefix-none : (k : ℕ) → (k ≡ 6 → ⊥) → (k ≡ 7 → ⊥) → 0 ≡ prefix_op k
-unfolding prefix_op
-prefix-none k a e = sym (ap (λ (b : Bool). cond b 7 (cond (eqb k 7) 8 0)) (ne_eqb k 6 a) ∙ ap (λ (b : Bool). cond b 8 0) (ne_eqb k 7 e))
-
-module _ (k : ℕ) where
-  pub suffix-query : k ≡ 8 → 4 ≡ suffix_op k
-  unfolding suffix_op
-  suffix-query e = sym (ap (λ (b : Bool). cond b 4 (cond (eqb k 9) 5 (cond (eqb k 10) 6 0))) (eq-eqb k 8 e))
-
-  module _ (a : k ≡ 8 → ⊥) where
-    on : cond (eqb k 9) 5 (cond (eqb k 10) 6 0) ≡ suffix_op k
-    unfolding suffix_op
-    on = sym (ap (λ (b : Bool). cond b 4 (cond (eqb k 9) 5 (cond (eqb k 10) 6 0))) (ne_eqb k 8 a))
-
-    pub suffix-star : k ≡ 9 → 5 ≡ suffix_op k
-    suffix-star e = sym (ap (λ (b : Bool). cond b 5 (cond (eqb k 10) 6 0)) (eq-eqb k 9 e)) ∙ on
-
-    pub suffix-cross : (k ≡ 9 → ⊥) → k ≡ 10 → 6 ≡ suffix_op k
-    suffix-cross c e = sym (ap (λ (b : Bool). cond b 5 (cond (eqb k 10) 6 0)) (ne_eqb k 9 c) ∙ ap (λ (b : Bool). cond b 6 0) (eq-eqb k 10 e)) ∙ on
-
-    pub suffix-none : (k ≡ 9 → ⊥) → (k ≡ 10 → ⊥) → 0 ≡ suffix_op k
-    suffix-none c e = sym (ap (λ (b : Bool). cond b 5 (cond (eqb k 10) 6 0)) (ne_eqb k 9 c) ∙ ap (λ (b : Bool). cond b 6 0) (ne_eqb k 10 e)) ∙ on

@@ -1,6 +1,6 @@
 -- The token language as an automaton with one counter, the open parentheses; refusals 2 and 3 found in one walk from the left.
 -- That the automaton's place is the document's is proved in laws/. Assumes nothing: these are definitions.
-use Rattle.std.specs.Prelude.{ℕ, zero, suc, Bool, true, false, cond, ◌||◌, List, [], ◌∷◌, leb, ltb, length}
+use Rattle.std.specs.Prelude.{ℕ, zero, suc, Bool, true, false, cond, List, [], ◌∷◌, leb, ltb, length}
 use Rattle.std.proofs.Math.Option.{Option, none, some}
 use Rattle.read_tokens.specs.declared.Mode.{Mode}
 use Rattle.read_tokens.specs.Token.{Symbol, Leaf, Tok, Lexeme, name, lake, any, literal, class, symbol, leaf, pre, suf, arrow, slash, opens, closes, bad}

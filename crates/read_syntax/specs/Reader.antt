@@ -1,6 +1,6 @@
 -- A recursive-descent reader of token lists, by fuel: how the rules of a grammar text are computed. That it reads just the concrete syntax
 -- whose tokens these are is proved in laws/. What it refuses, it refuses at a token: the list from that token on. Assumes nothing: these are definitions.
-use Rattle.std.specs.Prelude.{ℕ, zero, suc, ◌*◌, Bool, true, false, not, List, [], ◌∷◌, length}
+use Rattle.std.specs.Prelude.{ℕ, zero, suc, Bool, true, false, not, List, [], ◌∷◌}
 use Rattle.read_tokens.specs.Token.{Symbol, Tok, symbol, leaf, pre, suf, arrow, slash, opens, closes, bad}
 use Rattle.grammar.specs.Syntax.{Choice, Sequence, Prefixed, Suffixed, Primary, Rules, one, or, first, next, bare, with, only, then, psym, term}
 use Rattle.grammar.specs.Syntax.{group, rule, more}

@@ -3,13 +3,18 @@ use Prim.Native.Nat.{ℕ, zero, suc, ◌+◌, ◌-◌, ◌*◌, ◌≤◌, ◌<�
 use mathlib.Core.Path.{◌≡◌, refl, sym, ap, ◌∙◌}
 use mathlib.Core.Bool.{true, false}
 use mathlib.Core.List.{List, [], ◌∷◌}
+use mathlib.Core.Logic.{◌⊎◌, inl, inr}
 use native.Mathlib.Omega.{arith}
 use native.Mathlib.Nat.{add-zero}
-use lib.Dec.{leb}
-use lib.ListN.{length, drop, get_or, drop_of_length-le}
+use lib.Dec.{leb, eqb}
+use lib.ListN.{length, drop, get_or}
 use lib.Seq.{get_or-drop, drop-cons}
 use native.Mathlib.Numerals.{add-one}
-use borrow.Author.Tests.{eq-eqb, ne_eqb, le-leb, lt-leb, leb-true}
+use Rattle.std.proofs.Common.{eq-or-lt_of_le}
+use Rattle.std.specs.Prelude.{Option, Some, None, slice_get, unwrap_or}
+use Rattle.std.specs.Option.{option_eq}
+use Rattle.std.proofs.lemmas.Option.{unwrap_or-slice_get}
+use borrow.Author.Tests.{eq-eqb, ne_eqb, le-leb, lt-leb, leb-true, eqb-true, eqb-false}
 use Rattle.base_facts.specs.laws.Bools.{and_parts}
 use Rattle.read_tokens.specs.Bounds.{first_octal}
 use Rattle.read_tokens.specs.Chars.{got, octal, octals, letters, four, char}
@@ -52,8 +57,23 @@ unfolding letters
 letters-no c a b d e f g h i =
     rw (letters, ne_eqb c 110 a, ne_eqb c 114 b, ne_eqb c 116 d, ne_eqb c 39 e, ne_eqb c 34 f, ne_eqb c 91 g, ne_eqb c 93 h, ne_eqb c 92 i)
 
-pub letters-at : (c n : ℕ) → c ≡ n → letters n ≡ letters c
-letters-at c n e = ap letters (sym e)
+pub letters-quote : (c : ℕ) → (c ≡ 34) ⊎ (c ≡ 39) → got c 2 ≡ letters c
+unfolding letters
+letters-quote c (inl e) = rw e
+letters-quote c (inr e) = rw e
+
+-- `[`, `\` and `]` stand beside one another
+pub letters-near : (c : ℕ) → 91 ≤ c → c < 94 → got c 2 ≡ letters c
+unfolding letters
+letters-near c h k = go (eq-or-lt_of_le h)
+  where
+    last : (92 ≡ c) ⊎ (92 < c) → got c 2 ≡ letters c
+    last (inl e) = rw (← e)
+    last (inr e) = let f : c ≡ 93 = omega arith in rw f
+
+    go : (91 ≡ c) ⊎ (91 < c) → got c 2 ≡ letters c
+    go (inl e) = rw (← e)
+    go (inr e) = last (eq-or-lt_of_le (omega arith))
 
 module _ (b c d e : ℕ) where
   pub four-end : b ≡ 256 → got 0 0 ≡ four b c d e
@@ -79,15 +99,43 @@ char-four s i =
     rw (get_or-drop i s 0 256, get_or-drop i s 1 256, get_or-drop i s 2 256, get_or-drop i s 3 256)
     (ap (λ (j : ℕ). four (get_or s j 256) (get_or s (i + 1) 256) (get_or s (i + 2) 256) (get_or s (i + 3) 256)) (add-zero i))
 
-pub char-end : (s : List ℕ) (i : ℕ) → length s ≤ i → got 0 0 ≡ char (drop i s)
-unfolding char four
-char-end s i h = rw (drop_of_length-le s h)
-
-pub char_is : (s : List ℕ) (i b c d e : ℕ) → b ≡ get_or s i 256 → c ≡ get_or s (i + 1) 256 → d ≡ get_or s (i + 2) 256 → e ≡ get_or s (i + 3) 256 → four b c d e ≡ char (drop i s)
-char_is s i b c d e p q r t = four_same p q r t ∙ sym (char-four s i)
+-- from the bytes as code has them
+pub char_is : (s : List ℕ) (i : ℕ) (b c d e : Option ℕ) → b ≡ slice_get s i → c ≡ slice_get s (i + 1) → d ≡ slice_get s (i + 2) → e ≡ slice_get s (i + 3)
+    → four (unwrap_or b 256) (unwrap_or c 256) (unwrap_or d 256) (unwrap_or e 256) ≡ char (drop i s)
+char_is s i b c d e p q r t = four_same (is i p) (is (i + 1) q) (is (i + 2) r) (is (i + 3) t) ∙ sym (char-four s i)
   where
+    is : {o : Option ℕ} (j : ℕ) → o ≡ slice_get s j → unwrap_or o 256 ≡ get_or s j 256
+    is {o} j e = ap (λ (x : Option ℕ). unwrap_or x 256) e ∙ unwrap_or-slice_get s j 256
+
     four_same : {b b' c c' d d' e e' : ℕ} → b ≡ b' → c ≡ c' → d ≡ d' → e ≡ e' → four b c d e ≡ four b' c' d' e'
     four_same p q r t = cc
+
+-- the byte at a place, 256 where there is none
+pub byte-is : {o : Option ℕ} (s : List ℕ) (i : ℕ) → o ≡ slice_get s i → get_or s i 256 ≡ unwrap_or o 256
+byte-is s i e = sym (ap (λ (x : Option ℕ). unwrap_or x 256) e ∙ unwrap_or-slice_get s i 256)
+
+-- whether it is b, as code asks
+module _ (s : List ℕ) (i b : ℕ) where
+  pub same-byte : {o : Option ℕ} → b < 256 → o ≡ slice_get s i → option_eq eqb o (Some b) ≡ eqb (get_or s i 256) b
+  same-byte {o} l e = go o ∙ ap (λ (x : ℕ). eqb x b) (sym (byte-is s i e))
+    where
+      go : (o : Option ℕ) → option_eq eqb o (Some b) ≡ eqb (unwrap_or o 256) b
+      go None = sym (ne_eqb 256 b (λ z. omega arith))
+      go (Some y) = refl
+
+  pub is-byte : {o : Option ℕ} → o ≡ slice_get s i → option_eq eqb o (Some b) ≡ true → get_or s i 256 ≡ b
+  is-byte {o} e h = byte-is s i e ∙ go o h
+    where
+      go : (o : Option ℕ) → option_eq eqb o (Some b) ≡ true → unwrap_or o 256 ≡ b
+      go None h = let z : ◌≡◌ {A = ℕ} 0 1 = cc in absurd (omega arith)
+      go (Some y) h = eqb-true y b h
+
+  pub not-byte : {o : Option ℕ} → b < 256 → o ≡ slice_get s i → option_eq eqb o (Some b) ≡ false → get_or s i 256 ≡ b → ⊥
+  not-byte {o} l e h z = go o h (sym (byte-is s i e) ∙ z)
+    where
+      go : (o : Option ℕ) → option_eq eqb o (Some b) ≡ false → unwrap_or o 256 ≡ b → ⊥
+      go None h z = omega arith
+      go (Some y) h z = eqb-false y b h z
 
 pub get_d-inside : (s : List ℕ) (i a b : ℕ) → i < length s → get_or s i a ≡ get_or s i b
 get_d-inside [] i a b h = absurd (omega arith)

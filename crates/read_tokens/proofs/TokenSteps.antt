@@ -12,12 +12,43 @@ use borrow.Author.Tests.{eq-eqb, ne_eqb, eqb-true, eqb-false, ltb-true, ltb-fals
 use Rattle.read_tokens.specs.Kinds.{kind_at, one_of, ranges}
 use Rattle.read_tokens.specs.declared.Mode.{Mode}
 use Rattle.read_tokens.specs.declared.Mode.TheVariants.{Lake, Plain}
-use Rattle.read_tokens.specs.declared.Token.{Token}
+use Rattle.std.specs.Prelude.{Option, Some, None, unwrap_or}
+use Rattle.read_tokens.specs.declared.Kind.{Kind}
+use Rattle.read_tokens.specs.declared.Kind.TheVariants as kind
+use Rattle.read_tokens.specs.declared.kinds.ByteKind.{ByteKind}
+use Rattle.read_tokens.specs.declared.kinds.ByteKind.TheVariants.{Other, Blank, Letter, Digit, Hash, Open, Close, Slash, Prefix, Suffix, Dot, Quote, Class, Less}
+use Rattle.read_tokens.specs.contracts.kinds.ByteKind.{the_type}
+use denote.Enum.Declared.{tag_of}
+use denote.Enum.Bare.{sameb}
+use Rattle.read_tokens.specs.steps.Bytes.{number_of, opened}
 use Rattle.read_tokens.specs.Token as spec
 use Rattle.read_tokens.specs.Token.{lake, symbol, arrow}
 use Rattle.read_tokens.specs.Tokens.{tok, bad_at, blank_by, skip, name_byte, name_span, lake_by, angle, by_kind, token_from, token_at}
-use Rattle.read_tokens.specs.steps.Code.{kind_of, coded, made, named, laked}
+use Rattle.read_tokens.specs.steps.Code.{arrow_is, coded, made, named, laked}
 use Rattle.read_tokens.proofs.CharSteps.{suffix, first-at, get_d-inside}
+
+-- ── kinds of bytes, as code compares them ──
+byte-tag : (k : ByteKind) → tag_of the_type k ≡ number_of k
+byte-tag Other = refl
+byte-tag Blank = refl
+byte-tag Letter = refl
+byte-tag Digit = refl
+byte-tag Hash = refl
+byte-tag Open = refl
+byte-tag Close = refl
+byte-tag Slash = refl
+byte-tag Prefix = refl
+byte-tag Suffix = refl
+byte-tag Dot = refl
+byte-tag Quote = refl
+byte-tag Class = refl
+byte-tag Less = refl
+
+pub letter-yes : (k : ByteKind) → sameb the_type k Letter ≡ true → number_of k ≡ 2
+letter-yes k e = sym (byte-tag k) ∙ eqb-true _ 2 e
+
+pub letter-no : (k : ByteKind) → sameb the_type k Letter ≡ false → number_of k ≡ 2 → ⊥
+letter-no k e f = eqb-false _ 2 e (byte-tag k ∙ f)
 
 -- ── blanks ──
 pub skip-end : (m : Bool) (s : List ℕ) (i : ℕ) → length s ≤ i → skip m i (drop i s) ≡ i
@@ -37,6 +68,21 @@ skip-more m s i h e = rw (suffix s i h, skip, e, add-one)
 pub space-more : (s : List ℕ) (i : ℕ) → i < length s → get_or s i 0 ≡ 32 → skip false (i + 1) (drop (i + 1) s) ≡ skip false i (drop i s)
 unfolding kind_at one_of ranges
 space-more s i h e = sym (skip-more false s i h (ap (λ (b : ℕ). eqb (blank_by false b) 2) e) ∙ ap (λ (b : ℕ). skip (eqb (blank_by false b) 1) (i + 1) (drop (i + 1) s)) e)
+
+-- by what code is told of a byte
+pub opened-none : (n : ℕ) → None ≡ opened n → eqb n 2 ≡ true
+opened-none n e = go (eqb n 2) e
+  where
+    go : (x : Bool) → None ≡ cond x None (Some (eqb n 1)) → x ≡ true
+    go true e = refl
+    go false e = let z : ◌≡◌ {A = ℕ} 0 1 = cc in absurd (omega arith)
+
+pub opened-some : (n : ℕ) (b : Bool) → Some b ≡ opened n → (eqb n 2 ≡ false) × (b ≡ eqb n 1)
+opened-some n b e = go (eqb n 2) e
+  where
+    go : (x : Bool) → Some b ≡ cond x None (Some (eqb n 1)) → (x ≡ false) × (b ≡ eqb n 1)
+    go true e = let z : ◌≡◌ {A = ℕ} 0 1 = cc in absurd (omega arith)
+    go false e = (refl, ap (λ (o : Option Bool). unwrap_or o b) e)
 
 -- ── names ──
 span-by : (b : ℕ) (l : List ℕ) (x : Bool) → name_byte b ≡ x → name_span (b ∷ l) ≡ cond x (b ∷ name_span l) []
@@ -59,11 +105,11 @@ pub span_more : (s : List ℕ) (i : ℕ) → i < length s → name_byte (get_or 
 span_more s i h e =
     let u = ap name_span (suffix s i h) ∙ span-by (get_or s i 0) (drop (i + 1) s) true e in omega (arith, ap length u)
 
-pub name-is : (s : List ℕ) (i e : ℕ) → e ≡ i + length (name_span (drop i s)) → made 1 i e (e - i) ≡ coded (named i (name_span (drop i s)))
+pub name-is : (s : List ℕ) (i e : ℕ) → e ≡ i + length (name_span (drop i s)) → made kind.Name i e (e - i) ≡ coded (named i (name_span (drop i s)))
 name-is s i e h = same h (omega arith)
   where
-    same : {a b c d : ℕ} → a ≡ b → c ≡ d → made 1 i a c ≡ made 1 i b d
-    same x y = λ j. made 1 i (x j) (y j)
+    same : {a b c d : ℕ} → a ≡ b → c ≡ d → made kind.Name i a c ≡ made kind.Name i b d
+    same x y = λ j. made kind.Name i (x j) (y j)
 
 -- ── `<` ──
 module _ (s : List ℕ) (i : ℕ) where
@@ -110,13 +156,13 @@ module _ (s : List ℕ) (i : ℕ) where
     pub lake-open : (get_or s e 256 ≡ 62 → ⊥) → coded (bad_at i) ≡ coded (laked i (drop (suc i) s))
     lake-open k = sym (ap coded (behind h f e g ∙ no-closing (name_span (drop (i + 1) s)) (drop e s) (λ x. k (sym (first-at s e) ∙ x))))
 
-    pub lake-is : get_or s e 256 ≡ 62 → made 2 i (e + 1) (e - (i + 1)) ≡ coded (laked i (drop (suc i) s))
+    pub lake-is : get_or s e 256 ≡ 62 → made kind.Lake i (e + 1) (e - (i + 1)) ≡ coded (laked i (drop (suc i) s))
     lake-is k =
         same (omega arith) (omega arith)
         ∙ sym (ap coded (behind h f e g ∙ closing (name_span (drop (i + 1) s)) (drop e s) (first-at s e ∙ k)))
       where
-        same : {a b c d : ℕ} → a ≡ b → c ≡ d → made 2 i a c ≡ made 2 i b d
-        same x y = λ j. made 2 i (x j) (y j)
+        same : {a b c d : ℕ} → a ≡ b → c ≡ d → made kind.Lake i a c ≡ made kind.Lake i b d
+        same x y = λ j. made kind.Lake i (x j) (y j)
 
   at_suc : get_or (drop (suc i) s) 0 256 ≡ get_or s (i + 1) 256
   at_suc = first-at s (suc i) ∙ ap (λ (j : ℕ). get_or s j 256) (sym (add-one i))
@@ -128,7 +174,7 @@ module _ (s : List ℕ) (i : ℕ) where
   arrow-go Lake (b ∷ l) e = rw (angle, eq-eqb b 45 e)
   arrow-go Plain (b ∷ l) e = rw (eq-eqb b 45 e)
 
-  pub less-arrow : (m : Mode) → get_or s (i + 1) 256 ≡ 45 → made 11 i (i + 2) 0 ≡ coded (angle m i (drop (suc i) s))
+  pub less-arrow : (m : Mode) → get_or s (i + 1) 256 ≡ 45 → made kind.Arrow i (i + 2) 0 ≡ coded (angle m i (drop (suc i) s))
   less-arrow m e = sym (ap coded (arrow-go m (drop (suc i) s) (at_suc ∙ e)))
 
   plain-go : (l : List ℕ) → (get_or l 0 256 ≡ 45 → ⊥) → angle Plain i l ≡ bad_at i
@@ -148,14 +194,19 @@ module _ (s : List ℕ) (i : ℕ) where
   less-lake f = sym (ap coded (lake-go (drop (suc i) s) (λ x. f (sym at_suc ∙ x))))
 
 -- ── the token ──
-pub token_end : (m : Mode) (s : List ℕ) (at i : ℕ) → i ≡ skip false at (drop at s) → length s ≤ i → made 0 i i 0 ≡ coded (token_at m s at)
+pub token_end : (m : Mode) (s : List ℕ) (at i : ℕ) → i ≡ skip false at (drop at s) → length s ≤ i → made kind.End i i 0 ≡ coded (token_at m s at)
 unfolding token_at token_from
 token_end m s at i e h = rw (← e, drop_of_length-le s h)
 
-pub token-is : (m : Mode) (s : List ℕ) (at i k : ℕ) → i ≡ skip false at (drop at s) → i < length s → kind_at (get_or s i 0) ≡ k
-    → coded (by_kind k m (get_or s i 0) i (drop (suc i) s)) ≡ coded (token_at m s at)
+token-here : (m : Mode) (s : List ℕ) (at i k : ℕ) → i ≡ skip false at (drop at s) → i < length s → kind_at (get_or s i 0) ≡ k
+    → by_kind k m (get_or s i 0) i (drop (suc i) s) ≡ token_at m s at
 unfolding token_at token_from
-token-is m s at i k e h f = rw (← e, drop-cons s i 0 h, f)
+token-here m s at i k e h f = rw (← e, drop-cons s i 0 h, f)
+
+-- by the number of the byte's kind, for all arms of a match
+pub token-is : (m : Mode) (s : List ℕ) (at i : ℕ) {k n : ByteKind} → i ≡ skip false at (drop at s) → i < length s → number_of k ≡ kind_at (get_or s i 0) → k ≡ n
+    → coded (by_kind (number_of n) m (get_or s i 0) i (drop (suc i) s)) ≡ coded (token_at m s at)
+token-is m s at i e h f g = ap coded (token-here m s at i _ e h (sym f ∙ ap number_of g))
 
 -- where blanks end at the same place the token is the same
 pub token-moved : (m : Mode) (s : List ℕ) (i at : ℕ) → skip false i (drop i s) ≡ skip false at (drop at s) → token_at m s i ≡ token_at m s at
@@ -164,7 +215,7 @@ token-moved m s i at e = ap (λ (j : ℕ). token_from m j (drop j s)) e
 
 -- `<` begins the arrow exactly if `-` follows
 abbrev is_arrow : spec.Token → Bool
-is_arrow t = eqb (kind_of t.is) 11
+is_arrow t = arrow_is t.is
 
 lake-no-arrow : (i : ℕ) (l : List ℕ) → is_arrow (laked i l) ≡ false
 unfolding laked
@@ -198,39 +249,14 @@ byte_inside s i e = go (ltb i (length s)) refl
     go true f = ltb-true i (length s) f
     go false f = absurd (omega (arith, get_or-eq_default s 256 (ltb-false i (length s) f)))
 
-pub less-at : (m : Mode) (s : List ℕ) (i : ℕ) → get_or s i 256 ≡ 60 → eqb (get_or s (i + 1) 256) 45 ≡ eqb (kind_of (token_at m s i).is) 11
+pub less-at : (m : Mode) (s : List ℕ) (i : ℕ) → get_or s i 256 ≡ 60 → eqb (get_or s (i + 1) 256) 45 ≡ arrow_is (token_at m s i).is
 unfolding kind_at one_of ranges by_kind
 less-at m s i e =
     let h : i < length s = byte_inside s i e in
     let f : get_or s i 0 ≡ 60 = get_d-inside s i 0 256 h ∙ e in
     let stop : i ≡ skip false i (drop i s) = sym (skip_stop false s i h (ap (λ (b : ℕ). eqb (blank_by false b) 2) f)) in
     ap (λ (b : ℕ). eqb b 45) (sym (at_suc s i)) ∙ angle-arrow m i (drop (suc i) s)
-    ∙ ap (λ (t : Token). eqb t.kind 11) (token-is m s i i 13 stop h (ap kind_at f))
+    ∙ ap is_arrow (token-here m s i i 13 stop h (ap kind_at f))
 
-pub one-is : (k i : ℕ) → made k i (i + 1) 0 ≡ made k i (suc i) 0
+pub one-is : (k : Kind) (i : ℕ) → made k i (i + 1) 0 ≡ made k i (suc i) 0
 one-is k i = ap (λ (n : ℕ). made k i n 0) (add-one i)
-
--- no token begins with a byte of any other kind
-bad-kind-is : (k : ℕ) (m : Mode) (b i : ℕ) (l : List ℕ)
-    → ((((((((((Unit {0} × (k ≡ 2 → ⊥)) × (k ≡ 5 → ⊥)) × (k ≡ 6 → ⊥)) × (k ≡ 7 → ⊥)) × (k ≡ 8 → ⊥)) × (k ≡ 9 → ⊥)) × (k ≡ 10 → ⊥)) × (k ≡ 11 → ⊥)) × (k ≡ 12 → ⊥)) × (k ≡ 13 → ⊥))
-    → by_kind k m b i l ≡ bad_at i
-unfolding by_kind
-bad-kind-is k m b i l h =
-    rw (
-      by_kind,
-      ne_eqb k 2 h.0.0.0.0.0.0.0.0.0.1,
-      ne_eqb k 5 h.0.0.0.0.0.0.0.0.1,
-      ne_eqb k 6 h.0.0.0.0.0.0.0.1,
-      ne_eqb k 7 h.0.0.0.0.0.0.1,
-      ne_eqb k 8 h.0.0.0.0.0.1,
-      ne_eqb k 9 h.0.0.0.0.1,
-      ne_eqb k 10 h.0.0.0.1,
-      ne_eqb k 11 h.0.0.1,
-      ne_eqb k 12 h.0.1,
-      ne_eqb k 13 h.1,
-    )
-
-pub bad_kind : (k : ℕ) (m : Mode) (b i : ℕ) (l : List ℕ)
-    → ((((((((((Unit {0} × (k ≡ 2 → ⊥)) × (k ≡ 5 → ⊥)) × (k ≡ 6 → ⊥)) × (k ≡ 7 → ⊥)) × (k ≡ 8 → ⊥)) × (k ≡ 9 → ⊥)) × (k ≡ 10 → ⊥)) × (k ≡ 11 → ⊥)) × (k ≡ 12 → ⊥)) × (k ≡ 13 → ⊥))
-    → coded (bad_at i) ≡ coded (by_kind k m b i l)
-bad_kind k m b i l h = sym (ap coded (bad-kind-is k m b i l h))

@@ -11,3 +11,4 @@ pub mod Passing
 pub mod Turning
 pub mod Again
 pub mod Here
+pub mod Tags

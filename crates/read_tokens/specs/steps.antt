@@ -1,2 +1,3 @@
 -- What one function of the code does to words: contracts shaped like the code. Laws tie them to the definitions.
 pub mod Code
+pub mod Bytes

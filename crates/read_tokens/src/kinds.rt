@@ -1,58 +1,69 @@
 // One table gives the kind of each byte.
 ghost use Rattle.std.specs.Prelude.{◌≡◌};
 ghost use Rattle.read_tokens.specs.Kinds.{kind_at};
-ghost use Rattle.read_tokens.specs.steps.Code.{Tabled};
+ghost use Rattle.read_tokens.specs.steps.Bytes.{number_of, Tabled};
 
-pub const OTHER: u8 = 0;
+use ByteKind::{
+    Blank, Class, Close, Digit, Dot, Hash, Less, Letter, Open, Other, Prefix, Quote, Slash, Suffix,
+};
 
-pub const BLANK: u8 = 1;
-
-pub const LETTER: u8 = 2;
-
-pub const DIGIT: u8 = 3;
-
-pub const HASH: u8 = 4;
-
-pub const OPEN: u8 = 5;
-
-pub const CLOSE: u8 = 6;
-
-pub const SLASH: u8 = 7;
-
-pub const PREFIX: u8 = 8;
-
-pub const SUFFIX: u8 = 9;
-
-pub const DOT: u8 = 10;
-
-pub const QUOTE: u8 = 11;
-
-pub const CLASS: u8 = 12;
-
-pub const LESS: u8 = 13;
-
-const KINDS: [u8; 256] = [
-    0, 0, 0, 0, 0, 0, 0, 0, 0, 1, 1, 0, 0, 1, 0, 0, 0, 0, 0, 0, 0, 0, 0, 0, 0, 0, 0, 0, 0, 0, 0, 0,
-    1, 8, 11, 4, 0, 0, 8, 11, 5, 6, 9, 9, 0, 0, 10, 7, 3, 3, 3, 3, 3, 3, 3, 3, 3, 3, 0, 0, 13, 0,
-    0, 9, 0, 2, 2, 2, 2, 2, 2, 2, 2, 2, 2, 2, 2, 2, 2, 2, 2, 2, 2, 2, 2, 2, 2, 2, 2, 2, 2, 12, 0,
-    0, 0, 2, 0, 2, 2, 2, 2, 2, 2, 2, 2, 2, 2, 2, 2, 2, 2, 2, 2, 2, 2, 2, 2, 2, 2, 2, 2, 2, 2, 0, 0,
-    0, 0, 0, 0, 0, 0, 0, 0, 0, 0, 0, 0, 0, 0, 0, 0, 0, 0, 0, 0, 0, 0, 0, 0, 0, 0, 0, 0, 0, 0, 0, 0,
-    0, 0, 0, 0, 0, 0, 0, 0, 0, 0, 0, 0, 0, 0, 0, 0, 0, 0, 0, 0, 0, 0, 0, 0, 0, 0, 0, 0, 0, 0, 0, 0,
-    0, 0, 0, 0, 0, 0, 0, 0, 0, 0, 0, 0, 0, 0, 0, 0, 0, 0, 0, 0, 0, 0, 0, 0, 0, 0, 0, 0, 0, 0, 0, 0,
-    0, 0, 0, 0, 0, 0, 0, 0, 0, 0, 0, 0, 0, 0, 0, 0, 0, 0, 0, 0, 0, 0, 0, 0, 0, 0, 0, 0, 0, 0, 0, 0,
-    0, 0, 0,
-];
-
-// The table as an array to lend. Wherever a constant array is named its bytes are laid out on the stack: so a walk names it once, and each look-up borrows it.
-pub fn laid_out() -> [u8; 256]
-    ensures { Tabled result }
-{
-    KINDS
+// What a byte may begin or belong to; `Other`: no token begins with it.
+#[derive(Clone, Copy, PartialEq, Eq)]
+pub enum ByteKind {
+    Other,
+    Blank,
+    Letter,
+    Digit,
+    Hash,
+    Open,
+    Close,
+    Slash,
+    Prefix,
+    Suffix,
+    Dot,
+    Quote,
+    Class,
+    Less,
 }
 
-pub fn kind_of(b: u8, kinds: &[u8; 256]) -> u8
-    requires { Tabled kinds.now }
-    ensures { result ≡ kind_at b }
+const KINDS: [ByteKind; 256] = [
+    Other, Other, Other, Other, Other, Other, Other, Other, Other, Blank, Blank, Other, Other,
+    Blank, Other, Other, Other, Other, Other, Other, Other, Other, Other, Other, Other, Other,
+    Other, Other, Other, Other, Other, Other, Blank, Prefix, Quote, Hash, Other, Other, Prefix,
+    Quote, Open, Close, Suffix, Suffix, Other, Other, Dot, Slash, Digit, Digit, Digit, Digit,
+    Digit, Digit, Digit, Digit, Digit, Digit, Other, Other, Less, Other, Other, Suffix, Other,
+    Letter, Letter, Letter, Letter, Letter, Letter, Letter, Letter, Letter, Letter, Letter, Letter,
+    Letter, Letter, Letter, Letter, Letter, Letter, Letter, Letter, Letter, Letter, Letter, Letter,
+    Letter, Letter, Class, Other, Other, Other, Letter, Other, Letter, Letter, Letter, Letter,
+    Letter, Letter, Letter, Letter, Letter, Letter, Letter, Letter, Letter, Letter, Letter, Letter,
+    Letter, Letter, Letter, Letter, Letter, Letter, Letter, Letter, Letter, Letter, Other, Other,
+    Other, Other, Other, Other, Other, Other, Other, Other, Other, Other, Other, Other, Other,
+    Other, Other, Other, Other, Other, Other, Other, Other, Other, Other, Other, Other, Other,
+    Other, Other, Other, Other, Other, Other, Other, Other, Other, Other, Other, Other, Other,
+    Other, Other, Other, Other, Other, Other, Other, Other, Other, Other, Other, Other, Other,
+    Other, Other, Other, Other, Other, Other, Other, Other, Other, Other, Other, Other, Other,
+    Other, Other, Other, Other, Other, Other, Other, Other, Other, Other, Other, Other, Other,
+    Other, Other, Other, Other, Other, Other, Other, Other, Other, Other, Other, Other, Other,
+    Other, Other, Other, Other, Other, Other, Other, Other, Other, Other, Other, Other, Other,
+    Other, Other, Other, Other, Other, Other, Other, Other, Other, Other, Other, Other, Other,
+    Other, Other, Other, Other, Other, Other, Other, Other, Other, Other, Other, Other, Other,
+    Other,
+];
+
+// The table to lend, with what it says of each byte. Wherever a constant array is named its bytes are laid out on the stack: so a walk names it once, and each
+// look-up borrows it.
+#[derive(Drop)]
+pub struct ByteTable {
+    kinds: [ByteKind; 256],
+    ghost tabled: { Tabled kinds },
+}
+
+pub fn laid_out() -> ByteTable {
+    ByteTable { kinds: KINDS }
+}
+
+pub fn kind_of(b: u8, table: &ByteTable) -> ByteKind
+    ensures { number_of result ≡ kind_at b }
 {
-    kinds[b as usize]
+    table.kinds[usize::from(b)]
 }

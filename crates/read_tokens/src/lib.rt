@@ -1,12 +1,12 @@
-// The tokens of a grammar text (01, Notation): the token at a place, as numbers; what it holds is read by `chars` and `classes`.
+// The tokens of a grammar text (01, Notation): the token at a place, by its kind and places; what it holds is read by `chars` and `classes`.
 #![tactic(auto)]
 
-ghost use Rattle.std.specs.Prelude.{suc, ◌<◌, ◌+◌, ◌≡◌, false, eqb, length, drop};
+ghost use Rattle.std.specs.Prelude.{suc, ◌<◌, ◌≡◌, false, length, drop};
 ghost use Rattle.std.proofs.Math.Option.{some};
 ghost use Rattle.read_tokens.specs.Chars.{body, single};
 ghost use Rattle.read_tokens.specs.Token.{pre, suf};
 ghost use Rattle.read_tokens.specs.Tokens.{skip, name_span, literal_by, bracket, angle, pre_of, suf_of, token_at};
-ghost use Rattle.read_tokens.specs.steps.Code.{Tabled, kind_of, coded, named, laked, made};
+ghost use Rattle.read_tokens.specs.steps.Code.{kind_of, coded, named, laked, made, arrow_is, symbolic};
 
 pub mod chars;
 pub mod classes;
@@ -15,7 +15,7 @@ pub mod names;
 
 use chars::{byte_at, literal_at};
 use classes::class_end;
-use kinds::kind_of;
+use kinds::{ByteKind, ByteTable, kind_of, laid_out};
 use names::{blanks, name_end};
 
 // The two ways to read a grammar text (01, Notation, "Two modes").
@@ -25,128 +25,119 @@ pub enum Mode {
     Plain,
 }
 
-pub const END: u8 = 0;
+// What a token is.
+#[derive(Clone, Copy, PartialEq, Eq)]
+pub enum Kind {
+    End,
+    Name,
+    Lake,
+    Any,
+    Literal,
+    Class,
+    Amp,
+    Bang,
+    Query,
+    Asterisk,
+    Cross,
+    Arrow,
+    Slash,
+    Opens,
+    Closes,
+    Bad,
+}
 
-pub const NAME: u8 = 1;
+impl Kind {
+    // Whether it is a name or a lake.
+    pub fn is_symbol(self) -> bool
+        ensures { result ≡ symbolic self }
+    {
+        matches!(self, Kind::Name | Kind::Lake)
+    }
+}
 
-pub const LAKE: u8 = 2;
-
-pub const ANY: u8 = 3;
-
-pub const LITERAL: u8 = 4;
-
-pub const CLASS: u8 = 5;
-
-pub const AMP: u8 = 6;
-
-pub const BANG: u8 = 7;
-
-pub const QUERY: u8 = 8;
-
-pub const ASTERISK: u8 = 9;
-
-pub const CROSS: u8 = 10;
-
-pub const ARROW: u8 = 11;
-
-pub const SLASH: u8 = 12;
-
-pub const OPENS: u8 = 13;
-
-pub const CLOSES: u8 = 14;
-
-pub const BAD: u8 = 15;
-
-// A token by the number of its kind, its first byte's place, the place behind it, and how many bytes a name or a literal has.
+// A token by its kind, its first byte's place, the place behind it, and how many bytes a name or a literal has.
 #[derive(Clone, Copy)]
 pub struct Token {
-    pub kind: u8,
+    pub kind: Kind,
     pub start: usize,
     pub next: usize,
     pub size: usize,
 }
 
-fn sized(kind: u8, start: usize, next: usize, size: usize) -> Token
-    ensures { result ≡ made kind start next size }
-{
-    Token {
-        kind: kind,
-        start: start,
-        next: next,
-        size: size,
-    }
-}
-
-fn plain(kind: u8, start: usize, next: usize) -> Token
+// A token that has no bytes of its own.
+fn plain(kind: Kind, start: usize, next: usize) -> Token
     ensures { result ≡ made kind start next 0 }
 {
-    sized(kind, start, next, 0)
+    Token {
+        kind,
+        start,
+        next,
+        size: 0,
+    }
 }
 
-fn prefix_of(b: u8) -> u8
+fn prefix_of(b: u8) -> Kind
     ensures { result ≡ kind_of (some (pre (pre_of b))) }
 {
-    if b == 38 {
-        return AMP;
-    }
-    BANG
+    if b == b'&' { Kind::Amp } else { Kind::Bang }
 }
 
-fn suffix_of(b: u8) -> u8
+fn suffix_of(b: u8) -> Kind
     ensures { result ≡ kind_of (some (suf (suf_of b))) }
 {
-    if b == 63 {
-        return QUERY;
+    match b {
+        b'?' => Kind::Query,
+        b'*' => Kind::Asterisk,
+        _ => Kind::Cross,
     }
-    if b == 42 {
-        return ASTERISK;
-    }
-    CROSS
 }
 
 // The name whose first byte stands at `at`.
-fn name_token(text: &[u8], at: usize, kinds: &[u8; 256]) -> Token
-    requires { Tabled kinds.now }
+fn name_token(text: &[u8], at: usize, table: &ByteTable) -> Token
     ensures { result ≡ coded (named at (name_span (drop at text.now))) }
 {
-    let end = name_end(text, at, kinds);
-    sized(NAME, at, end, end - at)
+    let next = name_end(text, at, table);
+    Token {
+        kind: Kind::Name,
+        start: at,
+        next,
+        size: next - at,
+    }
 }
 
 // Behind the `<` at `at`: "a lake is `<name>` without blanks inside".
-fn lake_token(text: &[u8], at: usize, kinds: &[u8; 256]) -> Token
-    requires { (at < length text.now) × Tabled kinds.now }
+fn lake_token(text: &[u8], at: usize, table: &ByteTable) -> Token
+    requires { at < length text.now }
     ensures { result ≡ coded (laked at (drop (suc at) text.now)) }
 {
     let from = at + 1;
-    if text.len() <= from {
-        return plain(BAD, at, from);
+    if text.len() <= from || kind_of(text[from], table) != ByteKind::Letter {
+        return plain(Kind::Bad, at, from);
     }
-    let k = kind_of(text[from], kinds);
-    if k != kinds::LETTER {
-        return plain(BAD, at, from);
+    let end = name_end(text, from, table);
+    if byte_at(text, end) != Some(b'>') {
+        return plain(Kind::Bad, at, from);
     }
-    let end = name_end(text, from, kinds);
-    let b = byte_at(text, end);
-    if b != 62 {
-        return plain(BAD, at, from);
+    Token {
+        kind: Kind::Lake,
+        start: at,
+        next: end + 1,
+        size: end - from,
     }
-    sized(LAKE, at, end + 1, end - from)
 }
 
 // The token that begins with the `<` at `at`: "`<` followed by `-` is the arrow"; plain mode has no lakes.
-fn less_token(mode: Mode, text: &[u8], at: usize, kinds: &[u8; 256]) -> Token
-    requires { (at < length text.now) × Tabled kinds.now }
+fn less_token(mode: Mode, text: &[u8], at: usize, table: &ByteTable) -> Token
+    requires { at < length text.now }
     ensures { result ≡ coded (angle mode at (drop (suc at) text.now)) }
 {
     let from = at + 1;
-    let b = byte_at(text, from);
-    if b == 45 {
-        return plain(ARROW, at, at + 2);
+    if byte_at(text, from) == Some(b'-') {
+        return plain(Kind::Arrow, at, at + 2);
     }
     match mode {
-        Mode::Lake => lake_token(text, at, kinds),
-        Mode::Plain => plain(BAD, at, from),
+        Mode::Lake => lake_token(text, at, table),
+        Mode::Plain => plain(Kind::Bad, at, from),
     }
 }
 
@@ -156,13 +147,15 @@ fn literal_token(text: &[u8], at: usize, q: u8) -> Token
     ensures { result ≡ coded (literal_by at (body q single 0 (suc at) (drop (suc at) text.now))) }
 {
     let from = at + 1;
-    let l = literal_at(text, from, q);
-    let count = l.count;
-    let next = l.next;
-    if count == 0 {
-        return plain(BAD, at, from);
+    match literal_at(text, from, q) {
+        Some(l) if l.count != 0 => Token {
+            kind: Kind::Literal,
+            start: at,
+            next: l.next,
+            size: l.count,
+        },
+        _ => plain(Kind::Bad, at, from),
     }
-    sized(LITERAL, at, next, count)
 }
 
 // The class whose `[` stands at `at`.
@@ -171,37 +164,36 @@ fn class_token(mode: Mode, text: &[u8], at: usize) -> Token
     ensures { result ≡ coded (bracket mode at (drop (suc at) text.now)) }
 {
     let mut marks = [false; 256];
-    let next = class_end(mode, text, at, &mut marks);
-    if next == 0 {
-        return plain(BAD, at, at + 1);
+    match class_end(mode, text, at, &mut marks) {
+        Some(next) => plain(Kind::Class, at, next),
+        None => plain(Kind::Bad, at, at + 1),
     }
-    plain(CLASS, at, next)
 }
 
 // The token at a place or, where blanks stand there, behind them, by the table of kinds that is lent: whoever passes over many tokens lays it out once.
-pub fn token_by(mode: Mode, text: &[u8], at: usize, kinds: &[u8; 256]) -> Token
-    requires { Tabled kinds.now }
+pub fn token_by(mode: Mode, text: &[u8], at: usize, table: &ByteTable) -> Token
     ensures { result ≡ coded (token_at mode text.now at) }
 {
-    let i = blanks(text, at, kinds);
+    let i = blanks(text, at, table);
     if text.len() <= i {
-        return plain(END, i, i);
+        return plain(Kind::End, i, i);
     }
     let b = text[i];
-    let k = kind_of(b, kinds);
     let n = i + 1;
-    match k {
-        kinds::LETTER => name_token(text, i, kinds),
-        kinds::OPEN => plain(OPENS, i, n),
-        kinds::CLOSE => plain(CLOSES, i, n),
-        kinds::SLASH => plain(SLASH, i, n),
-        kinds::PREFIX => plain(prefix_of(b), i, n),
-        kinds::SUFFIX => plain(suffix_of(b), i, n),
-        kinds::DOT => plain(ANY, i, n),
-        kinds::QUOTE => literal_token(text, i, b),
-        kinds::CLASS => class_token(mode, text, i),
-        kinds::LESS => less_token(mode, text, i, kinds),
-        _ => plain(BAD, i, n),
+    match kind_of(b, table) {
+        ByteKind::Letter => name_token(text, i, table),
+        ByteKind::Open => plain(Kind::Opens, i, n),
+        ByteKind::Close => plain(Kind::Closes, i, n),
+        ByteKind::Slash => plain(Kind::Slash, i, n),
+        ByteKind::Prefix => plain(prefix_of(b), i, n),
+        ByteKind::Suffix => plain(suffix_of(b), i, n),
+        ByteKind::Dot => plain(Kind::Any, i, n),
+        ByteKind::Quote => literal_token(text, i, b),
+        ByteKind::Class => class_token(mode, text, i),
+        ByteKind::Less => less_token(mode, text, i, table),
+        ByteKind::Other | ByteKind::Blank | ByteKind::Digit | ByteKind::Hash => {
+            plain(Kind::Bad, i, n)
+        }
     }
 }
 
@@ -209,39 +201,28 @@ pub fn token_by(mode: Mode, text: &[u8], at: usize, kinds: &[u8; 256]) -> Token
 pub fn token_at(mode: Mode, text: &[u8], at: usize) -> Token
     ensures { result ≡ coded (token_at mode text.now at) }
 {
-    let kinds = kinds::laid_out();
-    token_by(mode, text, at, &kinds)
+    token_by(mode, text, at, &laid_out())
 }
 
 // The first place from `at` on that has no space.
 fn spaces(text: &[u8], at: usize) -> usize
     ensures { skip false result (drop result text.now) ≡ skip false at (drop at text.now) }
 {
-    let mut i = at;
-    while i < text.len() {
+    for i in at..text.len() {
         if text[i] != b' ' {
             return i;
         }
-        i += 1;
     }
-    i
+    at.max(text.len())
 }
-
-// The two bytes of the arrow, `<-`.
-const LESS_THAN: u32 = 60;
-
-const HYPHEN: u32 = 45;
 
 // Whether the token at a place is the arrow. It is asked of every name, and mostly the arrow stands there or behind a space: no table is laid out then.
 pub fn arrow_at(mode: Mode, text: &[u8], at: usize) -> bool
-    ensures { result ≡ eqb (kind_of (token_at mode text.now at).is) 11 }
+    ensures { result ≡ arrow_is (token_at mode text.now at).is }
 {
     let i = spaces(text, at);
-    let b = byte_at(text, i);
-    if b == LESS_THAN {
-        let d = byte_at(text, i + 1);
-        return d == HYPHEN;
+    if byte_at(text, i) == Some(b'<') {
+        return byte_at(text, i + 1) == Some(b'-');
     }
-    let t = token_at(mode, text, i);
-    t.kind == ARROW
+    token_at(mode, text, i).kind == Kind::Arrow
 }

@@ -1,74 +1,53 @@
 // Blanks and names (01, Notation).
 ghost use Rattle.std.specs.Prelude.{◌+◌, ◌≡◌, false, length, drop};
 ghost use Rattle.read_tokens.specs.Tokens.{blank_by, skip, name_byte, name_span};
-ghost use Rattle.read_tokens.specs.steps.Code.{Tabled};
+ghost use Rattle.read_tokens.specs.steps.Bytes.{opened};
 
-use crate::kinds::kind_of;
+use crate::kinds::{ByteKind, ByteTable, kind_of};
 
-// How blanks go on at the byte b: 0 outside a comment, 1 inside one, 2 a token begins. A comment goes "up to the next CR or LF".
-fn blank_of(inside: bool, b: u8, kinds: &[u8; 256]) -> u8
-    requires { Tabled kinds.now }
-    ensures { result ≡ blank_by inside b }
+// Whether a comment is open behind the byte b, if it is a blank; none: a token begins. A comment goes "up to the next CR or LF".
+// `inside` is the state of that walk, which `blank_by` takes too.
+fn blank_of(inside: bool, b: u8, table: &ByteTable) -> Option<bool>
+    ensures { result ≡ opened (blank_by inside b) }
 {
     if inside {
-        if b == 10 {
-            return 0;
-        }
-        if b == 13 {
-            return 0;
-        }
-        return 1;
+        return Some(!matches!(b, b'\n' | b'\r'));
     }
-    let k = kind_of(b, kinds);
-    if k == crate::kinds::BLANK {
-        return 0;
+    match kind_of(b, table) {
+        ByteKind::Blank => Some(false),
+        ByteKind::Hash => Some(true),
+        _ => None,
     }
-    if k == crate::kinds::HASH {
-        return 1;
-    }
-    2
 }
 
 // The first place from `at` on that is no blank.
-pub fn blanks(text: &[u8], at: usize, kinds: &[u8; 256]) -> usize
-    requires { Tabled kinds.now }
+pub fn blanks(text: &[u8], at: usize, table: &ByteTable) -> usize
     ensures { result ≡ skip false at (drop at text.now) }
 {
-    let mut i = at;
     let mut inside = false;
-    while i < text.len() {
-        let m = blank_of(inside, text[i], kinds);
-        if m == 2 {
+    for i in at..text.len() {
+        let Some(open) = blank_of(inside, text[i], table) else {
             return i;
-        }
-        inside = m == 1;
-        i += 1;
+        };
+        inside = open;
     }
-    i
+    at.max(text.len())
 }
 
-fn in_name(b: u8, kinds: &[u8; 256]) -> bool
-    requires { Tabled kinds.now }
+fn in_name(b: u8, table: &ByteTable) -> bool
     ensures { result ≡ name_byte b }
 {
-    let k = kind_of(b, kinds);
-    if k == crate::kinds::LETTER {
-        return true;
-    }
-    k == crate::kinds::DIGIT
+    matches!(kind_of(b, table), ByteKind::Letter | ByteKind::Digit)
 }
 
 // The place behind the name bytes that stand from `from` on.
-pub fn name_end(text: &[u8], from: usize, kinds: &[u8; 256]) -> usize
-    requires { Tabled kinds.now }
+pub fn name_end(text: &[u8], from: usize, table: &ByteTable) -> usize
     ensures { result ≡ from + length (name_span (drop from text.now)) }
 {
-    let mut i = from;
-    while i < text.len() {
-        if !in_name(text[i], kinds) {
+    for i in from..text.len() {
+        if !in_name(text[i], table) {
             return i;
         }
-        i += 1;
     }
-    i
+    from.max(text.len())
 }

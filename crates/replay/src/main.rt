@@ -20,53 +20,48 @@
 // 3,735,928,559 before the call.
 #![tactic(auto)]
 
-// The line so far is answered; one byte more than there is room for is too long.
-fn finish(line: &[u8], k: usize) {
-    if line.len() < k {
-        console::unreadable();
-        return;
+// The line so far is answered; none is one that is longer than there is room for. Its size stands beside it, here and below: no heap, fixed memory.
+fn finish(line: &[u8], size: Option<usize>) {
+    match size {
+        Some(k) if k <= line.len() => replay_asks::answer(&line[..k]),
+        _ => console::unreadable(),
     }
-    replay_asks::answer(&line[..k]);
 }
 
-// One byte of the questions: how many the line has then.
-fn take(line: &mut [u8], k: usize, b: u8) -> usize {
-    if b == 10 {
-        finish(line, k);
-        return 0;
+// One byte of the questions: how many the line has then, none where they are too many.
+fn take(line: &mut [u8], size: Option<usize>, b: u8) -> Option<usize> {
+    if b == b'\n' {
+        finish(line, size);
+        return Some(0);
     }
-    if k < line.len() {
-        line[k] = b;
-        return k + 1;
+    let k = size?;
+    if line.len() <= k {
+        return None;
     }
-    line.len() + 1
+    line[k] = b;
+    Some(k + 1)
 }
 
-fn feed(chunk: &[u8], line: &mut [u8], at: usize) -> usize {
-    let mut k = at;
-    let mut i: usize = 0;
-    while i < chunk.len() {
-        k = take(line, k, chunk[i]);
-        i += 1;
+fn feed(chunk: &[u8], line: &mut [u8], size: Option<usize>) -> Option<usize> {
+    let mut size = size;
+    for b in chunk {
+        size = take(line, size, *b);
     }
-    k
+    size
 }
 
 // Up to 4 GiB of questions, a chunk a turn.
 fn answer_all(chunk: &mut [u8], line: &mut [u8]) {
-    let mut k: usize = 0;
-    let mut turns: usize = 0;
-    while turns < 65536 {
+    let mut size = Some(0);
+    for _ in 0..65536 {
         let n = io::read_full(0, chunk);
         if n == 0 {
-            turns = 65536;
-        } else {
-            k = feed(&chunk[..n], line, k);
-            turns += 1;
+            break;
         }
+        size = feed(&chunk[..n], line, size);
     }
-    if k != 0 {
-        finish(line, k);
+    if size != Some(0) {
+        finish(line, size);
     }
 }
 

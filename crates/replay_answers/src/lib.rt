@@ -1,63 +1,41 @@
 // Every public call asked once, and its answer printed as a line of words and numbers (crate `replay` has the lines).
 #![tactic(auto)]
 
-use gurkenmond::{Mode, Verdict};
+use gurkenmond::Mode;
 
 pub fn read(mode: Mode, text: &[u8]) {
     let r = gurkenmond::read(mode, text);
-    let v = r.verdict;
-    match v {
-        Verdict::Accepted => {
-            io::write_all(1, b"read");
-            console::number(r.symbols);
-            console::number(r.terminals);
-            console::number(r.expressions);
-        }
-        Verdict::Refused {
-            number: n,
-            place: p,
-        } => console::refusal(n, p),
-    }
+    replay_says::verdict(r.verdict, || {
+        io::write_all(1, b"read");
+        console::number(r.symbols);
+        console::number(r.terminals);
+        console::number(r.expressions);
+    });
     console::line_end();
 }
 
 pub fn sets(mode: Mode, text: &[u8], e: usize) {
     let r = gurkenmond::sets(mode, text, e);
-    let v = r.verdict;
-    match v {
-        Verdict::Accepted => {
-            io::write_all(1, b"sets");
-            replay_says::sets(r.sets);
-            console::number(r.rounds);
-        }
-        Verdict::Refused {
-            number: n,
-            place: p,
-        } => console::refusal(n, p),
-    }
+    replay_says::verdict(r.verdict, || {
+        io::write_all(1, b"sets");
+        replay_says::sets(r.sets);
+        console::number(r.rounds);
+    });
     console::line_end();
 }
 
 pub fn cannot_skip(mode: Mode, text: &[u8]) {
     let r = gurkenmond::cannot_skip(mode, text);
-    let v = r.verdict;
-    match v {
-        Verdict::Accepted => {
-            io::write_all(1, b"skip");
-            replay_says::bits(r.word);
-        }
-        Verdict::Refused {
-            number: n,
-            place: p,
-        } => console::refusal(n, p),
-    }
+    replay_says::verdict(r.verdict, || {
+        io::write_all(1, b"skip");
+        replay_says::bits(r.word);
+    });
     console::line_end();
 }
 
 pub fn match_input(mode: Mode, text: &[u8], input: &[u8], cells: &mut [u32], nodes: &mut [u32]) {
     let r = gurkenmond::match_input(mode, text, input, cells, nodes);
-    let o = r.outcome;
-    replay_says::outcome(o);
+    replay_says::outcome(r.outcome);
     replay_says::words(b" ; cells", cells);
     replay_says::words(b" ; nodes", nodes);
     console::line_end();
@@ -71,8 +49,8 @@ pub fn lake_at(
     lake: usize,
     place: usize,
 ) {
-    let w = gurkenmond::lake_at(mode, text, input, cells, lake, place);
-    replay_says::lake(w);
+    let r = gurkenmond::lake_at(mode, text, input, cells, lake, place);
+    replay_says::lake(r);
     replay_says::words(b" ; cells", cells);
     console::line_end();
 }

@@ -1,240 +1,163 @@
 // What a line asks: its fields read, and the call of `replay_answers` that answers it. The head of `replay/src/main.rt` has the lines.
 #![tactic(auto)]
 
-ghost use Rattle.std.specs.Prelude.{◌≤◌};
-
 use gurkenmond::Mode;
-use replay_lines::buffers;
+use replay_lines::{Fields, NUMBER_MOST, buffers};
 
-// The kinds of questions on a grammar.
-const READ: u8 = 0;
+#[derive(Clone, Copy)]
+enum Question {
+    OnGrammar(OnGrammar),
+    OnInput(OnInput),
+    Where,
+    Handed,
+    Sound,
+    Text,
+}
 
-const SETS: u8 = 1;
+// The questions on a grammar alone.
+#[derive(Clone, Copy)]
+enum OnGrammar {
+    Read,
+    Sets,
+    Skip,
+    Own,
+    Plain,
+    Name,
+}
 
-const SKIP: u8 = 2;
+// The questions on a grammar and an input.
+#[derive(Clone, Copy)]
+enum OnInput {
+    Match,
+    Lake,
+    Json,
+    Unjson,
+    Summary,
+}
 
-const MATCH: u8 = 3;
+const QUESTIONS: [(&[u8], Question); 15] = [
+    (b"read ", Question::OnGrammar(OnGrammar::Read)),
+    (b"sets ", Question::OnGrammar(OnGrammar::Sets)),
+    (b"skip ", Question::OnGrammar(OnGrammar::Skip)),
+    (b"own ", Question::OnGrammar(OnGrammar::Own)),
+    (b"plain ", Question::OnGrammar(OnGrammar::Plain)),
+    (b"name ", Question::OnGrammar(OnGrammar::Name)),
+    (b"match ", Question::OnInput(OnInput::Match)),
+    (b"lake ", Question::OnInput(OnInput::Lake)),
+    (b"json ", Question::OnInput(OnInput::Json)),
+    (b"unjson ", Question::OnInput(OnInput::Unjson)),
+    (b"summary ", Question::OnInput(OnInput::Summary)),
+    (b"where ", Question::Where),
+    (b"handed ", Question::Handed),
+    (b"sound ", Question::Sound),
+    (b"text ", Question::Text),
+];
 
-const LAKE: u8 = 4;
+const MODES: [(&[u8], Mode); 2] = [(b"lake ", Mode::Lake), (b"plain ", Mode::Plain)];
 
-const OWN: u8 = 5;
-
-const PLAIN: u8 = 6;
-
-const NAME: u8 = 7;
-
-const JSON: u8 = 8;
-
-const UNJSON: u8 = 9;
-
-const SUMMARY: u8 = 10;
-
-fn ask_sets(mode: Mode, text: &[u8], line: &[u8], at: usize) {
-    let e = replay_lines::number_at(line, at, replay_lines::NUMBER_MOST);
-    if replay_lines::NUMBER_MOST < e {
-        console::unreadable();
-        return;
+// What the word that comes next stands for; the word is taken.
+fn named<T: Copy>(names: &[(&[u8], T)], fields: &mut Fields) -> Option<T> {
+    for (word, value) in names {
+        if fields.word(word) {
+            return Some(*value);
+        }
     }
+    None
+}
+
+fn ask_sets(mode: Mode, text: &[u8], fields: &mut Fields) -> Option<()> {
+    let e = fields.number(NUMBER_MOST)?;
     replay_answers::sets(mode, text, e);
+    Some(())
 }
 
-fn ask_written(kind: u8, mode: Mode, text: &[u8], line: &[u8], at: usize) {
-    let n = replay_lines::number_at(line, at, buffers::ROOM);
-    if buffers::ROOM < n {
-        console::unreadable();
-        return;
-    }
+// The room's field comes next; what is written into so much room is answered.
+fn ask_text<F: FnOnce(&mut [u8]) + Drop>(fields: &mut Fields, write: F) -> Option<()>
+    requires { F.IsAlwaysCallable write }
+{
+    let n = fields.number(buffers::ROOM)?;
     let mut out = buffers::room();
-    if kind == OWN {
-        replay_answers::write_own(mode, text, &mut out[..n]);
-    } else {
-        replay_answers::write_plain(mode, text, &mut out[..n]);
-    }
+    write(&mut out[..n]);
+    Some(())
 }
 
-fn ask_name(mode: Mode, text: &[u8], line: &[u8], at: usize) {
-    let symbol = replay_lines::number_at(line, at, replay_lines::NUMBER_MOST);
-    let then = replay_lines::after(line, at);
-    let n = replay_lines::number_at(line, then, buffers::ROOM);
-    if replay_lines::NUMBER_MOST < symbol {
-        console::unreadable();
-        return;
-    }
-    if buffers::ROOM < n {
-        console::unreadable();
-        return;
-    }
-    let mut out = buffers::room();
-    replay_answers::symbol_name(mode, text, symbol, &mut out[..n]);
+fn ask_name(mode: Mode, text: &[u8], fields: &mut Fields) -> Option<()> {
+    let symbol = fields.number(NUMBER_MOST)?;
+    ask_text(fields, |out| {
+        replay_answers::symbol_name(mode, text, symbol, out)
+    })
 }
 
-fn ask_match(mode: Mode, text: &[u8], input: &[u8], line: &[u8], at: usize) {
-    let c = replay_lines::number_at(line, at, buffers::CELLS);
-    let then = replay_lines::after(line, at);
-    let k = replay_lines::number_at(line, then, buffers::NODES);
-    if buffers::CELLS < c {
-        console::unreadable();
-        return;
-    }
-    if buffers::NODES < k {
-        console::unreadable();
-        return;
-    }
+fn ask_match(mode: Mode, text: &[u8], input: &[u8], fields: &mut Fields) -> Option<()> {
+    let c = fields.number(buffers::CELLS)?;
+    let k = fields.number(buffers::NODES)?;
     let mut cells = buffers::cells();
     let mut nodes = buffers::nodes();
     replay_answers::match_input(mode, text, input, &mut cells[..c], &mut nodes[..k]);
+    Some(())
 }
 
-fn ask_lake(mode: Mode, text: &[u8], input: &[u8], line: &[u8], at: usize) {
-    let c = replay_lines::number_at(line, at, buffers::CELLS);
-    let then = replay_lines::after(line, at);
-    let lake = replay_lines::number_at(line, then, replay_lines::NUMBER_MOST);
-    let last = replay_lines::after(line, then);
-    let place = replay_lines::number_at(line, last, replay_lines::NUMBER_MOST);
-    if buffers::CELLS < c {
-        console::unreadable();
-        return;
-    }
-    if replay_lines::NUMBER_MOST < lake {
-        console::unreadable();
-        return;
-    }
-    if replay_lines::NUMBER_MOST < place {
-        console::unreadable();
-        return;
-    }
+fn ask_lake(mode: Mode, text: &[u8], input: &[u8], fields: &mut Fields) -> Option<()> {
+    let c = fields.number(buffers::CELLS)?;
+    let lake = fields.number(NUMBER_MOST)?;
+    let place = fields.number(NUMBER_MOST)?;
     let mut cells = buffers::cells();
     replay_answers::lake_at(mode, text, input, &mut cells[..c], lake, place);
+    Some(())
 }
 
-// A question with an input, whose field begins at `at`.
-fn ask_input(kind: u8, mode: Mode, text: &[u8], line: &[u8], at: usize) {
-    let to = replay_lines::until(line, at);
-    if !replay_lines::is_bytes(line, at, to, buffers::INPUT) {
-        console::unreadable();
-        return;
+// The mode's field comes next, then the grammar's.
+fn on_grammar(question: OnGrammar, fields: &mut Fields) -> Option<()> {
+    let mode = named(&MODES, fields)?;
+    let mut room = buffers::text();
+    let n = fields.bytes(&mut room)?;
+    let text = &room[..n];
+    match question {
+        OnGrammar::Read => replay_answers::read(mode, text),
+        OnGrammar::Sets => ask_sets(mode, text, fields)?,
+        OnGrammar::Skip => replay_answers::cannot_skip(mode, text),
+        OnGrammar::Own => { ask_text(fields, |out| replay_answers::write_own(mode, text, out))? }
+        OnGrammar::Plain => {
+            ask_text(fields, |out| replay_answers::write_plain(mode, text, out))?
+        }
+        OnGrammar::Name => ask_name(mode, text, fields)?,
     }
-    let mut input = buffers::input();
-    let n = replay_lines::decode(line, at, to, &mut input);
-    let then = replay_lines::after(line, at);
-    match kind {
-        MATCH => ask_match(mode, text, &input[..n], line, then),
-        JSON => replay_trees::ask_json(mode, text, &input[..n], line, then),
-        UNJSON => replay_trees::ask_unjson(mode, text, &input[..n], line, then),
-        SUMMARY => replay_records::ask_summary(mode, text, &input[..n], line, then),
-        _ => ask_lake(mode, text, &input[..n], line, then),
-    }
+    Some(())
 }
 
-// A question of the kind on a grammar; what follows the grammar stands in the line from `at` on.
-fn ask(kind: u8, mode: Mode, text: &[u8], line: &[u8], at: usize) {
-    match kind {
-        READ => replay_answers::read(mode, text),
-        SETS => ask_sets(mode, text, line, at),
-        SKIP => replay_answers::cannot_skip(mode, text),
-        MATCH => ask_input(kind, mode, text, line, at),
-        LAKE => ask_input(kind, mode, text, line, at),
-        JSON => ask_input(kind, mode, text, line, at),
-        UNJSON => ask_input(kind, mode, text, line, at),
-        SUMMARY => ask_input(kind, mode, text, line, at),
-        NAME => ask_name(mode, text, line, at),
-        _ => ask_written(kind, mode, text, line, at),
-    }
-}
-
-// The grammar's field begins at `at`.
-fn grammar_at(kind: u8, mode: Mode, line: &[u8], at: usize) {
-    let to = replay_lines::until(line, at);
-    if !replay_lines::is_bytes(line, at, to, buffers::TEXT) {
-        console::unreadable();
-        return;
-    }
+// The mode's field comes next, then the grammar's and the input's.
+fn on_input(question: OnInput, fields: &mut Fields) -> Option<()> {
+    let mode = named(&MODES, fields)?;
     let mut text = buffers::text();
-    let n = replay_lines::decode(line, at, to, &mut text);
-    let then = replay_lines::after(line, at);
-    ask(kind, mode, &text[..n], line, then);
+    let n = fields.bytes(&mut text)?;
+    let text = &text[..n];
+    let mut input = buffers::input();
+    let n = fields.bytes(&mut input)?;
+    let input = &input[..n];
+    match question {
+        OnInput::Match => ask_match(mode, text, input, fields),
+        OnInput::Lake => ask_lake(mode, text, input, fields),
+        OnInput::Json => replay_trees::ask_json(mode, text, input, fields),
+        OnInput::Unjson => replay_trees::ask_unjson(mode, text, input, fields),
+        OnInput::Summary => replay_records::ask_summary(mode, text, input, fields),
+    }
 }
 
-// The mode's field begins at `at`.
-fn mode_at(kind: u8, line: &[u8], at: usize)
-    requires { at ≤ 16 }
-{
-    if replay_lines::stands(line, at, b"lake ") {
-        grammar_at(kind, Mode::Lake, line, at + 5);
-        return;
+// None where the line is no question, or lends more than there is.
+fn ask(fields: &mut Fields) -> Option<()> {
+    match named(&QUESTIONS, fields)? {
+        Question::OnGrammar(question) => on_grammar(question, fields),
+        Question::OnInput(question) => on_input(question, fields),
+        Question::Where => replay_records::ask_where(fields),
+        Question::Handed => replay_nodes::ask_handed(fields),
+        Question::Sound => replay_nodes::ask_sound(fields),
+        Question::Text => replay_nodes::text_at(fields),
     }
-    if replay_lines::stands(line, at, b"plain ") {
-        grammar_at(kind, Mode::Plain, line, at + 6);
-        return;
-    }
-    console::unreadable();
 }
 
 // The line answered, whatever it is.
 pub fn answer(line: &[u8]) {
-    if replay_lines::stands(line, 0, b"read ") {
-        mode_at(READ, line, 5);
-        return;
+    if ask(&mut Fields { line, at: 0 }).is_none() {
+        console::unreadable();
     }
-    if replay_lines::stands(line, 0, b"sets ") {
-        mode_at(SETS, line, 5);
-        return;
-    }
-    if replay_lines::stands(line, 0, b"skip ") {
-        mode_at(SKIP, line, 5);
-        return;
-    }
-    if replay_lines::stands(line, 0, b"match ") {
-        mode_at(MATCH, line, 6);
-        return;
-    }
-    if replay_lines::stands(line, 0, b"lake ") {
-        mode_at(LAKE, line, 5);
-        return;
-    }
-    if replay_lines::stands(line, 0, b"own ") {
-        mode_at(OWN, line, 4);
-        return;
-    }
-    if replay_lines::stands(line, 0, b"plain ") {
-        mode_at(PLAIN, line, 6);
-        return;
-    }
-    if replay_lines::stands(line, 0, b"name ") {
-        mode_at(NAME, line, 5);
-        return;
-    }
-    answer_on_nodes(line);
-}
-
-fn answer_on_nodes(line: &[u8]) {
-    if replay_lines::stands(line, 0, b"json ") {
-        mode_at(JSON, line, 5);
-        return;
-    }
-    if replay_lines::stands(line, 0, b"unjson ") {
-        mode_at(UNJSON, line, 7);
-        return;
-    }
-    if replay_lines::stands(line, 0, b"summary ") {
-        mode_at(SUMMARY, line, 8);
-        return;
-    }
-    if replay_lines::stands(line, 0, b"where ") {
-        replay_records::ask_where(line, 6);
-        return;
-    }
-    if replay_lines::stands(line, 0, b"handed ") {
-        replay_nodes::ask_handed(line, 7);
-        return;
-    }
-    if replay_lines::stands(line, 0, b"sound ") {
-        replay_nodes::ask_sound(line, 6);
-        return;
-    }
-    if replay_lines::stands(line, 0, b"text ") {
-        replay_nodes::text_at(line, 5);
-        return;
-    }
-    console::unreadable();
 }

@@ -1,6 +1,8 @@
 // Room that is lent: a line of questions, a grammar, an input, cells, node words, output.
 ghost use Rattle.std.specs.Prelude.{◌≡◌, length};
 
+use console::filled;
+
 // How much there is of each.
 pub const LINE: usize = 2359296;
 
@@ -14,38 +16,41 @@ pub const NODES: usize = 65536;
 
 pub const ROOM: usize = 262144;
 
+// What stands in lent words before a call.
+const LENT: u32 = 3735928559;
+
 pub fn line() -> [u8; LINE]
     ensures { 2359296 ≡ length result }
 {
-    [0; LINE]
+    filled(0)
 }
 
 pub fn text() -> [u8; TEXT]
     ensures { 1048640 ≡ length result }
 {
-    [0; TEXT]
+    filled(0)
 }
 
 pub fn input() -> [u8; INPUT]
     ensures { 65600 ≡ length result }
 {
-    [0; INPUT]
+    filled(0)
 }
 
 pub fn cells() -> [u32; CELLS]
     ensures { 131072 ≡ length result }
 {
-    [3735928559; CELLS]
+    filled(LENT)
 }
 
 pub fn nodes() -> [u32; NODES]
     ensures { 65536 ≡ length result }
 {
-    [3735928559; NODES]
+    filled(LENT)
 }
 
 pub fn room() -> [u8; ROOM]
     ensures { 262144 ≡ length result }
 {
-    [0; ROOM]
+    filled(0)
 }

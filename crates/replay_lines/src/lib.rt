@@ -3,65 +3,105 @@
 
 pub mod buffers;
 
-ghost use Rattle.std.specs.Prelude.{◌+◌, ◌≤◌, ◌<◌, ◌≡◌, length, drop};
+ghost use Rattle.std.specs.Prelude.{◌+◌, ◌≤◌, ◌<◌, ◌≡◌, length, drop, is_some, cond, IfSome};
 ghost use Rattle.io.specs.Counts.{IsPrefixLen};
-ghost use Rattle.replay_lines.specs.steps.Fields.{until_of, after_of, begins, shifted_by, decimal_of, is_digit, bytes_of};
+ghost use Rattle.replay_lines.specs.steps.Fields.{until_of, after_of, begins, shifted_by, decimal_of, number_of, is_digit, all_digits, bytes_of};
 
-// The largest number that a field may have, and what is said where it has none.
+// The largest number that a field may have.
 pub const NUMBER_MOST: usize = 4294967295;
 
-const NO_NUMBER: usize = 4294967296;
-
-// The value of a hexadecimal digit; 16 for any other byte.
-fn digit(b: u8) -> u8
-    ensures { result ≤ 16 }
-{
-    if b < 48 {
-        return 16;
-    }
-    if b < 58 {
-        return b - 48;
-    }
-    if b < 97 {
-        return 16;
-    }
-    if b < 103 {
-        return b - 87;
-    }
-    16
+// The fields of a line that are still to be taken: those from `at` on.
+#[derive(Clone, Copy)]
+pub struct Fields<'a> {
+    pub line: &'a [u8],
+    pub at: usize,
 }
 
-// Whether a byte is a hexadecimal digit.
-fn is_digit(b: u8) -> bool
-    ensures { result ≡ is_digit b }
+impl Fields<'_> {
+    // Whether the word comes next; then it is taken.
+    pub fn word(&mut self, word: &[u8]) -> bool
+        ensures value { result ≡ begins word.now (drop self.old.at self.old.line.now) }
+        ensures taken { self.new.at ≡ cond result (self.old.at + length word.now) self.old.at }
+        ensures same_line { self.new.line.now ≡ self.old.line.now }
+    {
+        let comes = stands(self.line, self.at, word);
+        if comes {
+            self.at += word.len();
+        }
+        comes
+    }
+
+    // Where the next field begins and ends; it is taken.
+    fn next(&mut self) -> (usize, usize)
+        ensures from { result.0 ≡ self.old.at }
+        ensures to { result.1 ≡ until_of self.old.line.now self.old.at }
+        ensures taken { self.new.at ≡ after_of self.old.line.now self.old.at }
+        ensures same_line { self.new.line.now ≡ self.old.line.now }
+    {
+        let from = self.at;
+        self.at = after(self.line, from);
+        (from, until(self.line, from))
+    }
+
+    // The next field's number; none where it has none, or one above `most`.
+    pub fn number(&mut self, most: usize) -> Option<usize>
+        ensures value { result ≡ number_of self.old.line.now self.old.at most }
+        ensures bound { IfSome result (λ n. n ≤ most) }
+        ensures taken { self.new.at ≡ after_of self.old.line.now self.old.at }
+        ensures same_line { self.new.line.now ≡ self.old.line.now }
+    {
+        let from = self.at;
+        self.at = after(self.line, from);
+        number_at(self.line, from, most)
+    }
+
+    // How many bytes the next field puts into the room; none where it is no bytes, or more than there is room for.
+    pub fn bytes(&mut self, out: &mut [u8]) -> Option<usize>
+        ensures variant { is_some result ≡ bytes_of self.old.line.now self.old.at (until_of self.old.line.now self.old.at) (length out.old) }
+        ensures bound { IfSome result (λ n. IsPrefixLen n out.new) }
+        ensures taken { self.new.at ≡ after_of self.old.line.now self.old.at }
+        ensures same_line { self.new.line.now ≡ self.old.line.now }
+    {
+        let (from, to) = self.next();
+        if !is_bytes(self.line, from, to, out.len()) {
+            return None;
+        }
+        Some(decode(self.line, from, to, out))
+    }
+
+    // How many words the next field puts into the room; none where it is no words, or more than there is room for.
+    pub fn words(&mut self, out: &mut [u32]) -> Option<usize>
+        ensures bound { IfSome result (λ n. IsPrefixLen n out.new) }
+        ensures taken { self.new.at ≡ after_of self.old.line.now self.old.at }
+        ensures same_line { self.new.line.now ≡ self.old.line.now }
+    {
+        let (from, to) = self.next();
+        words(self.line, from, to, out)
+    }
+}
+
+// The value of a hexadecimal digit.
+fn digit(b: u8) -> Option<u8>
+    ensures variant { is_some result ≡ is_digit b }
+    ensures bound { IfSome result (λ d. d < 16) }
 {
-    if b < 48 {
-        return false;
+    match b {
+        b'0'..=b'9' => Some(b - b'0'),
+        b'a'..=b'f' => Some(b - b'a' + 10),
+        _ => None,
     }
-    if b < 58 {
-        return true;
-    }
-    if b < 97 {
-        return false;
-    }
-    if b < 103 {
-        return true;
-    }
-    false
 }
 
 // Where the field that begins at `at` ends: at the next space or the line's end. A field past the line's end is empty.
 pub fn until(s: &[u8], at: usize) -> usize
     ensures { result ≡ until_of s.now at }
 {
-    let mut i = at;
-    while i < s.len() {
-        if s[i] == 32 {
+    for i in at..s.len() {
+        if s[i] == b' ' {
             return i;
         }
-        i += 1;
     }
-    i
+    at.max(s.len())
 }
 
 // Where the field behind the one at `at` begins.
@@ -69,182 +109,117 @@ pub fn after(s: &[u8], at: usize) -> usize
     ensures { result ≡ after_of s.now at }
 {
     let to = until(s, at);
-    if to < s.len() {
-        return to + 1;
-    }
-    s.len()
+    if to < s.len() { to + 1 } else { s.len() }
 }
 
 // Whether the word stands in the line from `at` on.
 pub fn stands(s: &[u8], at: usize, word: &[u8]) -> bool
     ensures { result ≡ begins word.now (drop at s.now) }
 {
-    if word.len() == 0 {
-        return true;
+    if s.len() < at {
+        return word.is_empty();
     }
-    if s.len() < word.len() {
-        return false;
-    }
-    if s.len() - word.len() < at {
-        return false;
-    }
-    let mut i: usize = 0;
-    while i < word.len() {
-        if s[at + i] != word[i] {
-            return false;
-        }
-        i += 1;
-    }
-    true
+    s[at..].starts_with(word)
 }
 
 // Whether the field is bytes in hexadecimal, or `-` for none, and there are at most so many.
+// Here and below a field is the line and two places in it, as what is promised takes it: `bytes_of s from to`, `decimal_of s from to`.
 pub fn is_bytes(s: &[u8], from: usize, to: usize, most: usize) -> bool
     ensures { result ≡ bytes_of s.now from to most }
 {
-    if s.len() < to {
+    if s.len() < to || to <= from {
         return false;
     }
-    if to <= from {
-        return false;
+    let size = to - from;
+    if size == 1 {
+        return s[from] == b'-';
     }
-    if to - from == 1 {
-        return s[from] == 45;
-    }
-    if (to - from) % 2 != 0 {
-        return false;
-    }
-    if most < (to - from) / 2 {
-        return false;
-    }
-    let mut i = from;
-    while i < to {
-        if !is_digit(s[i]) {
-            return false;
-        }
-        i += 1;
-    }
-    true
+    size % 2 == 0 && size / 2 <= most && are_digits(&s[from..to])
+}
+
+fn are_digits(field: &[u8]) -> bool
+    ensures { result ≡ all_digits field.now }
+{
+    field.iter().all(|b| digit(*b).is_some())
 }
 
 // A byte of two digits.
-fn pair(h: u8, l: u8) -> u8 {
-    let a = digit(h);
-    let b = digit(l);
-    (a % 16) * 16 + b % 16
+fn pair(high: u8, low: u8) -> u8 {
+    digit(high).unwrap_or(0) * 16 + digit(low).unwrap_or(0)
 }
 
 // The bytes that stand in hexadecimal, as many as there is room for; of `-` none.
 pub fn decode(s: &[u8], from: usize, to: usize, out: &mut [u8]) -> usize
     ensures { IsPrefixLen result out.new }
 {
-    let mut i = from;
-    let mut n: usize = 0;
-    while n < out.len() {
-        if s.len() < to {
-            return n;
-        }
-        if to <= i {
-            return n;
-        }
-        if to - i < 2 {
-            return n;
-        }
-        out[n] = pair(s[i], s[i + 1]);
-        n += 1;
-        i += 2;
+    if s.len() < to || to < from {
+        return 0;
+    }
+    let n = out.len().min((to - from) / 2);
+    for i in 0..n {
+        out[i] = pair(s[from + 2 * i], s[from + 2 * i + 1]);
     }
     n
 }
 
-// The decimal number of a field; NO_NUMBER where it is none, or larger than may be.
-pub fn decimal(s: &[u8], from: usize, to: usize) -> usize
+// The decimal number of a field; none where it has none, or a larger one than may be.
+pub fn decimal(s: &[u8], from: usize, to: usize) -> Option<u32>
     ensures { result ≡ decimal_of s.now from to }
 {
-    if s.len() < to {
-        return NO_NUMBER;
+    if s.len() < to || to <= from {
+        return None;
     }
-    if to <= from {
-        return NO_NUMBER;
+    let mut v = 0;
+    for b in &s[from..to] {
+        v = shifted(v, *b)?;
     }
-    let mut v: usize = 0;
-    let mut i = from;
-    while i < to {
-        v = shifted(v, s[i]);
-        i += 1;
-    }
-    v
+    Some(v)
 }
 
 // One digit more.
-fn shifted(v: usize, b: u8) -> usize
-    ensures { (result ≡ shifted_by v b) × (result ≤ 4294967296) }
+fn shifted(v: u32, b: u8) -> Option<u32>
+    ensures { result ≡ shifted_by v b }
 {
-    if b < 48 {
-        return NO_NUMBER;
+    match b {
+        b'0'..=b'9' => v.checked_mul(10)?.checked_add(u32::from(b - b'0')),
+        _ => None,
     }
-    if 57 < b {
-        return NO_NUMBER;
-    }
-    if 429496729 < v {
-        return NO_NUMBER;
-    }
-    let n = v * 10 + (b - 48) as usize;
-    if NUMBER_MOST < n {
-        return NO_NUMBER;
-    }
-    n
 }
 
-// The number field at `at`, at most so large; above that `most + 1`, which is no number.
-pub fn number_at(line: &[u8], at: usize, most: usize) -> usize
-    requires { most < 4294967296 }
-    ensures { result ≤ most + 1 }
+// The number field at `at`, at most so large.
+pub fn number_at(line: &[u8], at: usize, most: usize) -> Option<usize>
+    ensures value { result ≡ number_of line.now at most }
+    ensures bound { IfSome result (λ n. n ≤ most) }
 {
-    let to = until(line, at);
-    let n = decimal(line, at, to);
-    if most < n {
-        return most + 1;
-    }
-    n
+    let n = decimal(line, at, until(line, at))? as usize;
+    if n <= most { Some(n) } else { None }
 }
 
 // Where the number that begins at `at` in a field up to `to` ends: at the next `,` or the field's end.
 fn comma(s: &[u8], at: usize, to: usize) -> usize {
-    let mut i = at;
-    while i < to {
-        if s.len() <= i {
-            return to;
-        }
-        if s[i] == 44 {
+    for i in at..to.min(s.len()) {
+        if s[i] == b',' {
             return i;
         }
-        i += 1;
     }
     to
 }
 
-// The words of a field, numbers with `,` between, or `-` for none; one more than there is room for where it is something else, or has more.
-pub fn words(s: &[u8], from: usize, to: usize, out: &mut [u32]) -> usize
-    ensures { result ≤ length out.new + 1 }
+// The words of a field, numbers with `,` between, or `-` for none; none where it is something else, or has more than there is room for.
+pub fn words(s: &[u8], from: usize, to: usize, out: &mut [u32]) -> Option<usize>
+    ensures { IfSome result (λ n. IsPrefixLen n out.new) }
 {
     if is_bytes(s, from, to, 0) {
-        return 0;
+        return Some(0);
     }
-    let mut i = from;
-    let mut n: usize = 0;
-    while n < out.len() {
-        let end = comma(s, i, to);
-        let w = decimal(s, i, end);
-        if NUMBER_MOST < w {
-            return out.len() + 1;
-        }
-        out[n] = w as u32;
-        n += 1;
+    let mut at = from;
+    for n in 0..out.len() {
+        let end = comma(s, at, to);
+        out[n] = decimal(s, at, end)?;
         if to <= end {
-            return n;
+            return Some(n + 1);
         }
-        i = end + 1;
+        at = end + 1;
     }
-    out.len() + 1
+    None
 }

@@ -1,152 +1,76 @@
 // The questions on records and places (02, par. 2): their fields read, and the public calls that answer them. The head of `replay/src/main.rt` has the lines.
 #![tactic(auto)]
 
-ghost use Rattle.std.specs.Prelude.{◌≤◌};
-
-use gurkenmond::{Mode, Summary, Summed, Verdict};
-use replay_lines::buffers;
+use gurkenmond::{Mode, Summary, Summed};
+use replay_lines::{Fields, NUMBER_MOST, buffers};
 
 // So many records can be lent.
 const RECORDS: usize = 96;
 
-// An answer, and all records afterwards.
-#[derive(Clone, Copy)]
-pub struct Lent {
-    pub answer: Summed,
-    pub records: [Summary; 96],
-}
+// What stands in a lent record before a call: no symbol has a node and is absent.
+const LENT: Summary = Summary {
+    nodes: 1,
+    bytes: 0,
+    first: 0,
+    last: 0,
+    present: false,
+};
 
-// The first records of a room, all alike, are lent.
-fn lend_records(
-    mode: Mode,
-    text: &[u8],
-    input: &[u8],
-    nodes: &[u32],
-    mark: Summary,
-    room: usize,
-) -> Lent
-    requires { room ≤ 96 }
-{
-    let mut records = [mark; 96];
-    let answer = gurkenmond::summarise(mode, text, input, nodes, &mut records[..room]);
-    Lent { answer, records }
-}
-
-fn field(n: usize) {
-    io::print_decimal(1, n as u64);
-    io::write_all(1, b":");
-}
-
-// One that is as it was lent is `x`: no symbol has a node and is absent.
-fn record(s: Summary) {
-    if s.present {
-        io::write_all(1, b" ");
-        field(s.nodes);
-        field(s.bytes);
-        field(s.first);
-        field(s.last);
-        io::write_all(1, b"1");
-        return;
-    }
-    if s.nodes == 1 {
+// One that is as it was lent is `x`.
+fn record(s: &Summary) {
+    if !s.present && s.nodes == LENT.nodes {
         io::write_all(1, b" x");
         return;
     }
     io::write_all(1, b" ");
-    field(s.nodes);
-    field(s.bytes);
-    field(s.first);
-    field(s.last);
-    io::write_all(1, b"0");
+    for n in [s.nodes, s.bytes, s.first, s.last] {
+        io::print_decimal(1, n as u64);
+        io::write_all(1, b":");
+    }
+    io::print_decimal(1, u64::from(s.present));
 }
 
 fn answer(a: Summed) {
-    let v = a.verdict;
-    match v {
-        Verdict::Accepted => {
-            io::write_all(1, b"summary");
-            console::number(a.symbols);
-        }
-        Verdict::Refused {
-            number: n,
-            place: p,
-        } => console::refusal(n, p),
-    }
+    replay_says::verdict(a.verdict, || {
+        io::write_all(1, b"summary");
+        console::number(a.symbols);
+    });
 }
 
-fn summarise(mode: Mode, text: &[u8], input: &[u8], nodes: &[u32], room: usize)
-    requires { room ≤ 96 }
-{
-    let mark = Summary {
-        nodes: 1,
-        bytes: 0,
-        first: 0,
-        last: 0,
-        present: false,
-    };
-    let l = lend_records(mode, text, input, nodes, mark, room);
-    let a = l.answer;
-    let records = l.records;
-    answer(a);
+fn summarise(mode: Mode, text: &[u8], input: &[u8], nodes: &[u32], records: &mut [Summary]) {
+    answer(gurkenmond::summarise(mode, text, input, nodes, records));
     io::write_all(1, b" ; records");
-    let mut i: usize = 0;
-    while i < room {
-        let s = records[i];
+    for s in &*records {
         record(s);
-        i += 1;
     }
     console::line_end();
 }
 
-// The words' field begins at `at`, and behind it stands the number of records.
-pub fn ask_summary(mode: Mode, text: &[u8], input: &[u8], line: &[u8], at: usize) {
+// The words' field comes next, and behind it the number of records.
+pub fn ask_summary(mode: Mode, text: &[u8], input: &[u8], fields: &mut Fields) -> Option<()> {
     let mut nodes = buffers::nodes();
-    let to = replay_lines::until(line, at);
-    let n = replay_lines::words(line, at, to, &mut nodes);
-    let then = replay_lines::after(line, at);
-    let room = replay_lines::number_at(line, then, RECORDS);
-    if buffers::NODES < n {
-        console::unreadable();
-        return;
-    }
-    if RECORDS < room {
-        console::unreadable();
-        return;
-    }
-    summarise(mode, text, input, &nodes[..n], room);
+    let n = fields.words(&mut nodes)?;
+    let room = fields.number(RECORDS)?;
+    let mut records = [LENT; RECORDS];
+    summarise(mode, text, input, &nodes[..n], &mut records[..room]);
+    Some(())
 }
 
 fn line_and_column(input: &[u8], position: usize) {
     let s = gurkenmond::line_and_column(input, position);
-    let v = s.verdict;
-    match v {
-        Verdict::Accepted => {
-            io::write_all(1, b"at");
-            console::number(s.line);
-            console::number(s.column);
-        }
-        Verdict::Refused {
-            number: n,
-            place: p,
-        } => console::refusal(n, p),
-    }
+    replay_says::verdict(s.verdict, || {
+        io::write_all(1, b"at");
+        console::number(s.line);
+        console::number(s.column);
+    });
     console::line_end();
 }
 
-// The input's field begins at `at`, and behind it stands the position.
-pub fn ask_where(line: &[u8], at: usize) {
-    let to = replay_lines::until(line, at);
-    if !replay_lines::is_bytes(line, at, to, buffers::INPUT) {
-        console::unreadable();
-        return;
-    }
+// The input's field comes next, and behind it the position.
+pub fn ask_where(fields: &mut Fields) -> Option<()> {
     let mut input = buffers::input();
-    let n = replay_lines::decode(line, at, to, &mut input);
-    let then = replay_lines::after(line, at);
-    let position = replay_lines::number_at(line, then, replay_lines::NUMBER_MOST);
-    if replay_lines::NUMBER_MOST < position {
-        console::unreadable();
-        return;
-    }
+    let n = fields.bytes(&mut input)?;
+    let position = fields.number(NUMBER_MOST)?;
     line_and_column(&input[..n], position);
+    Some(())
 }

@@ -2,7 +2,7 @@
 #![tactic(auto)]
 
 use gurkenmond::Mode;
-use replay_lines::buffers;
+use replay_lines::{Fields, buffers};
 
 fn write_json(mode: Mode, text: &[u8], input: &[u8], nodes: &[u32], out: &mut [u8]) {
     let w = gurkenmond::write_json(mode, text, input, nodes, out);
@@ -17,40 +17,22 @@ fn read_json(mode: Mode, text: &[u8], input: &[u8], json: &[u8], nodes: &mut [u3
     console::line_end();
 }
 
-// The words' field begins at `at`, and behind it stands the room for the text.
-pub fn ask_json(mode: Mode, text: &[u8], input: &[u8], line: &[u8], at: usize) {
+// The words' field comes next, and behind it the room for the text.
+pub fn ask_json(mode: Mode, text: &[u8], input: &[u8], fields: &mut Fields) -> Option<()> {
     let mut nodes = buffers::nodes();
-    let to = replay_lines::until(line, at);
-    let n = replay_lines::words(line, at, to, &mut nodes);
-    let then = replay_lines::after(line, at);
-    let k = replay_lines::number_at(line, then, buffers::ROOM);
-    if buffers::NODES < n {
-        console::unreadable();
-        return;
-    }
-    if buffers::ROOM < k {
-        console::unreadable();
-        return;
-    }
+    let n = fields.words(&mut nodes)?;
+    let room = fields.number(buffers::ROOM)?;
     let mut out = buffers::room();
-    write_json(mode, text, input, &nodes[..n], &mut out[..k]);
+    write_json(mode, text, input, &nodes[..n], &mut out[..room]);
+    Some(())
 }
 
-// The JSON text's field begins at `at`, and behind it stands the room for nodes, in words.
-pub fn ask_unjson(mode: Mode, text: &[u8], input: &[u8], line: &[u8], at: usize) {
-    let to = replay_lines::until(line, at);
-    if !replay_lines::is_bytes(line, at, to, buffers::TEXT) {
-        console::unreadable();
-        return;
-    }
+// The JSON text's field comes next, and behind it the room for nodes, in words.
+pub fn ask_unjson(mode: Mode, text: &[u8], input: &[u8], fields: &mut Fields) -> Option<()> {
     let mut json = buffers::text();
-    let n = replay_lines::decode(line, at, to, &mut json);
-    let then = replay_lines::after(line, at);
-    let k = replay_lines::number_at(line, then, buffers::NODES);
-    if buffers::NODES < k {
-        console::unreadable();
-        return;
-    }
+    let n = fields.bytes(&mut json)?;
+    let room = fields.number(buffers::NODES)?;
     let mut nodes = buffers::nodes();
-    read_json(mode, text, input, &json[..n], &mut nodes[..k]);
+    read_json(mode, text, input, &json[..n], &mut nodes[..room]);
+    Some(())
 }

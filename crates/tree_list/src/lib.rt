@@ -2,13 +2,13 @@
 // Lent words may hold anything.
 #![tactic(auto)]
 
-ghost use Rattle.std.specs.Prelude.{◌<◌, ◌≡◌};
+ghost use Rattle.std.specs.Prelude.{◌<◌, ◌≡◌, MatchOption};
+ghost use Rattle.std.proofs.Math.Option.{none, some};
 ghost use Rattle.match_meaning.specs.Meaning.{nd};
-ghost use Rattle.tree_list.specs.Preorder.{gap, root_first, bad_node};
+ghost use Rattle.tree_list.specs.Preorder.{gap, bad_node};
 ghost use Rattle.tree_list.specs.Handing.{node_step_at};
 ghost use Rattle.tree_list.specs.steps.Gaps.{admits_in, Admitted};
 ghost use Rattle.tree_list.specs.steps.Reading.{NodeRead};
-ghost use Rattle.tree_list.specs.steps.Judging.{judged_by};
 
 use match_list::{DEPTH, END, NODE_WORDS, START, SYMBOL};
 
@@ -22,6 +22,7 @@ pub struct Node {
 }
 
 // The next node, if there is one, and the place behind it.
+// `found` beside the rest, and no Option: gurkenmond hands this answer out, and docs/ and the programs name its parts.
 #[derive(Clone, Copy)]
 pub struct NodeStep {
     pub found: bool,
@@ -36,12 +37,8 @@ pub struct NodeReader<'a> {
     pub at: usize,
 }
 
-// Whether words are a list, and else the number of the first bad node.
-#[derive(Clone, Copy)]
-pub struct Judged {
-    pub good: bool,
-    pub place: usize,
-}
+// The longest input (01, refusal 9).
+pub const INPUT_MOST: usize = 65535;
 
 // Two words for each depth that a node can have, and for the one below the deepest.
 pub const GAPS: usize = 514;
@@ -49,66 +46,41 @@ pub const GAPS: usize = 514;
 // The deepest node.
 const DEEPEST: usize = 255;
 
-// Depth 0 for the first node and for no other.
-fn root_first(k: usize, d: usize) -> bool
-    ensures { result ≡ root_first k d }
-{
-    if k == 0 {
-        return d == 0;
-    }
-    1 <= d
-}
-
-// Whether node k may be x, so many depths being possible for it and the gap of its own going from `from` to `to`.
+// Whether node k may be x, so many depths being possible for it and the gap of its own going from `from` to `to`: depth 0 for the first node and for no other.
 fn may_be(depths: usize, symbols: usize, k: usize, x: Node, from: usize, to: usize) -> bool
     ensures { result ≡ admits_in symbols depths (gap from to) k (nd x.symbol x.start x.end x.depth) }
 {
-    let r = x.symbol;
-    let p = x.start;
-    let q = x.end;
-    let d = x.depth;
-    let first = root_first(k, d);
-    if !first {
-        return false;
-    }
-    if DEEPEST < d {
-        return false;
-    }
-    if depths <= d {
-        return false;
-    }
-    if symbols <= r {
-        return false;
-    }
-    if q < p {
-        return false;
-    }
-    if p < from {
-        return false;
-    }
-    q <= to
+    (k == 0) == (x.depth == 0)
+        && x.depth <= DEEPEST
+        && x.depth < depths
+        && x.symbol < symbols
+        && x.start <= x.end
+        && from <= x.start
+        && x.end <= to
 }
 
-// Whether node k may be x, so many depths being possible for it; if so the gaps are those behind it.
+// Whether node k may be x, so many depths being possible for it; if so the gaps are those behind it. They are words in one run, as `Admitted` says them.
 pub fn admit(gaps: &mut [u32; GAPS], depths: usize, symbols: usize, k: usize, x: Node) -> bool
     requires { (x.start < 4294967296) × (x.end < 4294967296) }
     ensures { Admitted symbols k (nd x.symbol x.start x.end x.depth) depths gaps.old gaps.new result }
 {
-    let d = x.depth;
-    let p = x.start;
-    let q = x.end;
-    if DEEPEST < d {
+    let Node {
+        start,
+        end,
+        depth,
+        ..
+    } = x;
+    if DEEPEST < depth {
         return false;
     }
-    let from = base_words::word(gaps, 2 * d);
-    let to = base_words::word(gaps, 2 * d + 1);
-    let may = may_be(depths, symbols, k, x, from, to);
-    if !may {
+    let from = base_words::word(gaps, 2 * depth);
+    let to = base_words::word(gaps, 2 * depth + 1);
+    if !may_be(depths, symbols, k, x, from, to) {
         return false;
     }
-    base_words::put(gaps, 2 * d, q);
-    base_words::put(gaps, 2 * d + 2, p);
-    base_words::put(gaps, 2 * d + 3, q);
+    base_words::put(gaps, 2 * depth, end);
+    base_words::put(gaps, 2 * depth + 2, start);
+    base_words::put(gaps, 2 * depth + 3, end);
     true
 }
 
@@ -118,55 +90,34 @@ fn node_at(words: &[u32], k: usize) -> Node
     ensures { NodeRead words.now k result }
 {
     let i = NODE_WORDS * k;
-    let r = base_words::word(words, i + SYMBOL);
-    let p = base_words::word(words, i + START);
-    let q = base_words::word(words, i + END);
-    let d = base_words::word(words, i + DEPTH);
     Node {
-        symbol: r,
-        start: p,
-        end: q,
-        depth: d,
+        symbol: base_words::word(words, i + SYMBOL),
+        start: base_words::word(words, i + START),
+        end: base_words::word(words, i + END),
+        depth: base_words::word(words, i + DEPTH),
     }
 }
 
 // The first node at which the words are no list, for so many symbols and an input of n bytes.
-pub fn bad_node(nodes: &[u32], symbols: usize, n: usize) -> Judged
+pub fn bad_node(nodes: &[u32], symbols: usize, n: usize) -> Option<usize>
     requires { n < 4294967296 }
-    ensures { result ≡ judged_by (bad_node symbols n nodes.now) }
+    ensures { MatchOption result (bad_node symbols n nodes.now ≡ none) (λ k. bad_node symbols n nodes.now ≡ some k) }
 {
     let room = nodes.len() / NODE_WORDS;
     let mut gaps = [0; GAPS];
     gaps[1] = n as u32;
     let mut depths = 1;
-    let mut k = 0;
-    while k < room {
+    for k in 0..room {
         let x = node_at(nodes, k);
         if !admit(&mut gaps, depths, symbols, k, x) {
-            return Judged {
-                good: false,
-                place: k,
-            };
+            return Some(k);
         }
         depths = x.depth + 2;
-        k += 1;
     }
-    if room == 0 {
-        return Judged {
-            good: false,
-            place: 0,
-        };
+    if room == 0 || NODE_WORDS * room < nodes.len() {
+        return Some(room);
     }
-    if NODE_WORDS * room < nodes.len() {
-        return Judged {
-            good: false,
-            place: room,
-        };
-    }
-    Judged {
-        good: true,
-        place: 0,
-    }
+    None
 }
 
 // Node `at` of lent words, and the place behind it.
@@ -185,20 +136,11 @@ pub fn node_step(words: &[u32], at: usize) -> NodeStep
             next: at,
         };
     }
-    let x = node_at(words, at);
     NodeStep {
         found: true,
-        node: x,
+        node: node_at(words, at),
         next: at + 1,
     }
-}
-
-// The place behind node `at`.
-fn behind(words: &[u32], at: usize) -> usize
-    ensures { result ≡ (node_step_at words.now at).next }
-{
-    let s = node_step(words, at);
-    s.next
 }
 
 // A reader at the first node.
@@ -219,6 +161,8 @@ pub fn next_node<'a>(r: NodeReader<'a>) -> NodeStep
 pub fn behind_node<'a>(r: NodeReader<'a>) -> NodeReader<'a>
     ensures { (result.words ≡ r.entry.words) × (result.at ≡ (node_step_at r.entry.words.now r.entry.at).next) }
 {
-    let at = behind(r.words, r.at);
-    NodeReader { words: r.words, at }
+    NodeReader {
+        words: r.words,
+        at: node_step(r.words, r.at).next,
+    }
 }

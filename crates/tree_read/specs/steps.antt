@@ -1,4 +1,5 @@
 -- What one function of the code does to words: contracts shaped like the code. Laws tie them to the definitions.
+pub mod Places
 pub mod Puts
 pub mod Walks
 pub mod Lists

@@ -1,18 +1,11 @@
 // One node's text: up to its children, and what comes behind it.
-ghost use Rattle.std.specs.Prelude.{◌≤◌, ◌≡◌, false};
+ghost use Rattle.std.specs.Prelude.{◌≤◌, ◌<◌, ◌≡◌, ℕ, false, length, IfSome, MatchOption};
 ghost use Rattle.write_leaves.specs.steps.Printed.{called};
-ghost use Rattle.tree_json.specs.Reading.{closes_at};
+ghost use Rattle.tree_json.specs.Reading.{closes_at, head_at};
 ghost use Rattle.tree_read.specs.steps.Walks.{Headed, Onward};
 
-use crate::{bytes, leaves};
-use leaves::Reading;
-
-// How it goes on behind a node: no list can come of it, the node was the last, there are more.
-pub const NONE: usize = 0;
-
-pub const LAST: usize = 1;
-
-pub const MORE: usize = 2;
+use crate::bytes;
+use crate::leaves::{Reading, eat_chars, find_name, number};
 
 // A node up to its children, and the place behind.
 #[derive(Clone, Copy)]
@@ -23,90 +16,73 @@ pub struct Head {
     pub place: usize,
 }
 
-pub fn read_head(t: &[u32], symbols: usize, input: &[u8], json: &[u8], at: usize) -> Head
+pub fn read_head(t: &[u32], symbols: usize, input: &[u8], json: &[u8], at: usize) -> Option<Head>
     requires { symbols ≤ 64 }
-    ensures { Headed (called false t.now) symbols input.now json.now at result.symbol result.start result.end result.place }
+    ensures head { MatchOption result
+        ((d : ℕ) → length json.now < (head_at (called false t.now) symbols input.now json.now d at).place)
+        (λ h. Headed (called false t.now) symbols input.now json.now at h.symbol h.start h.end h.place) }
+    ensures inside { IfSome result (λ h. h.place ≤ length json.now) }
 {
-    let a = bytes::eat(json, at, b"{\"name\":\"");
-    let r = leaves::find_name(t, symbols, json, a);
-    let symbol = r.value;
-    let b = bytes::eat(json, r.place, b",\"start\":");
-    let p = leaves::number(json, b);
-    let start = p.value;
-    let c = bytes::eat(json, p.place, b",\"end\":");
-    let q = leaves::number(json, c);
-    let end = q.value;
-    let d = bytes::eat(json, q.place, b",\"text\":\"");
-    let e = leaves::eat_chars(json, d, input, start, end);
-    let place = bytes::eat(json, e, b"\",\"children\":[");
-    Head {
-        symbol,
-        start,
-        end,
+    let a = bytes::eat(json, at, b"{\"name\":\"")?;
+    let name = find_name(t, symbols, json, a)?;
+    let b = bytes::eat(json, name.place, b",\"start\":")?;
+    let start = number(json, b)?;
+    let c = bytes::eat(json, start.place, b",\"end\":")?;
+    let end = number(json, c)?;
+    let d = bytes::eat(json, end.place, b",\"text\":\"")?;
+    let e = eat_chars(json, d, input, start.value, end.value)?;
+    let place = bytes::eat(json, e, b"\",\"children\":[")?;
+    Some(Head {
+        symbol: name.value,
+        start: start.value,
+        end: end.value,
         place,
-    }
+    })
 }
 
 // Closing pairs, c at most: how many.
 fn closings(json: &[u8], at: usize, c: usize) -> Reading
     ensures { (result.value ≡ (closes_at c json.now at).value) × (result.place ≡ (closes_at c json.now at).place) × (result.value ≤ c) }
 {
-    let mut n: usize = 0;
-    let mut a = at;
-    while n < c {
-        let b = bytes::eat_close(json, a);
-        if json.len() < b {
-            return Reading { value: n, place: a };
+    let mut place = at;
+    for value in 0..c {
+        match bytes::eat(json, place, b"]}") {
+            Some(a) => place = a,
+            None => return Reading { value, place },
         }
-        a = b;
-        n += 1;
     }
-    Reading { value: n, place: a }
+    Reading { value: c, place }
 }
 
-// How it goes on, and where and how deep the next node is.
+// How it goes on behind a node: it was the last, or the next one has a depth and a place.
 #[derive(Clone, Copy)]
-pub struct Behind {
-    pub kind: usize,
-    pub depth: usize,
-    pub place: usize,
+pub enum Then {
+    Last,
+    More { depth: usize, place: usize },
 }
 
 // Behind the head of a node of depth d: its first child, or closing pairs and a sibling of the last that is closed, or the end.
-pub fn go_on(json: &[u8], at: usize, d: usize) -> Behind
+pub fn go_on(json: &[u8], at: usize, d: usize) -> Option<Then>
     requires { d ≤ 256 }
-    ensures { Onward json.now d at result.kind result.depth result.place }
+    ensures { Onward json.now d at result }
 {
     let deeper = d + 1;
-    let c = closings(json, at, deeper);
-    let n = c.value;
-    let a = c.place;
-    if n == deeper {
-        if a == json.len() {
-            return Behind {
-                kind: LAST,
-                depth: 0,
-                place: a,
-            };
+    let Reading { value, place } = closings(json, at, deeper);
+    if value == deeper {
+        if place == json.len() {
+            return Some(Then::Last);
         }
-        return Behind {
-            kind: NONE,
-            depth: 0,
-            place: a,
-        };
+        return None;
     }
-    if n == 0 {
-        return Behind {
-            kind: MORE,
+    if value == 0 {
+        return Some(Then::More {
             depth: deeper,
-            place: a,
-        };
+            place,
+        });
     }
-    let b = bytes::eat_byte(json, a, 44);
-    let depth = deeper - n;
-    Behind {
-        kind: MORE,
-        depth,
-        place: b,
-    }
+    let place = bytes::eat(json, place, b",")?;
+    Some(Then::More {
+        depth: deeper - value,
+        place,
+    })
 }

@@ -11,13 +11,14 @@ ghost use Rattle.tree_read.specs.steps.Lists.{not_read, ReadList};
 
 use grammar_table::Table;
 use prepare::Verdict;
+use tree_list::INPUT_MOST;
 
 pub mod bytes;
 pub mod heads;
 pub mod leaves;
 pub mod nodes;
 
-// How many nodes were written.
+// How many nodes were written. As every answer of a call: a number beside a verdict (01).
 #[derive(Clone, Copy)]
 pub struct Parsed {
     pub nodes: usize,
@@ -30,35 +31,25 @@ pub fn put_nodes(t: &Table, symbols: usize, input: &[u8], json: &[u8], nodes: &m
     ensures { (result ≡ parsed_by (parsed (called false t.now) symbols input.now json.now) nodes.old)
         × (nodes.new ≡ words_by (parsed (called false t.now) symbols input.now json.now) nodes.old) }
 {
-    let n = nodes::walk(t, symbols, input, json, nodes, false);
-    if n == 0 {
-        return Parsed {
-            nodes: 0,
-            verdict: Verdict::Refused {
-                number: 16,
-                place: 0,
-            },
-        };
-    }
+    let Some(n) = nodes::walk(t, symbols, input, json, &mut []) else {
+        return not_read(Verdict::Refused {
+            number: 16,
+            place: 0,
+        });
+    };
     let room = nodes.len() / match_list::NODE_WORDS;
     if room < n {
-        return Parsed {
-            nodes: 0,
-            verdict: Verdict::Refused {
-                number: 12,
-                place: room,
-            },
-        };
+        return not_read(Verdict::Refused {
+            number: 12,
+            place: room,
+        });
     }
-    nodes::walk(t, symbols, input, json, nodes, true);
+    nodes::walk(t, symbols, input, json, nodes);
     Parsed {
         nodes: n,
         verdict: Verdict::Accepted,
     }
 }
-
-// The longest input (01, refusal 9).
-const INPUT_MOST: usize = 65535;
 
 // A refusal, handed on.
 pub fn not_read(v: Verdict) -> Parsed
@@ -76,13 +67,11 @@ pub fn read_list(t: &Table, input: &[u8], json: &[u8], nodes: &mut [u32]) -> Par
     ensures { ReadList input.now (parsed (called false t.now) (symbol_count t.now) input.now json.now)
         nodes.old nodes.new result }
 {
-    let n = input.len();
-    if INPUT_MOST < n {
+    if INPUT_MOST < input.len() {
         return not_read(Verdict::Refused {
             number: 9,
             place: INPUT_MOST,
         });
     }
-    let symbols = prepare::symbols(t);
-    put_nodes(t, symbols, input, json, nodes)
+    put_nodes(t, prepare::symbols(t), input, json, nodes)
 }

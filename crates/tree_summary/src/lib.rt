@@ -5,14 +5,16 @@
 ghost use Rattle.std.specs.Prelude.{suc, ◌-◌, ◌<◌, ◌≤◌, max, ◌≡◌, cond, leb, length, get_or, set};
 ghost use Rattle.grammar_table.specs.Table.{symbol_count};
 ghost use Rattle.tree_summary.specs.Summary.{absent};
-ghost use Rattle.tree_summary.specs.Adding.{clearing, changed_by};
+ghost use Rattle.tree_summary.specs.Adding.{changed_by};
 ghost use Rattle.tree_summary.specs.steps.Sweeping.{at_first, sweep_at, stepped, Sweepable, Fits};
 ghost use Rattle.tree_summary.specs.steps.Judging.{summary_checks, no_plan, plan_by};
 
 use grammar_table::Table;
 use prepare::Verdict;
+use tree_list::{INPUT_MOST, Node};
 
-// The record of a symbol; without a node it is all zeros and not present. Laid out as C does: other languages lend such records too.
+// The record of a symbol; without a node it is all zeros and not present. Laid out as C does: other languages lend such records too, so `present` beside the
+// numbers and no Option.
 #[repr(C)]
 #[derive(Clone, Copy)]
 pub struct Summary {
@@ -23,12 +25,11 @@ pub struct Summary {
     pub present: bool,
 }
 
-// What happens to a record: node `number` is added with so many bytes, or it is made absent.
+// What happens to a record: it is made absent, or node `number` is added with so many bytes.
 #[derive(Clone, Copy)]
-pub struct Change {
-    pub adds: bool,
-    pub number: usize,
-    pub bytes: usize,
+pub enum Change {
+    Clear,
+    Add { number: usize, bytes: usize },
 }
 
 // A step of a pass: the record that it changes, the change, and the farthest end of each symbol's nodes behind it.
@@ -39,7 +40,7 @@ pub struct Sweep {
     pub reach: [u16; 64],
 }
 
-// For how many symbols a record was written.
+// For how many symbols a record was written. As every answer of a call: a number beside a verdict (01).
 #[derive(Clone, Copy)]
 pub struct Summed {
     pub symbols: usize,
@@ -54,37 +55,26 @@ pub struct Plan {
     pub answer: Summed,
 }
 
-// The number of a symbol's first node, this one being added.
-fn first_of(old: Summary, number: usize) -> usize
-    ensures { result ≡ cond old.present old.first number }
-{
-    if old.present {
-        return old.first;
-    }
-    number
-}
-
 // A record after a change.
 fn changed(old: Summary, u: Change) -> Summary
     requires { Fits old u }
     ensures { result ≡ changed_by old u }
 {
-    if u.adds {
-        let first = first_of(old, u.number);
-        return Summary {
+    match u {
+        Change::Clear => Summary {
+            nodes: 0,
+            bytes: 0,
+            first: 0,
+            last: 0,
+            present: false,
+        },
+        Change::Add { number, bytes } => Summary {
             nodes: old.nodes + 1,
-            bytes: old.bytes + u.bytes,
-            first,
-            last: u.number,
+            bytes: old.bytes + bytes,
+            first: if old.present { old.first } else { number },
+            last: number,
             present: true,
-        };
-    }
-    Summary {
-        nodes: 0,
-        bytes: 0,
-        first: 0,
-        last: 0,
-        present: false,
+        },
     }
 }
 
@@ -93,9 +83,7 @@ fn update(records: &mut [Summary], r: usize, u: Change)
     requires { (r < length records.old) × Fits (get_or records.old r absent) u }
     ensures { records.new ≡ set records.old r (changed_by (get_or records.old r absent) u) }
 {
-    let old = records[r];
-    let new = changed(old, u);
-    records[r] = new;
+    records[r] = changed(records[r], u);
 }
 
 // Before the first step.
@@ -104,11 +92,7 @@ fn begun() -> Sweep
 {
     Sweep {
         place: 0,
-        change: Change {
-            adds: false,
-            number: 0,
-            bytes: 0,
-        },
+        change: Change::Clear,
         reach: [0; 64],
     }
 }
@@ -118,25 +102,7 @@ fn bytes_added(far: usize, p: usize, q: usize) -> usize
     requires { p ≤ q }
     ensures { result ≡ cond (leb far p) (q - p) 0 }
 {
-    if far <= p {
-        return q - p;
-    }
-    0
-}
-
-fn wide(x: u16) -> usize
-    ensures { result ≡ x }
-{
-    x as usize
-}
-
-// The farthest end of the nodes of symbol r.
-fn farthest(reach: &[u16; 64], r: usize) -> usize
-    requires { r < 64 }
-    ensures { result ≡ get_or reach.now r 0 }
-{
-    let x = reach[r];
-    wide(x)
+    if far <= p { q - p } else { 0 }
 }
 
 // The farthest ends once a node of symbol r ends at q.
@@ -144,11 +110,7 @@ fn reach_to(reach: &mut [u16; 64], r: usize, q: usize)
     requires { (r < 64) × (q < 65536) }
     ensures { reach.new ≡ set reach.old r (max q (get_or reach.old r 0)) }
 {
-    let far = farthest(reach, r);
-    if q <= far {
-        return;
-    }
-    reach[r] = q as u16;
+    reach[r] = reach[r].max(q as u16);
 }
 
 // Step i: the first steps make the records absent, one each, then one adds each node.
@@ -160,30 +122,22 @@ fn step(nodes: &[u32], symbols: usize, s: Sweep, i: usize) -> Sweep
     if i < symbols {
         return Sweep {
             place: i,
-            change: Change {
-                adds: false,
-                number: 0,
-                bytes: 0,
-            },
+            change: Change::Clear,
             reach,
         };
     }
-    let k = i - symbols;
-    let handed = tree_list::node_step(nodes, k);
-    let x = handed.node;
-    let r = x.symbol;
-    let p = x.start;
-    let q = x.end;
-    let far = farthest(&reach, r);
-    let bytes = bytes_added(far, p, q);
-    reach_to(&mut reach, r, q);
+    let number = i - symbols;
+    let Node {
+        symbol,
+        start,
+        end,
+        ..
+    } = tree_list::node_step(nodes, number).node;
+    let bytes = bytes_added(usize::from(reach[symbol]), start, end);
+    reach_to(&mut reach, symbol, end);
     Sweep {
-        place: r,
-        change: Change {
-            adds: true,
-            number: k,
-            bytes,
-        },
+        place: symbol,
+        change: Change::Add { number, bytes },
         reach,
     }
 }
@@ -194,16 +148,11 @@ pub fn update_all(records: &mut [Summary], nodes: &[u32], symbols: usize, steps:
     ensures { records.new ≡ stepped nodes.now symbols steps records.old }
 {
     let mut s = begun();
-    let mut i = 0;
-    while i < steps {
+    for i in 0..steps {
         s = step(nodes, symbols, s, i);
         update(records, s.place, s.change);
-        i += 1;
     }
 }
-
-// The longest input (01, refusal 9).
-const INPUT_MOST: usize = 65535;
 
 // A refusal, handed on.
 pub fn no_plan(v: Verdict) -> Plan
@@ -224,20 +173,15 @@ pub fn judge(t: &Table, input: &[u8], nodes: &[u32], room: usize) -> Plan
     ensures { result ≡ plan_by (summary_checks (symbol_count t.now) input.now nodes.now room) (symbol_count t.now)
         nodes.now }
 {
-    let n = input.len();
-    if INPUT_MOST < n {
+    if INPUT_MOST < input.len() {
         return no_plan(Verdict::Refused {
             number: 9,
             place: INPUT_MOST,
         });
     }
     let symbols = grammar_table::records::symbols(t);
-    let j = tree_list::bad_node(nodes, symbols, n);
-    if !j.good {
-        return no_plan(Verdict::Refused {
-            number: 15,
-            place: j.place,
-        });
+    if let Some(place) = tree_list::bad_node(nodes, symbols, input.len()) {
+        return no_plan(Verdict::Refused { number: 15, place });
     }
     if room < symbols {
         return no_plan(Verdict::Refused {

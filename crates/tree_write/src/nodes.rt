@@ -1,138 +1,102 @@
 // The nodes of a list, one after the other (02, par. 1). The words may hold anything.
-ghost use Rattle.std.specs.Prelude.{false, ◌++◌, ◌-◌, ◌≤◌, ◌<◌, take, drop};
+ghost use Rattle.std.specs.Prelude.{false, ◌++◌, ◌-◌, ◌≡◌, ◌<◌, take, drop};
 ghost use Rattle.match_list.specs.Nodes.{room_of, node_at, nodes_at};
-ghost use Rattle.write_leaves.specs.steps.Pen.{most, Penned};
+ghost use Rattle.write_leaves.specs.steps.Pen.{after};
 ghost use Rattle.write_leaves.specs.steps.Printed.{called};
 ghost use Rattle.tree_json.specs.Json.{head_json, closings, json_text};
 ghost use Rattle.tree_write.specs.steps.Nodes.{name_member, span_members, text_member, behind_at};
 
 use crate::values;
 use match_list::{DEPTH, END, NODE_WORDS, START, SYMBOL};
-use write_leaves::bytes;
+use write_leaves::bytes::Pen;
 
 // Symbol r's name.
-fn name(t: &[u32], out: &mut [u8], write: bool, at: usize, r: usize) -> usize
-    requires { (at ≤ most) × (r < 4294967296) }
-    ensures { Penned write (name_member (called false t.now r)) out.old at out.new result }
+fn name(t: &[u32], pen: &mut Pen, r: usize)
+    requires { r < 4294967296 }
+    ensures { pen.new ≡ after pen.old (name_member (called false t.now r)) }
 {
-    let a = values::string(b"{\"name\":\"", out, write, at);
-    let b = write_leaves::leaves::symbol(t, out, write, false, a, r);
-    bytes::emit(out, write, b, 34)
+    pen.emit_all(b"{\"name\":\"");
+    pen.symbol(t, false, r);
+    pen.emit(b'"');
 }
 
 // Where a node starts and ends.
-fn span(out: &mut [u8], write: bool, at: usize, p: usize, q: usize) -> usize
-    requires { at ≤ most }
-    ensures { Penned write (span_members p q) out.old at out.new result }
+fn span(pen: &mut Pen, p: usize, q: usize)
+    ensures { pen.new ≡ after pen.old (span_members p q) }
 {
-    let a = values::string(b",\"start\":", out, write, at);
-    let b = values::number(out, write, a, p);
-    let c = values::string(b",\"end\":", out, write, b);
-    values::number(out, write, c, q)
+    pen.emit_all(b",\"start\":");
+    values::number(pen, p);
+    pen.emit_all(b",\"end\":");
+    values::number(pen, q);
 }
 
 // The input's part from p to q, up to where a node's children come.
-fn part(input: &[u8], out: &mut [u8], write: bool, at: usize, p: usize, q: usize) -> usize
-    requires { at ≤ most }
-    ensures { Penned write (text_member (take (q - p) (drop p input.now))) out.old at out.new result }
+fn part(input: &[u8], pen: &mut Pen, p: usize, q: usize)
+    ensures { pen.new ≡ after pen.old (text_member (take (q - p) (drop p input.now))) }
 {
-    let a = values::string(b",\"text\":\"", out, write, at);
-    let b = values::chars(input, out, write, a, p, q);
-    values::string(b"\",\"children\":[", out, write, b)
+    pen.emit_all(b",\"text\":\"");
+    values::chars(input, pen, p, q);
+    pen.emit_all(b"\",\"children\":[");
 }
 
+// Here and below what is lent goes on as it came: `json_text` names each, and each function takes no more of it than it reads.
 // Node k up to its children.
-fn head(
-    t: &[u32],
-    input: &[u8],
-    nodes: &[u32],
-    out: &mut [u8],
-    write: bool,
-    at: usize,
-    k: usize,
-) -> usize
-    requires { (at ≤ most) × (k < room_of nodes.now) }
-    ensures { Penned write (head_json (called false t.now) input.now (node_at nodes.now k))
-        out.old at out.new result }
+fn head(t: &[u32], input: &[u8], nodes: &[u32], pen: &mut Pen, k: usize)
+    requires { k < room_of nodes.now }
+    ensures { pen.new ≡ after pen.old (head_json (called false t.now) input.now (node_at nodes.now k)) }
 {
     let i = NODE_WORDS * k;
     let r = base_words::word(nodes, i + SYMBOL);
     let p = base_words::word(nodes, i + START);
     let q = base_words::word(nodes, i + END);
-    let a = name(t, out, write, at, r);
-    let b = span(out, write, a, p, q);
-    part(input, out, write, b, p, q)
+    name(t, pen, r);
+    span(pen, p, q);
+    part(input, pen, p, q);
 }
 
 // c nodes are closed.
-fn close(out: &mut [u8], write: bool, at: usize, c: usize) -> usize
-    requires { at ≤ most }
-    ensures { Penned write (closings c) out.old at out.new result }
+fn close(pen: &mut Pen, c: usize)
+    ensures { pen.new ≡ after pen.old (closings c) }
 {
-    let mut i: usize = 0;
-    let mut a = at;
-    while i < c {
-        a = bytes::emit2(out, write, a, 93, 125);
-        i += 1;
+    for _ in 0..c {
+        pen.emit_all(b"]}");
     }
-    a
 }
 
 // What stands between node k's head and the next, or the text's end.
-fn behind(nodes: &[u32], out: &mut [u8], write: bool, at: usize, k: usize) -> usize
-    requires { (at ≤ most) × (k < room_of nodes.now) }
-    ensures { Penned write (behind_at nodes.now k) out.old at out.new result }
+fn behind(nodes: &[u32], pen: &mut Pen, k: usize)
+    requires { k < room_of nodes.now }
+    ensures { pen.new ≡ after pen.old (behind_at nodes.now k) }
 {
-    let d = base_words::word(nodes, NODE_WORDS * k + DEPTH);
-    let n = nodes.len() / NODE_WORDS;
+    let child = base_words::word(nodes, NODE_WORDS * k + DEPTH) + 1;
     let j = k + 1;
-    if j == n {
-        return close(out, write, at, d + 1);
+    if j == nodes.len() / NODE_WORDS {
+        close(pen, child);
+        return;
     }
-    let e = base_words::word(nodes, NODE_WORDS * j + DEPTH);
-    let child = d + 1;
-    if e == child {
-        return at;
+    let next = base_words::word(nodes, NODE_WORDS * j + DEPTH);
+    if next == child {
+        return;
     }
-    // no list that passed check 15 has such a node
-    if child < e {
-        return bytes::emit(out, write, at, 44);
-    }
-    let a = close(out, write, at, child - e);
-    bytes::emit(out, write, a, 44)
+    // a depth beyond the child's closes nothing: no list that passed check 15 has such a node
+    close(pen, child.saturating_sub(next));
+    pen.emit(b',');
 }
 
 // Node k with what stands behind its head.
-fn node(
-    t: &[u32],
-    input: &[u8],
-    nodes: &[u32],
-    out: &mut [u8],
-    write: bool,
-    at: usize,
-    k: usize,
-) -> usize
-    requires { (at ≤ most) × (k < room_of nodes.now) }
-    ensures { Penned write
-        (head_json (called false t.now) input.now (node_at nodes.now k) ++ behind_at nodes.now k)
-        out.old at out.new result }
+fn node(t: &[u32], input: &[u8], nodes: &[u32], pen: &mut Pen, k: usize)
+    requires { k < room_of nodes.now }
+    ensures { pen.new ≡ after pen.old (head_json (called false t.now) input.now (node_at nodes.now k) ++ behind_at nodes.now k) }
 {
-    let a = head(t, input, nodes, out, write, at, k);
-    behind(nodes, out, write, a, k)
+    head(t, input, nodes, pen, k);
+    behind(nodes, pen, k);
 }
 
 // All nodes.
-pub fn text(t: &[u32], input: &[u8], nodes: &[u32], out: &mut [u8], write: bool) -> usize
-    ensures { Penned write
-        (json_text (called false t.now) input.now (nodes_at nodes.now 0 (room_of nodes.now)))
-        out.old 0 out.new result }
+pub fn text(t: &[u32], input: &[u8], nodes: &[u32], pen: &mut Pen)
+    ensures { pen.new ≡ after pen.old (json_text (called false t.now) input.now (nodes_at nodes.now 0 (room_of nodes.now))) }
 {
-    let n = nodes.len() / NODE_WORDS;
-    let mut k: usize = 0;
-    let mut a: usize = 0;
-    while k < n {
-        a = node(t, input, nodes, out, write, a, k);
-        k += 1;
+    for k in 0..nodes.len() / NODE_WORDS {
+        node(t, input, nodes, pen, k);
     }
-    a
 }

@@ -1,4 +1,3 @@
 -- What one function of the code does to words: contracts shaped like the code. Laws tie them to the definitions.
 pub mod Pen
 pub mod Printed
-pub mod Turned

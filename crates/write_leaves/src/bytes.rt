@@ -1,98 +1,82 @@
 // Bytes, and characters of literals and classes.
-ghost use Rattle.std.specs.Prelude.{◌≡◌, List, [], ◌∷◌, ℕ, ◌≤◌, ◌<◌, length};
+ghost use Rattle.std.specs.Prelude.{◌≡◌, List, [], ◌∷◌, ℕ};
 ghost use Rattle.write_rules.specs.Writing.{byte_text, lit_char, class_char};
-ghost use Rattle.write_leaves.specs.steps.Pen.{most, Penned};
+ghost use Rattle.write_leaves.specs.steps.Pen.{after};
 
-// One byte.
-pub fn emit(out: &mut [u8], write: bool, at: usize, b: u8) -> usize
-    requires { at ≤ most }
-    ensures { Penned write (b ∷ []) out.old at out.new result }
-{
-    if at >= 9223372036854775808 {
-        return at;
+// Lent room, and the place behind what was written. Past the room's end nothing is stored and the place goes on: a pen over no room counts.
+#[derive(Drop)]
+pub struct Pen<'a> {
+    pub out: &'a mut [u8],
+    pub at: usize,
+}
+
+// No room is as long as this: counts stop here.
+const MOST: usize = 9223372036854775808;
+
+impl<'a> Pen<'a> {
+    // A pen at the front of the room.
+    pub fn new(out: &'a mut [u8]) -> Pen<'a>
+        ensures { (result.out ≡ out.entry) × (result.at ≡ 0) }
+    {
+        Pen { out, at: 0 }
     }
-    if write {
-        if at < out.len() {
-            out[at] = b;
-            return at + 1;
+
+    // One byte.
+    #[tactic(auto, unfolding(crate::specs::steps::Pen::after))]
+    pub fn emit(&mut self, b: u8)
+        ensures { self.new ≡ after self.old (b ∷ []) }
+    {
+        if self.at < self.out.len() {
+            self.out[self.at] = b;
         }
-        return at + 1;
+        if self.at < MOST {
+            self.at += 1;
+        }
     }
-    at + 1
-}
 
-pub fn emit2(out: &mut [u8], write: bool, at: usize, a: u8, b: u8) -> usize
-    requires { at ≤ most }
-    ensures { Penned write (a ∷ b ∷ []) out.old at out.new result }
-{
-    let i = emit(out, write, at, a);
-    emit(out, write, i, b)
-}
+    // Bytes as they are.
+    pub fn emit_all(&mut self, bytes: &[u8])
+        ensures { self.new ≡ after self.old bytes.now }
+    {
+        for b in bytes {
+            self.emit(*b);
+        }
+    }
 
-pub fn emit4(out: &mut [u8], write: bool, at: usize, a: u8, b: u8, c: u8, d: u8) -> usize
-    requires { at ≤ most }
-    ensures { Penned write (a ∷ b ∷ c ∷ d ∷ []) out.old at out.new result }
-{
-    let i = emit2(out, write, at, a, b);
-    emit2(out, write, i, c, d)
-}
+    // A byte that has no meaning of its own where it stands.
+    pub fn byte_text(&mut self, c: u8)
+        ensures { self.new ≡ after self.old (byte_text c) }
+    {
+        match c {
+            b'\\' => self.emit_all(b"\\\\"),
+            b'\n' => self.emit_all(b"\\n"),
+            b'\r' => self.emit_all(b"\\r"),
+            b'\t' => self.emit_all(b"\\t"),
+            32..=126 | 192.. => self.emit(c),
+            _ => self.emit_all(&[b'\\', b'0' + c / 64, b'0' + c / 8 % 8, b'0' + c % 8]),
+        }
+    }
 
-// A byte that has no meaning of its own where it stands.
-pub fn byte_text(out: &mut [u8], write: bool, at: usize, c: u8) -> usize
-    requires { at ≤ most }
-    ensures { Penned write (byte_text c) out.old at out.new result }
-{
-    if c == 92 {
-        return emit2(out, write, at, 92, 92);
+    // A character of a literal.
+    pub fn lit_char(&mut self, c: u8)
+        ensures { self.new ≡ after self.old (lit_char c) }
+    {
+        match c {
+            b'\'' => self.emit_all(b"\\'"),
+            _ => self.byte_text(c),
+        }
     }
-    if c == 10 {
-        return emit2(out, write, at, 92, 110);
-    }
-    if c == 13 {
-        return emit2(out, write, at, 92, 114);
-    }
-    if c == 9 {
-        return emit2(out, write, at, 92, 116);
-    }
-    if 192 <= c {
-        return emit(out, write, at, c);
-    }
-    if c < 32 {
-        return emit4(out, write, at, 92, 48 + c / 64, 48 + c / 8 % 8, 48 + c % 8);
-    }
-    if c <= 126 {
-        return emit(out, write, at, c);
-    }
-    emit4(out, write, at, 92, 48 + c / 64, 48 + c / 8 % 8, 48 + c % 8)
-}
 
-// A character of a literal.
-pub fn lit_char(out: &mut [u8], write: bool, at: usize, c: u8) -> usize
-    requires { at ≤ most }
-    ensures { Penned write (lit_char c) out.old at out.new result }
-{
-    if c == 39 {
-        return emit2(out, write, at, 92, 39);
+    // A character of a class.
+    pub fn class_char(&mut self, c: u8)
+        ensures { self.new ≡ after self.old (class_char c) }
+    {
+        match c {
+            b'[' => self.emit_all(b"\\["),
+            b']' => self.emit_all(b"\\]"),
+            b'-' => self.emit_all(b"\\055"),
+            b'^' => self.emit_all(b"\\136"),
+            _ => self.byte_text(c),
+        }
     }
-    byte_text(out, write, at, c)
-}
-
-// A character of a class.
-pub fn class_char(out: &mut [u8], write: bool, at: usize, c: u8) -> usize
-    requires { at ≤ most }
-    ensures { Penned write (class_char c) out.old at out.new result }
-{
-    if c == 91 {
-        return emit2(out, write, at, 92, 91);
-    }
-    if c == 93 {
-        return emit2(out, write, at, 92, 93);
-    }
-    if c == 45 {
-        return emit4(out, write, at, 92, 48, 53, 53);
-    }
-    if c == 94 {
-        return emit4(out, write, at, 92, 49, 51, 54);
-    }
-    byte_text(out, write, at, c)
 }

@@ -1,5 +1,5 @@
-// The leaves of a text (01, Writing): bytes, names and terminals. Every function writes from `at` on and answers the place behind; with `write` false it only
-// counts, so that the bytes needed are known before one is written.
+// The leaves of a text (01, Writing): bytes, names and terminals, written by a pen. A pen over no room only counts, so that the bytes needed are known before
+// one is written.
 #![tactic(auto)]
 
 pub mod bytes;

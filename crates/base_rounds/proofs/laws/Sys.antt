@@ -1,18 +1,19 @@
 -- A system of sets: base sets, and edges given by two lists. Assumes nothing.
-use Rattle.std.specs.Prelude.{◌≡◌, refl, ◌⊎◌, Bool, true, false, List, [], ◌∷◌, ◌++◌, ℕ, zero, suc, ◌+◌, ◌*◌, ◌^◌, ◌≤◌, ◌<◌, length, get_or, replicate}
-use Rattle.std.proofs.Common.{sym, ap, ◌∙◌, subst, inl, inr, ⊎_elim, add-one, arith}
+use Rattle.std.specs.Prelude.{◌≡◌, List, [], ◌∷◌, ◌++◌, ℕ, zero, suc, ◌+◌, ◌*◌, ◌≤◌, ◌<◌, length, get_or, set}
+use Rattle.std.proofs.Common.{sym, subst, ⊎_elim, add-one, arith}
 use Rattle.base_facts.specs.laws.Numbers.{lt-or-ge}
 use Rattle.base_words.specs.Set.{union_of, empty}
-use Rattle.base_rounds.specs.Rounds.{First, iter}
 use Rattle.base_rounds.specs.laws.Cells.{Every}
-use Rattle.base_rounds.specs.Flow.{Edge, flow, hand_on}
+use Rattle.base_rounds.specs.Flow.{Edge}
 use Rattle.base_rounds.specs.laws.Flow.{Inside}
 use Rattle.base_rounds.proofs.laws.Flow.{flow-more, bound}
 use Rattle.base_rounds.specs.laws.Pair.{Set2, pair, pair-joins}
-use Rattle.base_rounds.specs.laws.Sys.{edge, edges, pushed, round_of, empties, round_at, Shaped, Moved}
+use Rattle.base_rounds.specs.laws.Sys.{edge, edges, pushed, round_of, round_at, Shaped, Moved}
 
-pub pushed_more : (src dst : List ℕ) (m : ℕ) (old acc : List (List ℕ)) → pushed src dst (m + 1) old acc ≡ hand_on union_of [] (edge src dst m) old (pushed src dst m old acc)
-pushed_more src dst m old acc = rw add-one (flow-more union_of [] (edges src dst m) (edge src dst m) old acc)
+-- one edge more, which hands on from f to t
+pub pushed_more : (src dst : List ℕ) (m f t : ℕ) (old acc new : List (List ℕ)) (u : List ℕ) → f ≡ get_or src m 0 → t ≡ get_or dst m 0 → new ≡ pushed src dst m old acc
+    → u ≡ union_of (get_or new t []) (get_or old f []) → set new t u ≡ pushed src dst (m + 1) old acc
+pushed_more src dst m f t old acc new u p q e g = rw (g, p, q, e, add-one) (sym (flow-more union_of [] (edges src dst m) (edge src dst m) old acc))
 
 inside-more : (n : ℕ) (es : List Edge) (e : Edge) → Inside n es → e.from < n → e.to < n → Inside n (es ++ (e ∷ []))
 inside-more n [] e h p q = (p, q, tt)

@@ -94,7 +94,7 @@ module _ (m : Mode) (t : List ℕ) where
           found_at 5 (FirstToken (Ruleless xs) n xs) (unruled (lefts_in xs) xs) (finds-so n (Ruleless xs) xs (unruled (lefts_in xs) xs) w) (finds-it n (Ruleless xs) xs (unruled (lefts_in xs) xs) w)
 
   by-scan : scanned m t ≡ none → GrammarOf m t (rules_of m t)
-  by-scan ok = let w = grammar-of m t (clean m t (ap (λ (o : Option Refusal). (found o).number) ok)) in (w.0, w.1.reads, w.2)
+  by-scan ok = let w = grammar-of m t (clean m t (ap found ok)) in (w.0, w.1.reads, w.2)
 
   -- READING: where no row of 1 to 5 holds, the rules that are worked with are the grammar of the text
   pub reading : NoRow (text_checks m t) → GrammarOf m t (prepared m t).rules

@@ -10,7 +10,7 @@ use Rattle.gurkenmond.specs.declared.SetsOf.{SetsOf}
 use Rattle.gurkenmond.specs.declared.Lakes.{Lakes}
 use Rattle.match_run.specs.declared.Match.{Match}
 use Rattle.match_run.specs.declared.Outcome.{Outcome}
-use Rattle.match_ask.specs.declared.Way.{Way}
+use Rattle.match_lake.specs.declared.ways.Way.{Way}
 use Rattle.match_ask.specs.declared.LakeWay.{LakeWay}
 use Rattle.write_put.specs.declared.Written.{Written}
 use Rattle.tree_list.specs.declared.NodeStep.{NodeStep}

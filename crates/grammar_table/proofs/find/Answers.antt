@@ -1,55 +1,20 @@
-use Prim.Native.Nat.{ℕ, ◌+◌, ◌-◌, ◌*◌}
-use mathlib.Core.Path.{◌≡◌, sym, ap, ◌∙◌}
-use native.Mathlib.Omega.{arith}
-use Rattle.grammar_table.specs.laws.Seeks.{seek-whole, seek_hit, seek-on, seek-end, left-on}
+use Rattle.std.proofs.Common.{arith, sym, ap, ◌∙◌, ℕ, ◌+◌, ◌-◌, mul-suc}
+use Rattle.grammar_table.specs.laws.Seeks.{seek-whole, seek_hit, seek-on, seek-end}
+use Rattle.grammar_table.specs.steps.Rows.{seek}
 use Rattle.grammar_table.proofs.find.Goals as goal
 
 pub loop-i-init : goal.loop-i-init
-loop-i-init c = (
-  omega arith,
-  ap (λ (x : ℕ). c.args.base + c.args.width * x)
-      (let e : c.args.n - 0 ≡ c.args.n = omega arith in e),
-  seek-whole _ _ _ _ _ _,
-)
-
-pub same_record-requires : goal.same_record-requires
-same_record-requires c = (
-  c.requires.0,
-  omega (
-    arith,
-    c.requires.1,
-    c.loop-i.invariant.1,
-    left-on c.args.width
-        c.args.n c.loop-i.i c.loop-i-test.true,
-  ),
-)
+loop-i-init c = seek-whole _ _ _ _ _ _ ∙ ap (λ (b : ℕ). 0 + seek c.args.t.now c.args.rec.now c.args.o c.args.width b (c.args.n - 0)) (omega arith)
 
 pub returns-then-same_record : goal.returns-then-same_record
-returns-then-same_record c = sym (c.loop-i.invariant.2 ∙ seek_hit _ _ _ _ _ _ _ c.loop-i-test.true (sym c.same_record.ensures ∙ c.if-same_record.true))
-
-pub overflow_add-b : goal.overflow_add-b
-overflow_add-b c = omega (
-  arith,
-  c.requires.1,
-  c.loop-i.invariant.1,
-  left-on
-      c.args.width c.args.n c.loop-i.i
-      c.loop-i-test.true,
-)
+returns-then-same_record c = sym (c.loop-i.invariant ∙ seek_hit _ _ _ _ _ _ _ c.loop-i-test.true (sym c.same_record.ensures ∙ c.if-same_record.true))
 
 pub loop-i-preserved : goal.loop-i-preserved
-loop-i-preserved c = (
-  omega arith,
-  omega (
-    arith,
-    c.loop-i.invariant.1,
-    left-on c.args.width
-        c.args.n c.loop-i.i
-        c.loop-i-test.true,
-  ),
-  c.loop-i.invariant.2 ∙ seek-on _ _ _ _ _ _ _ c.loop-i-test.true
-      (sym c.same_record.ensures ∙ c.if-same_record.false),
-)
+loop-i-preserved c =
+    c.loop-i.invariant ∙ seek-on _ _ _ _ _ _ _ c.loop-i-test.true (sym c.same_record.ensures ∙ c.if-same_record.false)
+    ∙ ap (λ (b : ℕ). c.loop-i.i + 1 + seek c.args.t.now c.args.rec.now c.args.o c.args.width b (c.args.n - (c.loop-i.i + 1))) (omega (arith, mul-suc c.args.width c.loop-i.i))
 
 pub returns : goal.returns
-returns c = sym (c.loop-i.invariant.2 ∙ seek-end _ _ _ _ _ _ _ c.loop-i-test.false)
+returns c =
+    let e = c.loop-i.invariant ∙ seek-end _ _ _ _ _ _ _ c.loop-i-test.false in
+    omega (arith, e)

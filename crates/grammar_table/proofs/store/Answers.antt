@@ -12,7 +12,7 @@ loop-k-init c = stores-whole _ _ _ _
 
 pub loop-k-preserved : goal.loop-k-preserved
 loop-k-preserved c = c.loop-k.invariant ∙ stores-on _ _ _ _ _ _ c.loop-k-test.true
-    c.word-x.ensures.0 ∙ ap
+    c.word.ensures.0 ∙ ap
     (λ (l : List ℕ). sets l (c.args.at + (c.loop-k.k + 1))
     (words_from c.args.from.now (c.loop-k.k + 1)
     (c.args.n - (c.loop-k.k + 1)))) (sym c.put.ensures)

@@ -6,6 +6,3 @@ use Rattle.grammar_table.proofs.store.Given as goal
 
 abbrev pub invariant-loop-k : goal.invariant-loop-k
 invariant-loop-k l = sets l.initial.to l.at (words_from l.from 0 l.n) ≡ sets l.to (l.at + l.k) (words_from l.from l.k (l.n - l.k))
-
-abbrev pub decreases-loop-k : goal.decreases-loop-k
-decreases-loop-k l = l.n - l.k

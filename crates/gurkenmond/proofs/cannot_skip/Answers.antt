@@ -26,4 +26,4 @@ returns c = lakes-told
     c.args.text.now _ _ _ _ _
     c.load-r.ensures
     c.analyse-made.ensures).stands (sym
-    c.is_refused.ensures ∙ c.if-is_refused.false)) c.cannot_skip-w.result c.cannot_skip-w.ensures)
+    c.is_refused.ensures ∙ c.if-is_refused.false)) c.cannot_skip.result c.cannot_skip.ensures)

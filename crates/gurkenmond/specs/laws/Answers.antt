@@ -17,9 +17,9 @@ use Rattle.gurkenmond.specs.declared.SetsOf.{SetsOf}
 use Rattle.gurkenmond.specs.declared.Lakes.{Lakes}
 use Rattle.match_run.specs.declared.Outcome.{Outcome}
 use Rattle.match_run.specs.declared.Outcome.TheVariants.{Matched, NoMatch, Refused as OutcomeRefused}
-use Rattle.match_ask.specs.declared.Way.{Way}
-use Rattle.match_ask.specs.declared.Way.TheVariants.{Not, ByRule, ByWater, BySkip}
-use Rattle.match_ask.specs.steps.Asks.{way_of}
+use Rattle.match_lake.specs.declared.ways.Way.{Way}
+use Rattle.match_lake.specs.declared.ways.Way.TheVariants.{Not, ByRule, ByWater, BySkip}
+use Rattle.match_lake.specs.steps.Ways.{way_of}
 use Rattle.gurkenmond.specs.Answers.{Says, refused, nomatch, value, verdict_says, way_says, outcome_says}
 use Rattle.gurkenmond.specs.Calls.{SaysRead, sets_by, refuses_sets, sets_of, SaysSets, lakes_by, cannot_skip_of, SaysLakes}
 

@@ -1,5 +1,4 @@
 use mathlib.Core.Path.{refl, sym}
-use Prim.Native.Nat.{◌-◌}
 use native.Mathlib.Omega.{arith}
 use lib.ListN.{length}
 use Rattle.lake_analysis.specs.laws.Joined.{joined, parted-as}
@@ -15,17 +14,17 @@ returns c = parted-as
     c.begins.new.marks _
     c.begins.new.sets _
     c.begins.new.eps _
-    c.succeed_all-first.new.cur _ c.alt_all.new.cur _
+    c.succeed_all.new.cur _ c.alt_all.new.cur _
     c.requires.5 refl refl refl refl refl refl
     (joined
     c.args.t.now (length
     c.args.base.now) (length
-    c.args.sets.now) (length c.succeed_all-first.new.base) (length
+    c.args.sets.now) (length c.succeed_all.new.base) (length
     c.args.marks.now)
     c.begins.new.marks
     c.begins.new.sets
-    c.begins.new.eps c.succeed_all-first.new.cur c.alt_all.new.cur
-    c.succeed_all-first.result c.alt_all.result (sym
-    c.requires.5) (omega (arith, c.succeed_all-first.auto))
+    c.begins.new.eps c.succeed_all.new.cur c.alt_all.new.cur
+    c.succeed_all.result c.alt_all.result (sym
+    c.requires.5) (omega (arith, c.succeed_all.auto))
     c.begins.ensures
-    c.succeed_all-first.ensures c.alt_all.ensures)
+    c.succeed_all.ensures c.alt_all.ensures)

@@ -1,10 +1,9 @@
 -- The steps of the analysis, put together. Assumes nothing.
-use Rattle.std.specs.Prelude.{ℕ, ◌+◌, ◌-◌, ◌≤◌, ◌<◌, ◌≡◌, refl, Bool, true, false, List, [], ◌∷◌, length, get_or}
+use Rattle.std.specs.Prelude.{ℕ, ◌-◌, ◌≤◌, ◌<◌, ◌≡◌, Bool, true, false, List, length, get_or}
 use Rattle.std.proofs.Common.{sym, ap, ap₂, ◌∙◌, subst, get_or-take, arith}
 use Rattle.base_words.specs.Set.{empty}
-use Rattle.grammar_table.specs.Table.{symbol_count, expression_count}
-use Rattle.grammar.specs.Numbers.{Grammar}
-use Rattle.lake_sets.specs.steps.Steps.{Tame, marks_in, BegunAll, succeed_given, alt_given, handed}
+use Rattle.grammar_table.specs.Table.{expression_count}
+use Rattle.lake_sets.specs.steps.Steps.{Tame, succeed_given, alt_given, handed}
 use Rattle.lake_rules.specs.laws.Reached.{Flowed}
 use Rattle.lake_sets.specs.laws.Told.{told, tame}
 use Rattle.lake_step_one.specs.Proper.{middle}

@@ -1,20 +1,23 @@
 -- The lakes that cannot skip, over a table, are those of the grammar that it holds. Assumes nothing.
 use Prim.Native.Nat.{ℕ, zero, suc, ◌+◌, ◌*◌, ◌^◌, ◌≤◌, ◌<◌}
-use Rattle.std.specs.Prelude.{◌≡◌, Bool, true, false, not, ◌&&◌, length, take, eqb, ◌⊎◌}
+use Rattle.std.specs.Prelude.{◌≡◌, Bool, true, false, not, ◌&&◌, length, take}
 use Rattle.std.proofs.Math.Path.{refl, sym, ap, ap₂}
-use Rattle.std.proofs.Common.{◌∙◌, subst, arith, add-one, pow-suc, get_or-take, ne_eqb, ⊎_elim}
+use Rattle.std.proofs.Common.{◌∙◌, subst, arith, add-one, pow-suc, get_or-take, ⊎_elim}
 use Rattle.std.proofs.Math.Bool.{cond, ◌||◌}
-use mathlib.Core.List.{List, [], ◌∷◌}
+use mathlib.Core.List.{List, []}
 use Rattle.std.proofs.Math.ListN.{get_or}
 use Rattle.std.proofs.Math.Pow.{pow-lt}
+use Rattle.std.specs.Bool.{MatchBool}
+use Rattle.std.specs.List.{range_with_len, AllWithin, HoldsAt}
+use Rattle.std.proofs.lemmas.List.FromFn.{length-range_with_len, get_or-range_with_len}
 use Rattle.base_facts.specs.laws.Numbers.{lt-or-ge}
 use Rattle.base_words.specs.Set.{member_of}
-use Rattle.read_tokens.specs.Token.{Symbol, name, lake}
+use Rattle.read_tokens.specs.Token.{Symbol, name}
 use Rattle.grammar.specs.Numbers.{Grammar, is_lake}
-use Rattle.grammar_table.specs.Table.{symbol_count, expression_count, symbol_word, symbol_by, name_in, up_to}
+use Rattle.grammar_table.specs.Table.{symbol_count, expression_count, symbol_word, name_in}
 use Rattle.grammar_table.specs.Holds.{Holds}
 use Rattle.lake_rules.specs.Beginning.{marked}
-use Rattle.lake_rules.specs.Analysis.{Analysis, analysis, lake_alt, blocked_by, cannot_skip_below, cannot_skip}
+use Rattle.lake_rules.specs.Analysis.{analysis, lake_alt, blocked_by, cannot_skip_below, cannot_skip}
 use Rattle.lake_sets.specs.steps.Steps.{alt_in}
 use Rattle.lake_step_one.specs.Proper.{Proper, middle}
 use Rattle.lake_sets.specs.steps.Analysed.{Analysed}
@@ -30,6 +33,33 @@ blocked-next t ms s n = rw add-one
 pub blocked-none : (t : List ℕ) (ms : List Bool) (s : List ℕ) → false ≡ blocked_in t ms s 0
 unfolding blocked_in
 blocked-none t ms s = refl
+
+-- one of the first n is hit, or none is
+module _ (t : List ℕ) (ms : List Bool) (s : List ℕ) where
+  blocked_some : (n k : ℕ) → k < n → hit_in t ms s k ≡ true → true ≡ blocked_in t ms s n
+  unfolding blocked_in
+  blocked_some zero k l e = absurd (omega arith)
+  blocked_some (suc n) k l e =
+      ⊎_elim (λ (q : k < n). go (hit_in t ms s n) (blocked_some n k q e)) (λ (q : n ≤ k). let z : k ≡ n = omega arith in
+      sym (ap (λ (b : Bool). b || blocked_in t ms s n) (subst (λ (j : ℕ). hit_in t ms s j ≡ true) z e))) (lt-or-ge k n)
+    where
+      go : (b : Bool) → true ≡ blocked_in t ms s n → true ≡ (b || blocked_in t ms s n)
+      go true h = refl
+      go false h = h
+
+  none_blocked : (n : ℕ) → ((k : ℕ) → k < n → hit_in t ms s k ≡ false) → false ≡ blocked_in t ms s n
+  unfolding blocked_in
+  none_blocked zero h = refl
+  none_blocked (suc n) h =
+      none_blocked n (λ k l. h k (omega arith)) ∙ sym (ap (λ (b : Bool). b || blocked_in t ms s n) (h n (omega arith)))
+
+  pub blocked-by : (n : ℕ) (b : Bool) → MatchBool b ((k : ℕ) × (k < length (range_with_len 0 n)) × HoldsAt (λ j. hit_in t ms s j ≡ true) (range_with_len 0 n) k)
+      (AllWithin (λ j. hit_in t ms s j ≡ false) (range_with_len 0 n) 0 (length (range_with_len 0 n))) → b ≡ blocked_in t ms s n
+  blocked-by n true h =
+      let l : h.0 < n = omega (arith, h.1, length-range_with_len 0 n) in
+      blocked_some n h.0 l (subst (λ (j : ℕ). hit_in t ms s j ≡ true) (omega (arith, get_or-range_with_len 0 n h.0 0 l)) (h.2 0))
+  blocked-by n false h = none_blocked n (λ k l.
+      subst (λ (j : ℕ). hit_in t ms s j ≡ false) (omega (arith, get_or-range_with_len 0 n k 0 l)) (h k 0 (omega arith) (omega (arith, length-range_with_len 0 n))))
 
 pub skips-next : (t : List ℕ) (ms : List Bool) (alts : List (List ℕ)) (r n : ℕ) → skips_in t ms alts r n + cond (skip_in t ms alts r n) (2 ^ n) 0 ≡ skips_in t ms alts r (n + 1)
 unfolding skips_in

@@ -21,9 +21,10 @@ use Rattle.lake_step_one.specs.steps.Made.{with_bodies}
 use Rattle.lake_plain.specs.Calls.{first_calls, calls_of, loop_from, loop}
 use Rattle.grammar_table.specs.Trees.{tree_of}
 use Rattle.lake_calls.specs.steps.Firsts.{AllFirsts}
-use Rattle.lake_calls.specs.steps.Place.{placed}
+use Rattle.std.specs.Prelude.{Option as Optional, Some, None}
+use Rattle.std.specs.Option.{unwrap_or}
+use Rattle.lake_calls.specs.steps.Place.{placed, found}
 use Rattle.lake_calls.specs.steps.Marks.{empty_round, SoundIn, AllMarks, Looped, LoopedAll}
-use Rattle.lake_plain.proofs.laws.Exact.{calls-long}
 use Rattle.lake_calls.specs.laws.Trees.{bodies-are, trees-are}
 
 sound-at : (number : Leaf → ℕ) (r x : ℕ) (es : List (Exp ℕ)) (d : Exp ℕ) → SoundAll number r x es → (i : ℕ) → i < length es → Sound number r x (get_or es i d)
@@ -64,17 +65,23 @@ module _ (t : List ℕ) (g : Grammar) (bodies : List (Exp ℕ)) (h : Holds t (wi
       c.are (terminal_in g) (length g.names) (length g.terminals) names-few bodies-sound
       ∙ by-body (first_calls (marked ms)) ∙ ap (λ (l : List Bool). map (first_calls (marked l)) bodies) (marks-are ms a)
 
-  loop-of : (calls : List ℕ) → calls ≡ calls_of bodies → placed (length calls) (loop_from calls (length calls) 0) ≡ placed (length bodies) (loop bodies)
+  loop-of : (calls : List ℕ) → calls ≡ calls_of bodies → loop_from calls (length calls) 0 ≡ loop bodies
   unfolding loop
   loop-of calls c =
-      ap (λ (l : List ℕ). placed (length l) (loop_from l (length l) 0)) c
-      ∙ ap (λ (k : ℕ). placed k (loop_from (calls_of bodies) (length (calls_of bodies)) 0)) (calls-long bodies)
+      ap (λ (l : List ℕ). loop_from l (length l) 0) c
 
-pub looped : (t : List ℕ) (n m at : ℕ) (ms : List Bool) (calls : List ℕ) → m ≡ n → AllMarks t m ms → AllFirsts t (marked ms) n calls → at ≡ placed (length calls)
-    (loop_from calls (length calls) 0) → Looped t n at
+pub looped : (t : List ℕ) (n m : ℕ) (at : Optional ℕ) (ms : List Bool) (calls : List ℕ) → m ≡ n → AllMarks t m ms → AllFirsts t (marked ms) n calls
+    → found at ≡ loop_from calls (length calls) 0 → Looped t n at
 looped t n m at ms calls q a c z =
     record { is = λ g bodies h sound e. z ∙ loop-of t g bodies h sound n e calls (calls_are t g bodies h sound n e ms calls (subst (λ (k : ℕ). AllMarks t k ms) q a) c) }
 
 -- as many symbols as the table has
-pub looped-all : (t : List ℕ) (n at : ℕ) → n ≡ symbol_count t → Looped t n at → LoopedAll t at
-looped-all t n at e l = record { is = λ g bodies h sound. l.is g bodies h sound (e ∙ bodies-are t g bodies h) }
+pub looped-all : (t : List ℕ) (n : ℕ) (at : Optional ℕ) → n ≡ symbol_count t → Looped t n at → LoopedAll t (unwrap_or at n)
+looped-all t n at e l = record {
+  is = λ g bodies h sound. let m : n ≡ length bodies = e ∙ bodies-are t g bodies h in
+      ap (λ (k : ℕ). unwrap_or at k) m ∙ told (length bodies) at ∙ ap (placed (length bodies)) (l.is g bodies h sound m);
+}
+  where
+    told : (k : ℕ) (o : Optional ℕ) → unwrap_or o k ≡ placed k (found o)
+    told k None = refl
+    told k (Some r) = refl

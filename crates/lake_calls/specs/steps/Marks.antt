@@ -1,7 +1,7 @@
 -- What code says of the ε marks of a table's symbols and of the smallest symbol on a loop, where the bodies' symbols have a bit in a word and no
 -- literal is empty.
 -- Assumes nothing: these are definitions.
-use Rattle.std.specs.Prelude.{ℕ, ◌≤◌, ◌<◌, ◌≡◌, Bool, false, List, length, replicate}
+use Rattle.std.specs.Prelude.{ℕ, ◌≤◌, ◌<◌, ◌≡◌, Bool, false, List, Option, length, replicate}
 use Rattle.read_tokens.specs.Token.{Leaf}
 use Rattle.grammar.specs.Exp.{Exp}
 use Rattle.grammar.specs.Numbers.{Grammar}
@@ -15,7 +15,7 @@ use Rattle.lake_step_one.specs.Proper.{Sound, SoundAll}
 use Rattle.lake_step_one.specs.steps.Made.{with_bodies}
 use Rattle.lake_plain.specs.Calls.{loop}
 use Rattle.grammar_table.specs.Trees.{tree_of}
-use Rattle.lake_calls.specs.steps.Place.{placed}
+use Rattle.lake_calls.specs.steps.Place.{placed, found}
 
 -- one round of the marks of the symbols below n
 abbrev pub empty_round : List ℕ → ℕ → List Bool → List Bool
@@ -37,9 +37,9 @@ pub record AllMarks (t : List ℕ) (n : ℕ) (marks : List Bool) : Type 0 where
   pub are : After t n n marks
 
 -- of the n symbols of a table that holds a grammar with these bodies
-pub record Looped (t : List ℕ) (n at : ℕ) : Type 0 where
+pub record Looped (t : List ℕ) (n : ℕ) (at : Option ℕ) : Type 0 where
   pub is : (g : Grammar) (bodies : List (Exp ℕ)) → Holds t (with_bodies g bodies)
-      → SoundAll (terminal_in g) (length g.names) (length g.terminals) bodies → n ≡ length bodies → at ≡ placed (length bodies) (loop bodies)
+      → SoundAll (terminal_in g) (length g.names) (length g.terminals) bodies → n ≡ length bodies → found at ≡ loop bodies
 
 -- of a table that holds a grammar with these bodies
 pub record LoopedAll (t : List ℕ) (at : ℕ) : Type 0 where

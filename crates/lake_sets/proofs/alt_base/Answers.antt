@@ -13,7 +13,6 @@ use Rattle.lake_sets.proofs.alt_base.Goals as goal
 
 pub loop-e-init : goal.loop-e-init
 loop-e-init c = (
-  omega arith,
   refl,
   sym (ap (λ (gs : List Gift). given gs c.clear.new.to)
       (over_none (alt_gifts (pair_at c.args.sets.now c.args.eps.now)
@@ -28,12 +27,6 @@ alt_gift-requires c = let q : length c.clear.new.to ≡ length
     c.args.base.now = ap length c.clear.ensures ∙ length-replicate
     (length c.args.base.now) empty in omega arith
 
-pub overflow_add-e : goal.overflow_add-e
-overflow_add-e c = let q : length c.clear.new.to ≡ length
-    c.args.base.now = ap length
-    c.clear.ensures ∙ length-replicate
-    (length c.args.base.now) empty in omega arith
-
 pub loop-e-preserved : goal.loop-e-preserved
 loop-e-preserved c = let gs = (alt_gifts (pair_at c.args.sets.now
     c.args.eps.now)
@@ -43,8 +36,7 @@ loop-e-preserved c = let gs = (alt_gifts (pair_at c.args.sets.now
     let q : length c.alt_gift.new.base ≡ length c.loop-e.base = ap length
     c.alt_gift.ensures.is ∙ given-long gs c.loop-e.base in (
       omega arith,
-      omega arith,
-      c.alt_gift.ensures.is ∙ ap (given gs) c.loop-e.invariant.2 ∙ sym
+      c.alt_gift.ensures.is ∙ ap (given gs) c.loop-e.invariant.1 ∙ sym
           (ap (λ (l : List Gift). given l c.clear.new.to)
           (over-next (alt_gifts (pair_at c.args.sets.now
           c.args.eps.now)
@@ -56,7 +48,7 @@ loop-e-preserved c = let gs = (alt_gifts (pair_at c.args.sets.now
           c.args.eps.now
           c.args.succ.now c.loop-e.e) gs
           c.clear.new.to),
-      c.alt_gift.ensures.fine c.loop-e.invariant.3,
+      c.alt_gift.ensures.fine c.loop-e.invariant.2,
     )
 
 pub shape_of-base : goal.shape_of-base
@@ -67,9 +59,9 @@ pub returns : goal.returns
 returns c = let q : length c.clear.new.to ≡ length c.args.base.now = ap length
     c.clear.ensures ∙ length-replicate (length c.args.base.now) empty in
     let e : c.loop-e.e ≡ length c.args.base.now = omega arith in (
-      c.loop-e.invariant.2 ∙ ap₂ (λ (k : ℕ) (b : List (List ℕ)). given
+      c.loop-e.invariant.1 ∙ ap₂ (λ (k : ℕ) (b : List (List ℕ)). given
           (alt_given c.args.t.now c.args.sets.now
           c.args.eps.now c.args.succ.now k) b) e
           c.clear.ensures,
-      c.loop-e.invariant.3,
+      c.loop-e.invariant.2,
     )

@@ -21,17 +21,17 @@ pub returns-then-flag_at : goal.returns-then-flag_at
 unfolding part_by
 returns-then-flag_at c = rw (c.in-2.is, ← c.flag_at-in-2.ensures, c.if-flag_at.true) c.flag_at-then-flag_at.ensures
 
-pub returns-in-2 : goal.returns-in-2
+pub returns-else-flag_at : goal.returns-else-flag_at
 unfolding part_by
-returns-in-2 c = rw (c.in-2.is, ← c.flag_at-in-2.ensures, c.if-flag_at.false)
+returns-else-flag_at c = rw (c.in-2.is, ← c.flag_at-in-2.ensures, c.if-flag_at.false)
 
 pub returns-then-flag_at-2 : goal.returns-then-flag_at-2
 unfolding part_by
 returns-then-flag_at-2 c = rw (c.in-3.is, ← c.flag_at-in-3.ensures, c.if-flag_at-2.true)
 
-pub returns-in-3 : goal.returns-in-3
+pub returns-else-flag_at-2 : goal.returns-else-flag_at-2
 unfolding part_by
-returns-in-3 c = rw (c.in-3.is, ← c.flag_at-in-3.ensures, c.if-flag_at-2.false) c.flag_at-in-3-2.ensures
+returns-else-flag_at-2 c = rw (c.in-3.is, ← c.flag_at-in-3.ensures, c.if-flag_at-2.false) c.flag_at-else-flag_at-2.ensures
 
 pub returns-in-6 : goal.returns-in-6
 unfolding part_by

@@ -15,16 +15,16 @@ pub returns : goal.returns
 returns c = record {
   set_is = λ h. ap (set c.args.sets.now
       c.args.e)
-      (subst (λ (p : Part). Small p → c.begin_set-s.result ≡ (begin_by (λ x. false)
+      (subst (λ (p : Part). Small p → c.begin_set.result ≡ (begin_by (λ x. false)
       (pair_at c.args.sets.now
       c.args.eps.now) p).set) c.node-k.ensures.0
-      c.begin_set-s.ensures h ∙ set-any (λ x. false) (marked c.args.marks.now)
+      c.begin_set.ensures h ∙ set-any (λ x. false) (marked c.args.marks.now)
       (pair_at c.args.sets.now
       c.args.eps.now)
       (part_in c.args.t.now c.args.e));
   set_long = simp length-set;
   eps-is = ap (set c.args.eps.now c.args.e)
-      (c.begin_eps-b.ensures ∙ ap (λ (p : Part). (begin_by (marked c.args.marks.now)
+      (c.begin_eps.ensures ∙ ap (λ (p : Part). (begin_by (marked c.args.marks.now)
       (pair_at [] c.args.eps.now) p).eps)
       c.node-k.ensures.0 ∙ eps-any (marked c.args.marks.now)
       (pair_at [] c.args.eps.now)

@@ -1,6 +1,6 @@
 use mathlib.Core.Path.{ap, ◌∙◌}
 use Prim.Native.Nat.{ℕ}
-use native.Mathlib.Omega.{arith}
+use Rattle.std.proofs.Common.{arith, rules}
 use lib.ListN.{length}
 use Rattle.lake_sets.specs.steps.Steps.{handed}
 use Rattle.lake_sets.specs.laws.Edges.{handed-inside}
@@ -8,14 +8,14 @@ use Rattle.lake_sets.proofs.flow.Goals as goal
 
 pub along-requires : goal.along-requires
 along-requires c = (
-  c.hand_all-m.ensures.0,
+  c.hand_all.ensures.0,
   rw
-      (c.hand_all-m.ensures.1, c.requires.1) (handed-inside
+      (c.hand_all.ensures.1, c.requires.1) (handed-inside
       c.args.t.now c.args.eps.now
       c.args.back (length
       c.args.base.now)),
   omega arith,
-  omega arith,
+  search rules,
   omega arith,
   c.requires.3,
 )
@@ -25,7 +25,7 @@ returns c = λ n gifts q w.
     c.along.ensures n gifts (handed c.args.t.now
     c.args.eps.now
     c.args.back n n)
-    (c.hand_all-m.ensures.1 ∙ ap (λ (k : ℕ). handed
+    (c.hand_all.ensures.1 ∙ ap (λ (k : ℕ). handed
     c.args.t.now
     c.args.eps.now
     c.args.back k k)

@@ -11,18 +11,17 @@ use Rattle.grammar_table.specs.laws.Places.{is-up_to}
 use Rattle.lake_sets.proofs.gather.Goals as goal
 
 pub loop-r-init : goal.loop-r-init
-loop-r-init c = (omega arith, refl, λ j p. let z : ⊥ = omega arith in absurd z)
+loop-r-init c = (refl, λ j p. let z : ⊥ = omega arith in absurd z)
 
 pub loop-r-preserved : goal.loop-r-preserved
 loop-r-preserved c = (
-  simp length-set (omega arith),
-  simp length-set c.loop-r.invariant.1,
+  simp length-set c.loop-r.invariant.0,
   fill_more false
       (λ j. root_eps (pair_at [] c.args.eps.now) (root_in c.args.t.now j))
-      c.loop-r.marks c.loop-r.r c.body_eps.result c.loop-r.invariant.2 (omega arith)
+      c.loop-r.marks c.loop-r.r c.body_eps.result c.loop-r.invariant.1 (omega arith)
       c.body_eps.ensures,
 )
 
 pub returns : goal.returns
 returns c = is-up_to false (λ j. root_eps (pair_at [] c.args.eps.now) (root_in c.args.t.now j))
-    c.loop-r.marks (length c.args.marks.now) (omega arith) (λ i p. c.loop-r.invariant.2 i (omega arith))
+    c.loop-r.marks (length c.args.marks.now) (omega arith) (λ i p. c.loop-r.invariant.1 i (omega arith))

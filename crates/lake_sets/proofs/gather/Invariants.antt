@@ -8,7 +8,4 @@ use Rattle.lake_sets.specs.steps.Steps.{pair_at, root_in}
 use Rattle.lake_sets.proofs.gather.Given as goal
 
 abbrev pub invariant-loop-r : goal.invariant-loop-r
-invariant-loop-r l = (l.r ≤ length l.marks) × (length l.marks ≡ length l.initial.marks) × ((j : ℕ) → j < l.r → get_or l.marks j false ≡ root_eps (pair_at [] l.eps) (root_in l.t j))
-
-abbrev pub decreases-loop-r : goal.decreases-loop-r
-decreases-loop-r l = length l.initial.marks - l.r
+invariant-loop-r l = (length l.marks ≡ length l.initial.marks) × ((j : ℕ) → j < l.r → get_or l.marks j false ≡ root_eps (pair_at [] l.eps) (root_in l.t j))

@@ -9,6 +9,6 @@ pub returns : goal.returns
 unfolding part_in
 returns c = (
   ap₂ (λ (f : ℕ → Part) (r : ℕ). f r)
-      (ap₂ part_by c.op-op.ensures.0 c.left-left.ensures.0) c.right-right.ensures.0,
-  c.left-left.ensures.1,
+      (ap₂ part_by c.op.ensures.0 c.left.ensures.0) c.right.ensures.0,
+  c.left.ensures.1,
 )

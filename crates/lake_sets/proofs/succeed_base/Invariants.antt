@@ -6,7 +6,4 @@ use Rattle.lake_sets.specs.steps.Steps.{succeed_given, Fine}
 use Rattle.lake_sets.proofs.succeed_base.Given as goal
 
 abbrev pub invariant-loop-e : goal.invariant-loop-e
-invariant-loop-e l = (l.e ≤ length l.initial.base) × (length l.base ≡ length l.initial.base) × (l.base ≡ given (succeed_given l.t l.sets l.e) l.initial.base) × Fine l.base
-
-abbrev pub decreases-loop-e : goal.decreases-loop-e
-decreases-loop-e l = length l.initial.base - l.e
+invariant-loop-e l = (length l.base ≡ length l.initial.base) × (l.base ≡ given (succeed_given l.t l.sets l.e) l.initial.base) × Fine l.base

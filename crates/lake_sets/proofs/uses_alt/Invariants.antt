@@ -7,7 +7,4 @@ use Rattle.lake_rules.specs.Analysis.{uses_alt}
 use Rattle.lake_sets.proofs.uses_alt.Given as goal
 
 abbrev pub invariant-loop-e : goal.invariant-loop-e
-invariant-loop-e l = (l.e ≤ l.n) × (l.s ≡ uses_alt (part_in l.t) (λ i. get_or l.alts i empty) l.r l.e)
-
-abbrev pub decreases-loop-e : goal.decreases-loop-e
-decreases-loop-e l = l.n - l.e
+invariant-loop-e l = l.s ≡ uses_alt (part_in l.t) (λ i. get_or l.alts i empty) l.r l.e

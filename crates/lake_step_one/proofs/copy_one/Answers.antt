@@ -53,8 +53,8 @@ returns c = λ long before above.
     (c.args.at + 1)) (sym c.store_expression-2.ensures)
     (grew-one c.args.mid.now
     c.args.at
-    c.op-op.result c.moved-x.result
-    c.moved-y.result (shift c.args.o
+    c.op-op.result c.moved.result
+    c.moved-2.result (shift c.args.o
     c.args.m (part_in
     c.args.t.now
     c.args.e)) long
@@ -62,8 +62,8 @@ returns c = λ long before above.
     c.args.o
     c.args.m
     c.op-op.result c.left-l.result
-    c.right-r.result c.moved-x.result c.moved-y.result
+    c.right-r.result c.moved.result c.moved-2.result
     (omega arith) (subst (λ (p : Part). Above c.args.o p) (sym e) above)
-    (c.moved-x.ensures.1 u) (c.moved-y.ensures.1 u) ∙ ap (shift
+    (c.moved.ensures.1 u) (c.moved-2.ensures.1 u) ∙ ap (shift
     c.args.o
     c.args.m) e))

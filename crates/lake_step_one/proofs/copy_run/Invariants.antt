@@ -9,8 +9,5 @@ use Rattle.lake_step_one.proofs.laws.Shifts.{front}
 use Rattle.lake_step_one.proofs.copy_run.Given as goal
 
 abbrev pub invariant-loop-j : goal.invariant-loop-j
-invariant-loop-j l = (l.j ≤ l.k) × (length l.mid ≡ length l.initial.mid)
+invariant-loop-j l = (length l.mid ≡ length l.initial.mid)
     × ((number : Leaf → ℕ) (e : Exp ℕ) → size e ≡ l.k → length l.initial.mid ≡ table_words → PartsRun number l.t l.a e → Grew l.initial.mid l.m (front number l.m e l.j) l.mid (l.m + l.j))
-
-abbrev pub decreases-loop-j : goal.decreases-loop-j
-decreases-loop-j l = l.k - l.j

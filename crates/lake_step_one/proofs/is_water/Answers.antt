@@ -1,138 +1,20 @@
-use mathlib.Core.Path.{sym}
-use Prim.Native.Nat.{◌-◌}
-use mathlib.Core.Bool.{true, false}
-use borrow.Author.Tests.{eq-eqb, ne_eqb, not-true, not-false}
-use Rattle.lake_step_one.proofs.laws.Water.{water-is}
+use Rattle.std.proofs.Common.{arith, rules, tests, refl, sym, ◌∙◌}
+use Rattle.std.proofs.lemmas.Iterator.{cases_from_all, YieldsList-from_range}
+use Rattle.std.proofs.lemmas.Bool.{eqb-true}
+use Rattle.lake_step_one.proofs.laws.Water.{Said, called, other_kind, other_length}
+use Rattle.lake_step_one.proofs.is_water.Goals.{then-kind-eq0, else-kind-eq0}
 use Rattle.lake_step_one.proofs.is_water.Goals as goal
 
-pub returns-then-k-ne0 : goal.returns-then-k-ne0
-returns-then-k-ne0 c = rw (
-  ← water-is c.args.t.now c.args.s,
-  ← c.kind-k.ensures.0,
-  ne_eqb 0 c.kind-k.result
-      (λ e. c.if-k-ne0.true (sym e)),
-)
+pub returns-then-name_length-eq5 : goal.returns-then-name_length-eq5
+returns-then-name_length-eq5 c = elim c.if-kind-eq0.branch [
+  | then-kind-eq0 w ↦ called c.args.t.now c.args.s c.kind.result w.name_length.result c.all.result c.kind.ensures.0 w.name_length.ensures.0 w.if-kind-eq0.true (search rules)
+      (cases_from_all _ _ c.all.result (Said c.args.t.now c.args.s) (λ j. Said c.args.t.now c.args.s j → ⊥)
+      c.all.ensures.ran (YieldsList-from_range 0 5 5 refl refl) (λ x q k. search (rules, tests)) (λ x q k. search (rules, tests)))
+  | else-kind-eq0 w ↦ absurd (w.if-kind-eq0.false (eqb-true c.kind.result 0 (sym w.value-is ∙ c.if-name_length-eq5.true)))
+]
 
-pub returns-then-n-ne5 : goal.returns-then-n-ne5
-returns-then-n-ne5 c = rw (
-  ← water-is c.args.t.now c.args.s,
-  ←
-      c.kind-k.ensures.0,
-  eq-eqb 0 c.kind-k.result (sym c.if-k-ne0.false),
-  ←
-      c.name_length-n.ensures.0,
-  ne_eqb 5 c.name_length-n.result (λ e. c.if-n-ne5.true (sym e)),
-)
-
-pub returns-then-not-is_byte : goal.returns-then-not-is_byte
-returns-then-not-is_byte c = rw (
-  ← water-is c.args.t.now c.args.s,
-  ←
-      c.kind-k.ensures.0,
-  eq-eqb 0 c.kind-k.result
-      (sym c.if-k-ne0.false),
-  ← c.name_length-n.ensures.0,
-  eq-eqb 5 c.name_length-n.result
-      (sym c.if-n-ne5.false),
-  ← c.is_byte.ensures,
-  not-true c.is_byte.result c.if-not-is_byte.true-raw,
-)
-
-pub returns-then-not-is_byte-2 : goal.returns-then-not-is_byte-2
-returns-then-not-is_byte-2 c = rw (
-  ← water-is c.args.t.now
-      c.args.s,
-  ← c.kind-k.ensures.0,
-  eq-eqb 0
-      c.kind-k.result (sym c.if-k-ne0.false),
-  ←
-      c.name_length-n.ensures.0,
-  eq-eqb 5 c.name_length-n.result
-      (sym c.if-n-ne5.false),
-  ← c.is_byte.ensures,
-  not-false c.is_byte.result
-      c.if-not-is_byte.false-raw,
-  ← c.is_byte-2.ensures,
-  not-true c.is_byte-2.result c.if-not-is_byte-2.true-raw,
-)
-
-pub returns-then-not-is_byte-3 : goal.returns-then-not-is_byte-3
-returns-then-not-is_byte-3 c = rw (
-  ← water-is c.args.t.now
-      c.args.s,
-  ←
-      c.kind-k.ensures.0,
-  eq-eqb 0
-      c.kind-k.result
-      (sym c.if-k-ne0.false),
-  ←
-      c.name_length-n.ensures.0,
-  eq-eqb 5 c.name_length-n.result
-      (sym c.if-n-ne5.false),
-  ← c.is_byte.ensures,
-  not-false
-      c.is_byte.result c.if-not-is_byte.false-raw,
-  ← c.is_byte-2.ensures,
-  not-false
-      c.is_byte-2.result c.if-not-is_byte-2.false-raw,
-  ← c.is_byte-3.ensures,
-  not-true c.is_byte-3.result c.if-not-is_byte-3.true-raw,
-)
-
-pub returns-then-not-is_byte-4 : goal.returns-then-not-is_byte-4
-returns-then-not-is_byte-4 c = rw (
-  ← water-is c.args.t.now
-      c.args.s,
-  ←
-      c.kind-k.ensures.0,
-  eq-eqb 0
-      c.kind-k.result
-      (sym c.if-k-ne0.false),
-  ←
-      c.name_length-n.ensures.0,
-  eq-eqb 5
-      c.name_length-n.result
-      (sym c.if-n-ne5.false),
-  ← c.is_byte.ensures,
-  not-false
-      c.is_byte.result c.if-not-is_byte.false-raw,
-  ←
-      c.is_byte-2.ensures,
-  not-false c.is_byte-2.result
-      c.if-not-is_byte-2.false-raw,
-  ← c.is_byte-3.ensures,
-  not-false c.is_byte-3.result
-      c.if-not-is_byte-3.false-raw,
-  ← c.is_byte-4.ensures,
-  not-true c.is_byte-4.result c.if-not-is_byte-4.true-raw,
-)
-
-pub returns : goal.returns
-returns c = rw (
-  ← water-is c.args.t.now
-      c.args.s,
-  ←
-      c.kind-k.ensures.0,
-  eq-eqb 0
-      c.kind-k.result
-      (sym c.if-k-ne0.false),
-  ←
-      c.name_length-n.ensures.0,
-  eq-eqb 5
-      c.name_length-n.result
-      (sym c.if-n-ne5.false),
-  ←
-      c.is_byte.ensures,
-  not-false
-      c.is_byte.result c.if-not-is_byte.false-raw,
-  ←
-      c.is_byte-2.ensures,
-  not-false c.is_byte-2.result
-      c.if-not-is_byte-2.false-raw,
-  ← c.is_byte-3.ensures,
-  not-false
-      c.is_byte-3.result c.if-not-is_byte-3.false-raw,
-  ← c.is_byte-4.ensures,
-  not-false
-      c.is_byte-4.result c.if-not-is_byte-4.false-raw,
-) c.is_byte-5.ensures
+pub returns-else-name_length-eq5 : goal.returns-else-name_length-eq5
+returns-else-name_length-eq5 c = c.if-name_length-eq5.false ∙ elim c.if-kind-eq0.branch [
+  | then-kind-eq0 w ↦ other_length c.args.t.now c.args.s c.kind.result w.name_length.result c.kind.ensures.0 w.name_length.ensures.0 w.if-kind-eq0.true (search rules)
+  | else-kind-eq0 w ↦ other_kind c.args.t.now c.args.s c.kind.result c.kind.ensures.0 w.if-kind-eq0.false
+]

@@ -5,6 +5,8 @@ use Rattle.std.proofs.Common.{sym, ap₂, ◌∙◌, ⊎_elim, arith, add-one, n
 use Rattle.std.proofs.Math.Bool.{and-false, and-true}
 use Rattle.std.proofs.Math.Option.{Option, none, some}
 use Rattle.std.proofs.Math.ListN.{length, get_or, get_or-eq_default}
+use Rattle.std.specs.Bool.{MatchBool}
+use Rattle.std.specs.List.{range_with_len, AllWithin, HoldsAt}
 use Rattle.base_facts.specs.laws.Numbers.{lt-or-ge}
 use Rattle.read_tokens.specs.Token.{Symbol, Leaf, name, lake}
 use Rattle.grammar.specs.Exp.{Exp}
@@ -75,6 +77,46 @@ water-is t s =
     ∙ ap (λ (j : ℕ). test i (suc i) (suc (suc i)) j (i + 4)) p3
     ∙ ap (λ (j : ℕ). test i (suc i) (suc (suc i)) (suc (suc (suc i))) j) p4
     ∙ sym (by_kind (symbol_word t s 0) (119 ∷ 97 ∷ 116 ∷ 101 ∷ 114 ∷ []) (words_from t i (symbol_word t s 3)) ∙ ap (λ (b : Bool). eqb 0 (symbol_word t s 0) && b) (bytes-five t i (symbol_word t s 3)))
+
+-- ---- the five words, one by one
+none_right : (a b : Bool) → b ≡ false → (a && b) ≡ false
+none_right a b e = ap (λ (x : Bool). a && x) e ∙ and-false a
+
+none_left : (a b : Bool) → a ≡ false → (a && b) ≡ false
+none_left a b e = ap (λ (x : Bool). x && b) e
+
+module _ (t : List ℕ) (s : ℕ) where
+  word : ℕ → ℕ
+  word j = get_or t (name_at s + j) 0
+
+  abbrev pub Said : ℕ → Type 0
+  Said j = get_or t (name_at s + j) 0 ≡ get_or (119 ∷ 97 ∷ 116 ∷ 101 ∷ 114 ∷ []) j 0
+
+  differs : (j v : ℕ) → (word j ≡ v → ⊥) → eqb v (word j) ≡ false
+  differs j v f = ne_eqb v (word j) (λ e. f (sym e))
+
+  spelled : (r : Bool) → MatchBool r (AllWithin Said (range_with_len 0 5) 0 5) ((j : ℕ) × (j < 5) × HoldsAt (λ x. Said x → ⊥) (range_with_len 0 5) j)
+      → r ≡ five (word 0) (word 1) (word 2) (word 3) (word 4)
+  unfolding word
+  spelled true h = rw (h 0 0 (omega arith) (omega arith), h 1 0 (omega arith) (omega arith), h 2 0 (omega arith) (omega arith), h 3 0 (omega arith) (omega arith), h 4 0 (omega arith) (omega arith)) refl
+  spelled false (zero, l, f) = sym (none_left (eqb 119 (word 0)) _ (differs 0 119 (f 0)))
+  spelled false (suc zero, l, f) = sym (none_right (eqb 119 (word 0)) _ (none_left (eqb 97 (word 1)) _ (differs 1 97 (f 0))))
+  spelled false (suc (suc zero), l, f) = sym (none_right (eqb 119 (word 0)) _ (none_right (eqb 97 (word 1)) _ (none_left (eqb 116 (word 2)) _ (differs 2 116 (f 0)))))
+  spelled false (suc (suc (suc zero)), l, f) = sym (none_right (eqb 119 (word 0)) _ (none_right (eqb 97 (word 1)) _ (none_right (eqb 116 (word 2)) _ (none_left (eqb 101 (word 3)) _ (differs 3 101 (f 0))))))
+  spelled false (suc (suc (suc (suc zero))), l, f) = sym (none_right (eqb 119 (word 0)) _ (none_right (eqb 97 (word 1)) _ (none_right (eqb 116 (word 2)) _ (none_right (eqb 101 (word 3)) _ (differs 4 114 (f 0))))))
+  spelled false (suc (suc (suc (suc (suc j)))), l, f) = let z : ⊥ = omega arith in absurd z
+
+  pub called : (k n : ℕ) (r : Bool) → k ≡ symbol_word t s 0 → n ≡ symbol_word t s 3 → k ≡ 0 → n ≡ 5
+      → MatchBool r (AllWithin Said (range_with_len 0 5) 0 5) ((j : ℕ) × (j < 5) × HoldsAt (λ x. Said x → ⊥) (range_with_len 0 5) j)
+      → r ≡ same_symbol water_name (name_in t s)
+  unfolding word
+  called k n r p q e f h = rw (← water-is t s, ← p, e, ← q, f) (spelled r h)
+
+  pub other_kind : (k : ℕ) → k ≡ symbol_word t s 0 → (k ≡ 0 → ⊥) → false ≡ same_symbol water_name (name_in t s)
+  other_kind k p e = rw (← water-is t s, ← p, ne_eqb 0 k (λ z. e (sym z))) refl
+
+  pub other_length : (k n : ℕ) → k ≡ symbol_word t s 0 → n ≡ symbol_word t s 3 → k ≡ 0 → (n ≡ 5 → ⊥) → false ≡ same_symbol water_name (name_in t s)
+  other_length k n p q e f = rw (← water-is t s, ← p, e, ← q, ne_eqb 5 n (λ z. f (sym z))) refl
 
 -- ---- the first of a list
 pub index_at : {A : Type 0} (same : A → A → Bool) (x d : A) (l : List A) (s : ℕ) → s < length l → ((j : ℕ) → j < s → same x (get_or l j d) ≡ false) → same x (get_or l s d) ≡ true → index_of same x l ≡ s

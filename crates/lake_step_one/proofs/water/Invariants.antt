@@ -7,7 +7,4 @@ use Rattle.grammar_table.specs.Holds.{Holds}
 use Rattle.lake_step_one.proofs.water.Given as goal
 
 abbrev pub invariant-loop-s : goal.invariant-loop-s
-invariant-loop-s l = (l.s ≤ l.r) × (l.from < 4294967296) × ((g : Grammar) → Holds l.t g → l.r ≡ symbol_count l.t → Sought l.t g l.s l.from)
-
-abbrev pub decreases-loop-s : goal.decreases-loop-s
-decreases-loop-s l = l.r - l.s
+invariant-loop-s l = (l.from < 4294967296) × ((g : Grammar) → Holds l.t g → l.r ≡ symbol_count l.t → Sought l.t g l.s l.from)

@@ -23,8 +23,8 @@ returns c = (
       c.args.out.now
       c.store_expression.new.t
       c.store_expression.ensures c.store_expression-2.new.t
-      c.cap-l.result c.cap-r.result c.if-m-o.false
-      (λ h. c.cap-l.ensures.1 (omega
-      (arith, c.span.ensures)) ∙ c.span.ensures)
-      c.cap-r.ensures.1 c.store_expression-2.ensures,
+      c.cap-left.result c.cap.result c.if-m-o.false
+      (λ h. c.cap-left.ensures.1 (omega
+      (arith, c.saturating_sub.ensures)) ∙ c.saturating_sub.ensures)
+      c.cap.ensures.1 c.store_expression-2.ensures,
 )

@@ -8,7 +8,6 @@ use Rattle.lake_step_two.proofs.add_symbols.Goals as goal
 pub loop-i-init : goal.loop-i-init
 loop-i-init c = (
   omega arith,
-  omega arith,
   refl,
   λ number. each_none number (symbol_in c.args.t.now c.args.s) c.args.o
       c.args.o c.args.out.now,
@@ -16,7 +15,6 @@ loop-i-init c = (
 
 pub loop-i-preserved : goal.loop-i-preserved
 loop-i-preserved c = (
-  omega arith,
   omega (arith, c.add_symbol-m.ensures.0),
   omega (arith, c.add_symbol-m.auto),
   λ number. each_more number
@@ -24,7 +22,7 @@ loop-i-preserved c = (
       c.loop-i.i c.args.o
       c.args.o c.loop-i.m c.add_symbol-m.result
       c.args.out.now c.loop-i.out
-      c.add_symbol-m.new.out (c.loop-i.invariant.3 number) (c.add_symbol-m.ensures.1 number),
+      c.add_symbol-m.new.out (c.loop-i.invariant.2 number) (c.add_symbol-m.ensures.1 number),
 )
 
 pub returns : goal.returns
@@ -33,5 +31,5 @@ returns c = (
   λ number. let q : c.loop-i.i ≡ c.args.n = omega arith in subst
       (λ (j : ℕ). Adds number (each (symbol_in c.args.t.now c.args.s) j)
       c.args.o c.args.out.now c.args.o c.loop-i.out
-      c.loop-i.m) q (c.loop-i.invariant.3 number),
+      c.loop-i.m) q (c.loop-i.invariant.2 number),
 )

@@ -6,7 +6,4 @@ use Rattle.read_tokens.specs.Token.{Leaf}
 use Rattle.lake_step_two.proofs.add_symbols.Given as goal
 
 abbrev pub invariant-loop-i : goal.invariant-loop-i
-invariant-loop-i l = (l.i ≤ l.n) × (l.m ≤ l.o + 2 * l.i) × (length l.out ≡ length l.initial.out) × ((number : Leaf → ℕ) → Adds number (each (symbol_in l.t l.s) l.i) l.o l.initial.out l.o l.out l.m)
-
-abbrev pub decreases-loop-i : goal.decreases-loop-i
-decreases-loop-i l = l.n - l.i
+invariant-loop-i l = (l.m ≤ l.o + 2 * l.i) × (length l.out ≡ length l.initial.out) × ((number : Leaf → ℕ) → Adds number (each (symbol_in l.t l.s) l.i) l.o l.initial.out l.o l.out l.m)

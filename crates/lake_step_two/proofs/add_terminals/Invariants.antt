@@ -6,8 +6,5 @@ use Rattle.read_tokens.specs.Token.{Leaf}
 use Rattle.lake_step_two.proofs.add_terminals.Given as goal
 
 abbrev pub invariant-loop-i : goal.invariant-loop-i
-invariant-loop-i l = (l.i ≤ l.n) × (l.m ≤ l.from + 2 * l.i) × (length l.out ≡ length l.initial.out) ×
+invariant-loop-i l = (l.m ≤ l.from + 2 * l.i) × (length l.out ≡ length l.initial.out) ×
     ((number : Leaf → ℕ) (leaf : ℕ → Leaf) → Numbered number leaf l.n → Adds number (each (terminal_of leaf l.s) l.i) l.o l.initial.out l.from l.out l.m)
-
-abbrev pub decreases-loop-i : goal.decreases-loop-i
-decreases-loop-i l = l.n - l.i

@@ -9,8 +9,8 @@ returns c = (
   choice-done
       c.args.t.now
       c.args.s
-      c.args.r
-      c.args.x
+      c.args.among.symbols
+      c.args.among.terminals
       c.args.m c.add_symbols-p.result
       c.add_terminals.result c.args.out.now
       c.add_symbols-p.new.out c.add_terminals.new.out

@@ -19,6 +19,10 @@ use Rattle.lake_step_one.specs.steps.Made.{lake_at}
 use Rattle.lake_step_one.proofs.laws.Stores.{grew-one, grew_none, grew-two, grew-as}
 use Rattle.lake_step_one.proofs.laws.Bodies.{dot, run, both}
 use Rattle.lake_plain.specs.Plain.{plain_by}
+use Rattle.std.specs.Prelude.{Option as Optional}
+use Rattle.lake_step_one.specs.declared.extent.Extent.{Extent}
+use Rattle.lake_step_one.specs.steps.Extents.{from_of, end_of, Spans}
+use Rattle.lake_step_one.proofs.laws.Extents.{spanned}
 use Rattle.lake_step_two.specs.steps.Skips.{choice_parts, only_if, each, symbol_in, terminal_of, chosen_in, Adds, Added, AddedSymbol, AddedTerminal, AddedSymbols, AddedTerminals}
 use Rattle.lake_step_two.specs.steps.Skips.{Numbered, ChoiceTo, SkipTo, PlainTo}
 
@@ -172,3 +176,8 @@ module _ (t s : List ℕ) (r x a b m : ℕ) (mid : List ℕ) where
     pub plain_other : PlainTo t false s r x a b mid m c (m + k)
     plain_other number leaf none n z w q = absurd (there q)
     plain_other number leaf (some e) n z w q = run number t mid c a k m b e w q.0 span q.1 copied
+
+-- a body whose word is b
+pub plain-spanned : (t : List ℕ) (lake : Bool) (s : List ℕ) (r x a b : ℕ) (o : Optional Extent) (mid : List ℕ) (m : ℕ) (one : List ℕ) (p : ℕ) → Spans a b o
+    → PlainTo t lake s r x (from_of o) (end_of o) mid m one p → PlainTo t lake s r x a b mid m one p
+plain-spanned t lake s r x a b o mid m one p sp to number leaf w num z l v = to number leaf w num z l (spanned number t a b o w sp v)

@@ -11,8 +11,8 @@ returns-then-p-m c = (
   skip-none
       c.args.t.now
       c.args.s
-      c.args.r
-      c.args.x
+      c.args.among.symbols
+      c.args.among.terminals
       c.args.m c.choice-p.result
       c.args.out.now c.choice-p.new.out
       c.choice-p.ensures.1 c.store_expression.new.t c.if-p-m.true
@@ -28,19 +28,19 @@ returns c = (
   skip-some
       c.args.t.now
       c.args.s
-      c.args.r
-      c.args.x
+      c.args.among.symbols
+      c.args.among.terminals
       c.args.m c.choice-p.result
       c.args.out.now c.choice-p.new.out
       c.choice-p.ensures.1
       c.store_expression-2.new.t
       c.store_expression-3.new.t c.store_expression-4.new.t
-      c.cap-l.result c.cap-a.result
-      c.cap-b.result c.if-p-m.false
+      c.cap-l.result c.cap.result
+      c.cap-2.result c.if-p-m.false
       (λ h. c.cap-l.ensures.1 (omega
-      (arith, c.span.ensures)) ∙
-      c.span.ensures)
+      (arith, c.saturating_sub.ensures)) ∙
+      c.saturating_sub.ensures)
       c.store_expression-2.ensures
-      c.store_expression-3.ensures c.cap-a.ensures.1
-      c.cap-b.ensures.1 c.store_expression-4.ensures,
+      c.store_expression-3.ensures c.cap.ensures.1
+      c.cap-2.ensures.1 c.store_expression-4.ensures,
 )

@@ -1,7 +1,6 @@
 use mathlib.Core.Path.{refl}
 use native.Mathlib.Omega.{arith}
 use lib.ListN.{length}
-use Rattle.base_facts.specs.laws.Bools.{not-false, not-true}
 use Rattle.match_eval.proofs.laws.Memory.{knows-nothing}
 use Rattle.match_run.specs.laws.Runs.{need-small}
 use Rattle.match_ask.specs.laws.Asks.{same, same-symbols, within, long, few, other, behind, answered}
@@ -30,8 +29,8 @@ returns-then-cells-need c = same c.not_asked-then-cells-need.ensures
     c.args.cells.now c.args.place
     c.symbols-n.result _ c.symbols-n.ensures (omega (arith, c.if-input-gt65535.false)) refl c.if-cells-need.true)
 
-pub returns-then-not-l : goal.returns-then-not-l
-returns-then-not-l c = same c.not_asked-then-not-l.ensures
+pub returns-in_default : goal.returns-in_default
+returns-in_default c = same c.not_asked-in_default.ensures
     (other c.args.mode
     c.args.text.now
     c.args.table.now
@@ -42,7 +41,7 @@ returns-then-not-l c = same c.not_asked-then-not-l.ensures
     c.args.place
     c.symbols-n.result _ c.symbols-n.ensures
     (omega (arith, c.if-input-gt65535.false)) refl (omega (arith, c.if-cells-need.false))
-    (not-true c.args.l.there c.if-not-l.true))
+    c.in_default.is)
 
 pub returns-then-input-place : goal.returns-then-input-place
 returns-then-input-place c = same c.not_asked-then-input-place.ensures
@@ -56,7 +55,7 @@ returns-then-input-place c = same c.not_asked-then-input-place.ensures
     c.args.place
     c.symbols-n.result _ c.symbols-n.ensures
     (omega (arith, c.if-input-gt65535.false)) refl (omega (arith, c.if-cells-need.false))
-    (not-false c.args.l.there c.if-not-l.false)
+    c.in-Some.alt c.in-Some.is
     c.if-input-place.true)
 
 pub fill-requires : goal.fill-requires
@@ -70,11 +69,8 @@ fill-requires c = (
       c.args.table.now 34075 (omega arith),
 )
 
-pub own_again-requires : goal.own_again-requires
-own_again-requires c = c.requires.clear
-
-pub way-w-requires : goal.way-w-requires
-way-w-requires c = (
+pub way-requires : goal.way-requires
+way-requires c = (
   (
     omega (
       arith,
@@ -90,7 +86,7 @@ way-w-requires c = (
         c.args.text.now
         c.args.table.now
         c.args.l c.requires _ c.own_again.ensures
-        (not-false c.args.l.there c.if-not-l.false),
+        c.in-Some.alt c.in-Some.is,
     omega (arith, c.if-input-gt65535.false),
     omega (arith, c.if-input-place.false),
   ),
@@ -114,9 +110,8 @@ returns c = answered
       c.if-input-gt65535.false,
     )) refl (omega
     (arith, c.if-cells-need.false))
-    (not-false c.args.l.there
-    c.if-not-l.false)
+    c.in-Some.alt c.in-Some.is
     (omega (arith, c.if-input-place.false)) _
     c.fill.ensures.0 _
     c.own_again.ensures
-    c.way-w.result c.way_of-how.result c.way-w.ensures c.way_of-how.ensures
+    c.way.result c.way.ensures

@@ -1,9 +1,9 @@
 -- The lake question, from what its parts answer. Assumes nothing.
-use Rattle.std.specs.Prelude.{ℕ, zero, suc, ◌+◌, ◌*◌, ◌≤◌, ◌<◌, ◌≡◌, Bool, true, false, not, ◌&&◌, ◌⊎◌, length, get_or, leb, ltb}
+use Rattle.std.specs.Prelude.{ℕ, ◌+◌, ◌*◌, ◌≤◌, ◌<◌, ◌≡◌, Bool, true, false, not, ◌&&◌, ◌⊎◌, length, get_or, leb, ltb, Option, None, Some}
 use Rattle.std.proofs.Math.Path.{refl, sym, ap, ap₂}
-use Rattle.std.proofs.Common.{◌∙◌, true≢false, inl, inr, arith}
+use Rattle.std.proofs.Common.{◌∙◌, subst, true≢false, inl, inr, arith}
 use mathlib.Core.List.{List, []}
-use Rattle.std.proofs.Math.Option.{Option, none, some}
+use Rattle.std.proofs.Math.Option.{Option as Maybe, none, some}
 use borrow.Author.Tests.{lt-ltb, le-ltb, ltb-true, lt-leb, le-leb}
 use Rattle.base_facts.specs.laws.Bools.{and_left}
 use Rattle.base_facts.specs.laws.Numbers.{lt-or-ge}
@@ -33,46 +33,23 @@ use Rattle.prepare.specs.Prepare.{Prepared, prepared, prepared_by}
 use Rattle.prepare.specs.steps.Loads.{Stands, Ready}
 use Rattle.prepare.specs.Reads.{is_refused, read_of}
 use Rattle.prepare.specs.laws.Reads.{clear-good, clear-loop, clear-sound}
-use Rattle.match_ask.specs.declared.Way.{Way}
-use Rattle.match_ask.specs.declared.Way.TheVariants.{BySkip}
+use Rattle.match_lake.specs.declared.ways.Way.{Way}
+use Rattle.match_lake.specs.steps.Ways.{way_of}
 use Rattle.match_ask.specs.declared.LakeAlt.{LakeAlt}
 use Rattle.match_ask.specs.declared.LakeWay.{LakeWay}
-use Rattle.match_ask.specs.steps.Asks.{not_asked, way_of, Lent, lent, is_lake_of, is_there, asked_after, asked_of, no_lake, LakeIn, Stood, Looked}
-
--- no smaller number is left
-pub by-skip : (k : ℕ) → (k ≡ 0 → ⊥) → (k ≡ 1 → ⊥) → (k ≡ 2 → ⊥) → BySkip ≡ way_of k
-unfolding way_of
-by-skip zero a b c = absurd (a refl)
-by-skip (suc zero) a b c = absurd (b refl)
-by-skip (suc (suc zero)) a b c = absurd (c refl)
-by-skip (suc (suc (suc k))) a b c = refl
+use Rattle.match_ask.specs.steps.Asks.{not_asked, Lent, lent, is_lake_of, is_there, asked_after, asked_of, LakeIn, AltOf, Stood, Looked}
 
 -- as many symbols as the grammar has
 pub symbols-of : (t : List ℕ) (g : Grammar) → Holds t g → symbol_count t ≡ length g.names
 symbols-of t g h = sym (up-length (name_in t) (symbol_count t)) ∙ ap length h.names
 
 -- ── what is asked of a symbol ──
-module _ (mid : List ℕ) (alts : List (List ℕ)) (n l : ℕ) where
-  none_in : {r : LakeAlt} → r ≡ no_lake l Accepted → (ltb l n && lake_in mid l) ≡ false → LakeIn mid alts n l r
-  none_in e h = record {
-    symbol = ap (λ (r : LakeAlt). r.symbol) e;
-    there = ap (λ (r : LakeAlt). r.there) e ∙ sym h;
-    alt = λ y. absurd (true≢false (sym y ∙ ap (λ (r : LakeAlt). r.there) e));
-    verdict = ap (λ (r : LakeAlt). r.verdict) e;
-  }
+module _ (mid : List ℕ) (n l : ℕ) where
+  pub lake-past : n ≤ l → (ltb l n && lake_in mid l) ≡ false
+  lake-past h = ap (λ (b : Bool). b && lake_in mid l) (le-ltb l n h)
 
-  pub lake-past : {r : LakeAlt} → r ≡ no_lake l Accepted → n ≤ l → LakeIn mid alts n l r
-  lake-past e h = none_in e (ap (λ (b : Bool). b && lake_in mid l) (le-ltb l n h))
-
-  module _ (there : l < n) where
-    by_kind : {b : Bool} → lake_in mid l ≡ b → (ltb l n && lake_in mid l) ≡ b
-    by_kind h = ap (λ (b : Bool). b && lake_in mid l) (lt-ltb l n there) ∙ h
-
-    pub lake-other : {r : LakeAlt} → r ≡ no_lake l Accepted → lake_in mid l ≡ false → LakeIn mid alts n l r
-    lake-other e h = none_in e (by_kind h)
-
-    pub lake-there : {a : List ℕ} → lake_in mid l ≡ true → a ≡ alt_in mid alts l → LakeIn mid alts n l (record { symbol = l; there = true; alt = a; verdict = Accepted })
-    lake-there h e = record { symbol = refl; there = sym (by_kind h); alt = λ y. e; verdict = refl }
+  pub lake-kind : {b : Bool} → l < n → lake_in mid l ≡ b → (ltb l n && lake_in mid l) ≡ b
+  lake-kind there h = ap (λ (b : Bool). b && lake_in mid l) (lt-ltb l n there) ∙ h
 
 -- ── of a text that is accepted ──
 module _ (m : Mode) (s : List ℕ) where
@@ -108,13 +85,12 @@ module _ (m : Mode) (s : List ℕ) where
     inside : (b : Bool) → (ltb l n && b) ≡ true → l < n
     inside b h = ltb-true l n (and_left (ltb l n) b h)
 
-    pub stood : (r : LakeAlt) → LakeIn mid alts n l r → Stood m s out r
-    stood r w = record {
-      clear = st.clear;
-      plain = record { holds = st.worked.plain; sound = clear-sound m s st.clear };
-      there = w.there ∙ there-is ∙ ap (is_lake_of p) (sym w.symbol);
-      alt = λ y. set_is r.alt (inside (lake_in mid l) (sym w.there ∙ y)) (w.alt y) ∙ ap (lake_alt p.analysis) (sym w.symbol);
-    }
+    alt_of : (o : Option (List ℕ)) → LakeIn mid alts n l o → AltOf p l o
+    alt_of None w = sym there-is ∙ w
+    alt_of (Some a) w = (sym there-is ∙ w.0, set_is a (inside (lake_in mid l) w.0) w.1)
+
+    pub stood : (o : Option (List ℕ)) (v : Verdict) → LakeIn mid alts n l o → Stood m s out (record { symbol = l; alt = o; verdict = v })
+    stood o v w = record { clear = st.clear; plain = record { holds = st.worked.plain; sound = clear-sound m s st.clear }; alt = alt_of o w }
 
   module _ (out : List ℕ) (a : LakeAlt) (st : Stood m s out a) where
     -- the grammar's own table
@@ -122,17 +98,18 @@ module _ (m : Mode) (s : List ℕ) where
       pub same-symbols : symbol_count out ≡ symbol_count t
       same-symbols = symbols-of out _ st.plain.holds ∙ sym (symbols-of t g own)
 
-      pub within : a.there ≡ true → a.symbol < symbol_count t
+      pub within : (set : List ℕ) → a.alt ≡ Some set → a.symbol < symbol_count t
       unfolding prepared prepared_by
-      within h =
-          omega (arith, symbols-of t g own, ltb-true a.symbol (length p.grammar.names) (and_left (ltb a.symbol (length p.grammar.names)) _ (sym st.there ∙ h)))
+      within set h =
+          let u : AltOf p a.symbol (Some set) = subst (AltOf p a.symbol) h st.alt in
+          omega (arith, symbols-of t g own, ltb-true a.symbol (length p.grammar.names) (and_left (ltb a.symbol (length p.grammar.names)) _ u.0))
 
     module _ (i cs : List ℕ) (q : ℕ) where
       abbrev l : ℕ
       l = a.symbol
 
-      by-checks : (x y : Option Refusal) → refuses_room p.bodies i cs ≡ x → refuse_if (not (is_there p i l q)) 14 0 ≡ y → asked_after (x ▸ y) p i cs l q ≡ asked_of p i cs l q
-      by-checks x y e f = sym (ap₂ (λ (o r : Option Refusal). asked_after (o ▸ r) p i cs l q) e f)
+      by-checks : (x y : Maybe Refusal) → refuses_room p.bodies i cs ≡ x → refuse_if (not (is_there p i l q)) 14 0 ≡ y → asked_after (x ▸ y) p i cs l q ≡ asked_of p i cs l q
+      by-checks x y e f = sym (ap₂ (λ (o r : Maybe Refusal). asked_after (o ▸ r) p i cs l q) e f)
 
       pub long : 65535 < length i → lent (not_asked (VerdictRefused 9 65535)) cs ≡ asked_of p i cs l q
       unfolding prepared prepared_by
@@ -151,19 +128,22 @@ module _ (m : Mode) (s : List ℕ) where
           not_there : is_there p i l q ≡ false → lent (not_asked (VerdictRefused 14 0)) cs ≡ asked_of p i cs l q
           not_there h = by-checks none (some (refusal 14 0)) input_none (ap (λ (b : Bool). refuse_if (not b) 14 0) h)
 
-          by_parts : (b c : Bool) → a.there ≡ b → leb q (length i) ≡ c → is_there p i l q ≡ (b && c)
-          by_parts b c x y = ap₂ ◌&&◌ (sym st.there ∙ x) y
+          by_parts : (b c : Bool) → is_lake_of p l ≡ b → leb q (length i) ≡ c → is_there p i l q ≡ (b && c)
+          by_parts b c x y = ap₂ ◌&&◌ x y
 
-          pub other : a.there ≡ false → lent (not_asked (VerdictRefused 14 0)) cs ≡ asked_of p i cs l q
-          other h = not_there (by_parts false (leb q (length i)) h refl)
+          pub other : a.alt ≡ None → lent (not_asked (VerdictRefused 14 0)) cs ≡ asked_of p i cs l q
+          other h = let u : AltOf p l None = subst (AltOf p l) h st.alt in not_there (by_parts false (leb q (length i)) u refl)
 
-          module _ (there : a.there ≡ true) where
+          module _ (set : List ℕ) (there : a.alt ≡ Some set) where
+            asked : AltOf p l (Some set)
+            asked = subst (AltOf p l) there st.alt
+
             pub behind : length i < q → lent (not_asked (VerdictRefused 14 0)) cs ≡ asked_of p i cs l q
-            behind k = not_there (by_parts true false there (lt-leb q (length i) k))
+            behind k = not_there (by_parts true false asked.0 (lt-leb q (length i) k))
 
             module _ (in-text : q ≤ length i) (new : List ℕ) (fills : Fills out i cs new) (t : List ℕ) (own : Holds t g) where
               checks : refuse_if (not (is_there p i l q)) 14 0 ≡ none
-              checks = ap (λ (b : Bool). refuse_if (not b) 14 0) (by_parts true true there (le-leb q (length i) in-text))
+              checks = ap (λ (b : Bool). refuse_if (not b) 14 0) (by_parts true true asked.0 (le-leb q (length i) in-text))
 
               cells_are : new ≡ filled_by p.bodies i cs
               unfolding prepared prepared_by
@@ -173,37 +153,31 @@ module _ (m : Mode) (s : List ℕ) where
               unfolding prepared prepared_by
               count-is = sym (same-symbols t own) ∙ bodies-are out g (plain_of g) st.plain.holds
 
-              way-all : (w : ℕ) → w ≡ way_in (grammar_in t) i new (symbol_count t) a.alt l q → w ≡ way_in p.grammar i (filled_by p.bodies i cs) (length p.bodies) (lake_alt p.analysis l) l q
+              way-all : (w : ℕ) → w ≡ way_in (grammar_in t) i new (symbol_count t) set l q → w ≡ way_in p.grammar i (filled_by p.bodies i cs) (length p.bodies) (lake_alt p.analysis l) l q
               unfolding prepared prepared_by
               way-all w y =
-                  way-is t g own (clear-good m s st.clear).proper i new (symbol_count t) a.alt l q w y
-                  ∙ ap (λ (z : List ℕ). way_in g i new (symbol_count t) z l q) (st.alt there)
+                  way-is t g own (clear-good m s st.clear).proper i new (symbol_count t) set l q w y
+                  ∙ ap (λ (z : List ℕ). way_in g i new (symbol_count t) z l q) asked.1
                   ∙ ap₂ (λ (cs : List ℕ) (k : ℕ). way_in g i cs k (lake_alt (analysis g) l) l q) cells_are count-is
 
-              pub answered : (w : ℕ) (r : Way) → w ≡ way_in (grammar_in t) i new (symbol_count t) a.alt l q → r ≡ way_of w → lent (record { way = r; verdict = Accepted }) new ≡ asked_of p i cs l q
-              answered w r y z =
-                  ap₂ (λ (v : Way) (c : List ℕ). lent (record { way = v; verdict = Accepted }) c) (z ∙ ap way_of (way-all w y)) cells_are ∙ by-checks none none input_none checks
+              pub answered : (r : Way) → r ≡ way_of (way_in (grammar_in t) i new (symbol_count t) set l q) → lent (record { way = r; verdict = Accepted }) new ≡ asked_of p i cs l q
+              answered r z =
+                  ap₂ (λ (v : Way) (c : List ℕ). lent (record { way = v; verdict = Accepted }) c) (z ∙ ap way_of (way-all _ refl)) cells_are ∙ by-checks none none input_none checks
 
 -- ── as the code has it ──
 -- the verdict of a text that is refused, handed on
-pub looked-refused : {m : Mode} {s out : List ℕ} {l : ℕ} {c : Counted} {r : LakeAlt} → r ≡ no_lake l c.verdict → c ≡ read_of m s → is_refused c.verdict ≡ true → Looked m s out l r
-looked-refused e f h = record {
-  answer = ap (λ (r : LakeAlt). r.verdict) e ∙ ap (λ (c : Counted). c.verdict) f;
-  symbol = ap (λ (r : LakeAlt). r.symbol) e;
-  stood = λ z. absurd (true≢false (sym h ∙ sym (ap (λ (r : LakeAlt). is_refused r.verdict) e) ∙ z));
-}
+pub looked-refused : {m : Mode} {s out : List ℕ} {l : ℕ} {c : Counted} {o : Option (List ℕ)} → c ≡ read_of m s → is_refused c.verdict ≡ true
+    → Looked m s out l (record { symbol = l; alt = o; verdict = c.verdict })
+looked-refused f h = record { answer = ap (λ (c : Counted). c.verdict) f; symbol = refl; stood = λ z. absurd (true≢false (sym h ∙ z)) }
 
 pub looked-accepted : {m : Mode} {s t mid : List ℕ} {ms : List Bool} {sets : List (List ℕ)} {eps : List Bool} {succ alts : List (List ℕ)} {out : List ℕ} {rounds : ℕ} {c : Counted}
-    → Ready m s t mid ms sets eps succ alts out c rounds → is_refused c.verdict ≡ false → (n l : ℕ) → n ≡ symbol_count out → (r : LakeAlt) → LakeIn mid alts n l r → Looked m s out l r
-looked-accepted {m} {s} {t} {mid} {ms} {sets} {eps} {succ} {alts} {out} {rounds} {c} w h n l e r i = record {
-  answer = i.verdict ∙ sym (accepted c.verdict h) ∙ ap (λ (c : Counted). c.verdict) w.answer;
-  symbol = i.symbol;
-  stood = λ z. stood m s t mid ms sets eps succ alts out rounds (w.stands h) n l e r i;
+    → Ready m s t mid ms sets eps succ alts out c rounds → is_refused c.verdict ≡ false → (n l : ℕ) → n ≡ symbol_count out → (o : Option (List ℕ)) → LakeIn mid alts n l o
+    → Looked m s out l (record { symbol = l; alt = o; verdict = c.verdict })
+looked-accepted {m} {s} {t} {mid} {ms} {sets} {eps} {succ} {alts} {out} {rounds} {c} w h n l e o i = record {
+  answer = ap (λ (c : Counted). c.verdict) w.answer;
+  symbol = refl;
+  stood = λ z. stood m s t mid ms sets eps succ alts out rounds (w.stands h) n l e o c.verdict i;
 }
-  where
-    accepted : (v : Verdict) → is_refused v ≡ false → v ≡ Accepted
-    accepted Accepted z = refl
-    accepted (VerdictRefused k q) z = absurd (true≢false z)
 
 -- the same answer beside the same cells
 pub same : {r r' : LakeWay} {cs : List ℕ} {x : Lent} → r ≡ r' → lent r' cs ≡ x → lent r cs ≡ x

@@ -10,7 +10,9 @@ use Rattle.std.specs.Int.Bits.{bit_or}
 use Rattle.std.proofs.Math.Decide.{ℕ_discrete}
 use Rattle.std.proofs.Math.ListN.{get_or, length, set, length-set}
 use Rattle.std.proofs.Math.Seq.{get_or-set_same, get_or-set_other}
-use Rattle.std.proofs.lemmas.List.{set-get_or}
+use Rattle.std.proofs.lemmas.List.{set-get_or, places}
+use Rattle.std.proofs.lemmas.Grind.{same_number_lists}
+use borrow.Rule.Slice.PartMut.{put_mid}
 use Rattle.base_facts.specs.laws.Bools.{and_parts}
 use Rattle.base_facts.specs.laws.Numbers.{lt-or-ge}
 use Rattle.grammar.specs.Exp.{Exp, sym}
@@ -200,15 +202,22 @@ module _ (plan : List ℕ) (o i : ℕ) where
           ∙ get_or-set_same (copy_of plan o i m cs) (i + m) (get_or plan (o + m) 0) 0 (omega (arith, copy-length m cs)) ∙ ap (λ (y : ℕ). get_or plan (o + y) 0) (flip z)
       go (inr h) k = get_or-set_other (copy_of plan o i m cs) (i + m) (i + r) (get_or plan (o + m) 0) 0 (λ e. omega (arith, e, h)) ∙ k h
 
-  -- one symbol more, as code does it
-  pub copy_more : (r : ℕ) (cs ds new : List ℕ) → ds ≡ copy_of plan o i r cs → new ≡ set ds (i + r) (get_or plan (o + r) 0) → new ≡ copy_of plan o i (r + 1) cs
-  unfolding copy_of
-  copy_more r cs ds new e f =
-      f ∙ ap (λ (l : List ℕ). set l (i + r) (get_or plan (o + r) 0)) e ∙ ap (λ (k : ℕ). copy_of plan o i k cs) (flip (add-one r))
+  -- as one copy, as code does it
+  module _ (n m : ℕ) (cs ys : List ℕ) (e : m ≡ n) (room : i + n ≤ length cs) (l : length ys ≡ n) (same : (r : ℕ) → r < n → get_or ys r 0 ≡ get_or plan (o + r) 0) where
+    pasted-length : length (put_mid i m cs ys) ≡ length cs
+    pasted-length = grind (arith, places, e, room, l)
 
-  pub copy_start : (cs : List ℕ) → cs ≡ copy_of plan o i 0 cs
-  unfolding copy_of
-  copy_start cs = refl
+    pasted : (k : ℕ) → k < length cs → (k < i) ⊎ (i ≤ k) → (k < i + n) ⊎ (i + n ≤ k) → get_or (put_mid i m cs ys) k 0 ≡ get_or (copy_of plan o i n cs) k 0
+    pasted k h (inl b) g = grind (arith, places, e, room, l, copy-other n cs k (λ r f z. omega (arith, b, z)))
+    pasted k h (inr b) (inl g) =
+        let z : i + (k - i) ≡ k = omega (arith, b) in
+        grind (arith, places, e, room, l, z, b, g, same (k - i) (omega (arith, b, g))) ∙ flip (copy-here n cs (k - i) (omega (arith, b, g)) room) ∙ ap (λ (j : ℕ). get_or (copy_of plan o i n cs) j 0) z
+    pasted k h (inr b) (inr g) = grind (arith, places, e, room, l, h, b, g, copy-other n cs k (λ r f z. omega (arith, g, f, z)))
+
+    pub copied : put_mid i m cs ys ≡ copy_of plan o i n cs
+    copied =
+        same_number_lists (put_mid i m cs ys) (copy_of plan o i n cs) (pasted-length ∙ flip (copy-length n cs))
+        (λ k h. pasted k (omega (arith, h, pasted-length)) (lt-or-ge k i) (lt-or-ge k (i + n)))
 
 -- ── either of them ──
 module _ (t mem plan : List ℕ) (b i n : ℕ) (cs : List ℕ) where

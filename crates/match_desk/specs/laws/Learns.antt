@@ -1,5 +1,5 @@
 -- The desk is made expression after expression: parts come before wholes. Assumes nothing.
-use Prim.Native.Nat.{ℕ, zero, suc, ◌+◌, ◌-◌, ◌≤◌, ◌<◌}
+use Prim.Native.Nat.{ℕ, zero, suc, ◌+◌, ◌-◌, ◌≤◌, ◌<◌, max}
 use Rattle.std.specs.Prelude.{◌≡◌, ◌⊎◌, Bool, true, false, List, [], ◌++◌, eqb, length, get_or, set, replicate}
 use Rattle.std.proofs.Math.Path.{refl}
 use Rattle.std.proofs.Common.{ap, ◌∙◌, subst, sym as flip, inl, inr, arith, eq-or-lt_of_le, length-set, get_or-set_same, get_or-set_other, eqb-true}
@@ -279,3 +279,23 @@ module _ (t k : List ℕ) (x op l y z : ℕ) (inside : x ≤ expression_count t)
     learn-choice e m =
         let f : (forest.parent y ≡ x) × (forest.parent z ≡ x) × (z ≡ y → ⊥) = parted 3 e in
         learn-two f.0 f.1 (as-kind 3 (λ i. parent_of both i) e (left_here f.2, there, f.2)) (λ g. silent-two t x op l y z made (inr e) (silent-y' (m g).0) (silent-z (m g).1))
+
+    -- either of them, where v is the greater of the two marks
+    pub learn-two-of : v ≡ max (mark_of k y) (mark_of k z) → 2 ≤ op → op ≤ 3 → Desk t (set (set (set k x v) (parents_at + y) x) (parents_at + z) x) x
+    learn-two-of m low high = go (eqb op 2) refl
+      where
+        none : v ≡ 0 → (mark_of k y ≡ 0) × (mark_of k z ≡ 0)
+        none o = (omega (arith, o, m), omega (arith, o, m))
+
+        go : (b : Bool) → eqb op 2 ≡ b → Desk t (set (set (set k x v) (parents_at + y) x) (parents_at + z) x) x
+        go true e = learn-seq (eqb-true op 2 e) none
+        go false e = let f = eqb-false op 2 e in learn-choice (omega (arith, f, low, high)) none
+
+    -- either of the three that have one part
+    pub learn-one-of : v ≡ mark_of k y → 4 ≤ op → op ≤ 6 → Desk t (set (set k x v) (parents_at + y) x) x
+    learn-one-of m low high = go (eqb op 4) (eqb op 5) refl refl
+      where
+        go : (a b : Bool) → eqb op 4 ≡ a → eqb op 5 ≡ b → Desk t (set (set k x v) (parents_at + y) x) x
+        go true b e f = learn-option (eqb-true op 4 e) m
+        go false true e f = learn-star (eqb-true op 5 f) m
+        go false false e f = let u = eqb-false op 4 e in let w = eqb-false op 5 f in learn-plus (omega (arith, u, w, low, high)) m

@@ -1,4 +1,4 @@
-use mathlib.Core.Path.{◌≡◌, refl, sym, ap, ◌∙◌}
+use mathlib.Core.Path.{◌≡◌, sym, ap, ◌∙◌}
 use mathlib.Core.List.{List}
 use native.Mathlib.Omega.{arith}
 use native.Mathlib.Numerals.{add-one}
@@ -6,14 +6,15 @@ use lib.ListN.{length}
 use Rattle.grammar.specs.Exp.{Exp}
 use Rattle.grammar_table.specs.Table.{right_of, node_by, leaf_in}
 use Rattle.match_eval.specs.Eval.{ev, rep}
+use Rattle.match_eval.specs.steps.Memory.{rounds_of}
 use Rattle.match_eval.proofs.laws.Within.{ev-within, rep-within}
 use Rattle.match_eval.proofs.laws.EvalSteps.{seq-left, seq-right, seq-both, alt-left, alt-right, plus-ends, plus-takes, opt-fails, opt-takes, ahead-fails, ahead-takes, never-takes}
-use Rattle.match_eval.proofs.laws.EvalSteps.{never-fails, rep-ends, rep-none, rep-more}
+use Rattle.match_eval.proofs.laws.EvalSteps.{never-fails, rep-ends}
 use Rattle.grammar_table.specs.Trees.{tree_of, below}
 use Rattle.grammar_table.specs.laws.Trees.{node-never, below-le}
 use Rattle.match_eval.proofs.laws.Evaluated.{zero-tree, node-ev}
-use Rattle.match_eval.proofs.laws.Memory.{known-ends, said-right, knows-from}
-use Prim.Native.Nat.{ℕ, suc, ◌+◌, ◌-◌, ◌≤◌}
+use Rattle.match_eval.proofs.laws.Memory.{said-right, knows-from, rounds-next}
+use Prim.Native.Nat.{ℕ, suc, ◌+◌, ◌-◌, ◌≤◌, ◌<◌}
 use Rattle.match_eval.proofs.+eval_with_many_round.Goals as goal
 use Rattle.match_eval.proofs.+eval_with_many_round.Goals.{many-then-w-eq0, many-else-w-eq0}
 
@@ -26,50 +27,6 @@ eval_with-returns-then-x-eq0 t c = c.any_at.ensures ∙ zero-tree c.args.s.now
     c.args.cells.now c.args.t.now
     c.args.n c.args.x
     c.args.p c.if-x-eq0.true
-
-pub eval_with-overflow_sub-e : goal.eval_with-overflow_sub-e
-eval_with-overflow_sub-e t c = omega (arith, c.if-x-eq0.false)
-
-pub eval_with-left-l-requires : goal.eval_with-left-l-requires
-eval_with-left-l-requires t c = omega (arith, c.requires.0)
-
-pub eval_with-part-y-requires : goal.eval_with-part-y-requires
-eval_with-part-y-requires t c = c.left-l.ensures.1
-
-pub eval_with-op-op-requires : goal.eval_with-op-op-requires
-eval_with-op-op-requires t c = omega (arith, c.requires.0)
-
-pub eval_with-leaf_at-requires : goal.eval_with-leaf_at-requires
-eval_with-leaf_at-requires t c = omega
-    (arith, c.left-l.ensures.1, c.requires.0)
-
-pub eval_with-cell_at-requires : goal.eval_with-cell_at-requires
-eval_with-cell_at-requires t c = omega (arith, c.requires.0)
-
-pub eval_with-round-a-requires : goal.eval_with-round-a-requires
-eval_with-round-a-requires t c = (
-  omega (
-    arith,
-    below-le c.left-l.result
-        (c.args.x - 1),
-    c.part-y.ensures,
-    c.if-x-eq0.false,
-    c.decreases,
-    c.requires.0,
-  ),
-  (
-    omega (
-      arith,
-      below-le c.left-l.result
-          (c.args.x - 1),
-      c.part-y.ensures,
-      c.if-x-eq0.false,
-      c.decreases,
-      c.requires.0,
-    ),
-    c.requires.1,
-  ),
-)
 
 pub eval_with-returns-then-a-eq0 : goal.eval_with-returns-then-a-eq0
 unfolding ev node_by
@@ -87,81 +44,6 @@ eval_with-returns-then-a-eq0 t c = seq-left _ _ _ (c.round-a.ensures ∙ ap
     c.args.p 2 c.left-l.result
     c.if-x-eq0.false (sym c.in-2.is ∙ c.op-op.ensures.0)
     c.left-l.ensures.0
-
-pub eval_with-right-r-requires : goal.eval_with-right-r-requires
-eval_with-right-r-requires t c = omega (arith, c.requires.0)
-
-pub eval_with-part-z-requires : goal.eval_with-part-z-requires
-eval_with-part-z-requires t c = c.right-r.ensures.1
-
-pub eval_with-overflow_sub-a : goal.eval_with-overflow_sub-a
-eval_with-overflow_sub-a t c = omega (arith, c.if-a-eq0.false)
-
-pub eval_with-overflow_add-p : goal.eval_with-overflow_add-p
-eval_with-overflow_add-p t c = omega (
-  arith,
-  ev-within c.args.s.now
-      c.args.cells.now
-      c.args.n
-      (tree_of c.args.t.now
-      c.part-y.result)
-      c.args.p
-      (omega (arith, c.requires.0)),
-  c.round-a.ensures,
-  c.requires.0,
-)
-
-pub eval_with-round-b-requires : goal.eval_with-round-b-requires
-eval_with-round-b-requires t c = (
-  omega (
-    arith,
-    below-le c.right-r.result
-        (c.args.x - 1),
-    c.part-z.ensures,
-    c.if-x-eq0.false,
-    ev-within
-        c.args.s.now
-        c.args.cells.now
-        c.args.n
-        (tree_of c.args.t.now
-        c.part-y.result)
-        c.args.p
-        (omega (arith, c.requires.0)),
-    c.round-a.ensures,
-    c.if-a-eq0.false,
-    c.decreases,
-    c.requires.0,
-  ),
-  (
-    omega (
-      arith,
-      below-le c.right-r.result (c.args.x - 1),
-      c.part-z.ensures,
-      c.if-x-eq0.false,
-      ev-within
-          c.args.s.now
-          c.args.cells.now
-          c.args.n
-          (tree_of c.args.t.now
-          c.part-y.result)
-          c.args.p
-          (omega (arith, c.requires.0)),
-      c.round-a.ensures,
-      c.if-a-eq0.false,
-      c.decreases,
-      c.requires.0,
-    ),
-    knows-from
-        c.args.t.now
-        c.args.s.now
-        c.args.cells.now
-        c.args.mem.now
-        c.args.n 0 0
-        c.args.p
-        (c.args.p + (c.round-a.result - 1))
-        (omega arith) (omega arith) c.requires.1,
-  ),
-)
 
 pub eval_with-returns-then-b-eq0 : goal.eval_with-returns-then-b-eq0
 unfolding ev node_by
@@ -193,70 +75,6 @@ eval_with-returns-then-b-eq0 t c = seq-right _ _ _ _ (c.round-a.ensures ∙ ap
     ∙ c.op-op.ensures.0)
     c.left-l.ensures.0
 
-pub eval_with-overflow_add-result : goal.eval_with-overflow_add-result
-eval_with-overflow_add-result t c = omega (
-  arith,
-  ev-within
-      c.args.s.now
-      c.args.cells.now
-      c.args.n (tree_of
-      c.args.t.now
-      c.part-y.result)
-      c.args.p (omega
-      (arith, c.requires.0)),
-  c.round-a.ensures,
-  ev-within
-      c.args.s.now
-      c.args.cells.now
-      c.args.n (tree_of
-      c.args.t.now
-      c.part-z.result)
-      (c.args.p +
-      (c.round-a.result - 1)) (omega (
-        arith,
-        ev-within
-            c.args.s.now
-            c.args.cells.now
-            c.args.n (tree_of
-            c.args.t.now
-            c.part-y.result)
-            c.args.p (omega
-            (arith, c.requires.0)),
-        c.round-a.ensures,
-        c.requires.0,
-      )),
-  c.round-b.ensures,
-  c.requires.0,
-)
-
-pub eval_with-overflow_sub-result : goal.eval_with-overflow_sub-result
-eval_with-overflow_sub-result t c = omega (arith, c.if-a-eq0.false)
-
-pub eval_with-round-a-requires-in-3 : goal.eval_with-round-a-requires-in-3
-eval_with-round-a-requires-in-3 t c = (
-  omega (
-    arith,
-    below-le c.left-l.result
-        (c.args.x - 1),
-    c.part-y.ensures,
-    c.if-x-eq0.false,
-    c.decreases,
-    c.requires.0,
-  ),
-  (
-    omega (
-      arith,
-      below-le c.left-l.result
-          (c.args.x - 1),
-      c.part-y.ensures,
-      c.if-x-eq0.false,
-      c.decreases,
-      c.requires.0,
-    ),
-    c.requires.1,
-  ),
-)
-
 pub eval_with-returns-then-a-ne0 : goal.eval_with-returns-then-a-ne0
 unfolding ev node_by
 eval_with-returns-then-a-ne0 t c = alt-left _ _ _ (c.round-a-in-3.ensures ∙ ap
@@ -274,61 +92,6 @@ eval_with-returns-then-a-ne0 t c = alt-left _ _ _ (c.round-a-in-3.ensures ∙ ap
     c.if-x-eq0.false (sym c.in-3.is ∙ c.op-op.ensures.0)
     c.left-l.ensures.0
 
-pub eval_with-right-r-requires-in-3 : goal.eval_with-right-r-requires-in-3
-eval_with-right-r-requires-in-3 t c = omega (arith, c.requires.0)
-
-pub eval_with-part-z-requires-in-3 : goal.eval_with-part-z-requires-in-3
-eval_with-part-z-requires-in-3 t c = c.right-r-in-3.ensures.1
-
-pub eval_with-round-requires : goal.eval_with-round-requires
-eval_with-round-requires t c = (
-  omega (
-    arith,
-    below-le c.right-r-in-3.result
-        (c.args.x - 1),
-    c.part-z-in-3.ensures,
-    c.if-x-eq0.false,
-    c.decreases,
-    c.requires.0,
-  ),
-  (
-    omega (
-      arith,
-      below-le c.right-r-in-3.result (c.args.x - 1),
-      c.part-z-in-3.ensures,
-      c.if-x-eq0.false,
-      c.decreases,
-      c.requires.0,
-    ),
-    c.requires.1,
-  ),
-)
-
-pub eval_with-round-a-requires-in-4 : goal.eval_with-round-a-requires-in-4
-eval_with-round-a-requires-in-4 t c = (
-  omega (
-    arith,
-    below-le c.left-l.result
-        (c.args.x - 1),
-    c.part-y.ensures,
-    c.if-x-eq0.false,
-    c.decreases,
-    c.requires.0,
-  ),
-  (
-    omega (
-      arith,
-      below-le c.left-l.result
-          (c.args.x - 1),
-      c.part-y.ensures,
-      c.if-x-eq0.false,
-      c.decreases,
-      c.requires.0,
-    ),
-    c.requires.1,
-  ),
-)
-
 pub eval_with-returns-then-a-eq0-2 : goal.eval_with-returns-then-a-eq0-2
 unfolding ev node_by
 eval_with-returns-then-a-eq0-2 t c = opt-fails _ _ (c.round-a-in-4.ensures ∙ ap
@@ -345,69 +108,6 @@ eval_with-returns-then-a-eq0-2 t c = opt-fails _ _ (c.round-a-in-4.ensures ∙ a
     c.args.p 4 c.left-l.result
     c.if-x-eq0.false (sym c.in-4.is ∙ c.op-op.ensures.0)
     c.left-l.ensures.0
-
-pub eval_with-many-requires : goal.eval_with-many-requires
-eval_with-many-requires t c = (
-  omega (
-    arith,
-    below-le c.left-l.result
-        (c.args.x - 1),
-    c.part-y.ensures,
-    c.if-x-eq0.false,
-    c.decreases,
-    c.requires.0,
-  ),
-  (
-    omega (
-      arith,
-      below-le c.left-l.result
-          (c.args.x - 1),
-      c.part-y.ensures,
-      c.if-x-eq0.false,
-      c.decreases,
-      c.requires.0,
-    ),
-    c.requires.1,
-  ),
-)
-
-pub eval_with-overflow_add-result-in-5 : goal.eval_with-overflow_add-result-in-5
-eval_with-overflow_add-result-in-5 t c = omega (
-  arith,
-  rounds-within c.args.s.now
-      c.args.cells.now
-      c.args.t.now
-      c.args.n c.part-y.result
-      c.args.p
-      (omega (arith, c.requires.0)),
-  c.many.ensures,
-  c.requires.0,
-)
-
-pub eval_with-round-a-requires-in-6 : goal.eval_with-round-a-requires-in-6
-eval_with-round-a-requires-in-6 t c = (
-  omega (
-    arith,
-    below-le c.left-l.result
-        (c.args.x - 1),
-    c.part-y.ensures,
-    c.if-x-eq0.false,
-    c.decreases,
-    c.requires.0,
-  ),
-  (
-    omega (
-      arith,
-      below-le c.left-l.result
-          (c.args.x - 1),
-      c.part-y.ensures,
-      c.if-x-eq0.false,
-      c.decreases,
-      c.requires.0,
-    ),
-    c.requires.1,
-  ),
-)
 
 pub eval_with-returns-then-a-le1 : goal.eval_with-returns-then-a-le1
 unfolding ev node_by
@@ -432,129 +132,6 @@ eval_with-returns-then-a-le1 t c = plus-ends (λ (q : ℕ). ev c.args.s.now
     c.if-x-eq0.false (sym c.in-6.is ∙ c.op-op.ensures.0)
     c.left-l.ensures.0
 
-pub eval_with-overflow_sub-a-in-6 : goal.eval_with-overflow_sub-a-in-6
-eval_with-overflow_sub-a-in-6 t c = omega (arith, c.if-a-le1.false)
-
-pub eval_with-overflow_add-p-in-6 : goal.eval_with-overflow_add-p-in-6
-eval_with-overflow_add-p-in-6 t c = omega (
-  arith,
-  ev-within c.args.s.now
-      c.args.cells.now
-      c.args.n
-      (tree_of c.args.t.now c.part-y.result)
-      c.args.p
-      (omega (arith, c.requires.0)),
-  c.round-a-in-6.ensures,
-  c.requires.0,
-)
-
-pub eval_with-many-requires-in-6 : goal.eval_with-many-requires-in-6
-eval_with-many-requires-in-6 t c = (
-  omega (
-    arith,
-    below-le c.left-l.result
-        (c.args.x - 1),
-    c.part-y.ensures,
-    c.if-x-eq0.false,
-    ev-within
-        c.args.s.now
-        c.args.cells.now
-        c.args.n
-        (tree_of c.args.t.now c.part-y.result)
-        c.args.p
-        (omega (arith, c.requires.0)),
-    c.round-a-in-6.ensures,
-    c.if-a-le1.false,
-    c.decreases,
-    c.requires.0,
-  ),
-  (
-    omega (
-      arith,
-      below-le c.left-l.result
-          (c.args.x - 1),
-      c.part-y.ensures,
-      c.if-x-eq0.false,
-      ev-within
-          c.args.s.now
-          c.args.cells.now
-          c.args.n
-          (tree_of c.args.t.now c.part-y.result)
-          c.args.p
-          (omega (arith, c.requires.0)),
-      c.round-a-in-6.ensures,
-      c.if-a-le1.false,
-      c.decreases,
-      c.requires.0,
-    ),
-    knows-from
-        c.args.t.now
-        c.args.s.now
-        c.args.cells.now
-        c.args.mem.now
-        c.args.n 0 0
-        c.args.p
-        (c.args.p + (c.round-a-in-6.result - 1)) (omega arith) (omega arith)
-        c.requires.1,
-  ),
-)
-
-pub eval_with-overflow_add-result-in-6 : goal.eval_with-overflow_add-result-in-6
-eval_with-overflow_add-result-in-6 t c = omega (
-  arith,
-  ev-within c.args.s.now
-      c.args.cells.now
-      c.args.n
-      (tree_of c.args.t.now
-      c.part-y.result) c.args.p
-      (omega (arith, c.requires.0)),
-  c.round-a-in-6.ensures,
-  rounds-within
-      c.args.s.now
-      c.args.cells.now
-      c.args.t.now
-      c.args.n c.part-y.result
-      (c.args.p + (c.round-a-in-6.result - 1))
-      (omega (
-        arith,
-        ev-within c.args.s.now
-            c.args.cells.now
-            c.args.n
-            (tree_of c.args.t.now
-            c.part-y.result) c.args.p
-            (omega (arith, c.requires.0)),
-        c.round-a-in-6.ensures,
-        c.requires.0,
-      )),
-  c.many-in-6.ensures,
-  c.requires.0,
-)
-
-pub eval_with-round-a-requires-in-7 : goal.eval_with-round-a-requires-in-7
-eval_with-round-a-requires-in-7 t c = (
-  omega (
-    arith,
-    below-le c.left-l.result
-        (c.args.x - 1),
-    c.part-y.ensures,
-    c.if-x-eq0.false,
-    c.decreases,
-    c.requires.0,
-  ),
-  (
-    omega (
-      arith,
-      below-le c.left-l.result
-          (c.args.x - 1),
-      c.part-y.ensures,
-      c.if-x-eq0.false,
-      c.decreases,
-      c.requires.0,
-    ),
-    c.requires.1,
-  ),
-)
-
 pub eval_with-returns-then-a-eq0-3 : goal.eval_with-returns-then-a-eq0-3
 unfolding ev node_by
 eval_with-returns-then-a-eq0-3 t c = ahead-fails _ _ (c.round-a-in-7.ensures ∙ ap
@@ -571,31 +148,6 @@ eval_with-returns-then-a-eq0-3 t c = ahead-fails _ _ (c.round-a-in-7.ensures ∙
     c.args.p 7 c.left-l.result
     c.if-x-eq0.false (sym c.in-7.is ∙ c.op-op.ensures.0)
     c.left-l.ensures.0
-
-pub eval_with-round-a-requires-in_default : goal.eval_with-round-a-requires-in_default
-eval_with-round-a-requires-in_default t c = (
-  omega (
-    arith,
-    below-le c.left-l.result
-        (c.args.x - 1),
-    c.part-y.ensures,
-    c.if-x-eq0.false,
-    c.decreases,
-    c.requires.0,
-  ),
-  (
-    omega (
-      arith,
-      below-le c.left-l.result
-          (c.args.x - 1),
-      c.part-y.ensures,
-      c.if-x-eq0.false,
-      c.decreases,
-      c.requires.0,
-    ),
-    c.requires.1,
-  ),
-)
 
 pub eval_with-returns-then-a-eq0-4 : goal.eval_with-returns-then-a-eq0-4
 unfolding ev
@@ -748,7 +300,7 @@ eval_with-returns-else-a-le1 t c = plus-takes _ _ _ _ (c.round-a-in-6.ensures �
     c.args.n
     (tree_of c.args.t.now i)
     c.args.p) c.part-y.ensures)
-    (λ z. omega (arith, z, c.if-a-le1.false)) (c.many-in-6.ensures ∙ ap
+    (λ z. omega (arith, z, c.if-a-le1.false)) (c.many-else-a-le1.ensures ∙ ap
     (λ (i : ℕ). rep (length c.args.s.now)
     (λ (q : ℕ). ev c.args.s.now
     c.args.cells.now
@@ -811,294 +363,288 @@ eval_with-returns-else-a-eq0-4 t c = never-fails _ _ (c.round-a-in_default.ensur
     c.left-l.result c.if-x-eq0.false c.op-op.ensures.0
     c.left-l.ensures.0
 
-pub many-loop-k-init : goal.many-loop-k-init
-many-loop-k-init t c = (omega arith, omega (arith, c.requires.0), refl, omega arith)
+-- rounds from p on that go to q end there with one that fails or takes nothing
+ends : (t s cs : List ℕ) (n x p q a : ℕ) → p ≤ q → q + rounds_of t s cs n x q ≡ p + rounds_of t s cs n x p → a ≡ ev s cs n (tree_of t x) q → a ≤ 1
+    → q - p ≡ rounds_of t s cs n x p
+ends t s cs n x p q a l r e h = omega (arith, r, rep-ends (λ (i : ℕ). ev s cs n (tree_of t x) i) (length s) q a e h)
 
-pub many-overflow_sub-result : goal.many-overflow_sub-result
-many-overflow_sub-result t c = omega (arith, c.loop-k.invariant.0)
+-- and go on with any other
+goes : (t s cs : List ℕ) (n x p q a : ℕ) → p ≤ q → q ≤ length s → q + rounds_of t s cs n x q ≡ p + rounds_of t s cs n x p → a ≡ ev s cs n (tree_of t x) q → 1 < a
+    → (p ≤ q + (a - 1)) × (q + (a - 1) ≤ length s) × (q + (a - 1) + rounds_of t s cs n x (q + (a - 1)) ≡ p + rounds_of t s cs n x p)
+goes t s cs n x p q a l m r e h =
+    (omega arith, omega (arith, e, ev-within s cs n (tree_of t x) q m), omega (arith, r, rounds-next t s cs n x q a m e h))
 
-pub many-returns-then-w-lt3 : goal.many-returns-then-w-lt3
-many-returns-then-w-lt3 t c = omega (
+pub eval_with-overflow_add-p : goal.eval_with-overflow_add-p
+eval_with-overflow_add-p t c = omega (
   arith,
-  rep-ends (λ (i : ℕ). ev c.args.s.now
+  ev-within c.args.s.now
       c.args.cells.now
-      c.args.n (tree_of
-      c.args.t.now
-      c.args.x) i) c.loop-k.k
-      c.loop-k.q (c.said-w.result - 1)
-      (said-right c.args.t.now
-      c.args.s.now
-      c.args.cells.now
-      c.args.mem.now
-      c.args.n 0 c.loop-k.q
-      (knows-from c.args.t.now
-      c.args.s.now
-      c.args.cells.now
-      c.args.mem.now
-      c.args.n 0 0
-      c.args.p c.loop-k.q
-      (omega arith) c.loop-k.invariant.0 c.requires.1)
-      c.args.x c.byte_at-b.result
-      c.said-w.result c.loop-k.invariant.1
-      c.byte_at-b.ensures.0 c.said-w.ensures (λ e. omega (arith, e, c.if-w-gt0.true)))
-      (omega (arith, c.if-w-lt3.true)),
-  c.loop-k.invariant.2,
-  c.loop-k.invariant.0,
-)
-
-pub many-known-c-requires : goal.many-known-c-requires
-many-known-c-requires t c = omega (arith, c.loop-k.invariant.1, c.requires.0)
-
-pub many-overflow_sub-result-then-c-lt-UNKNOWN : goal.many-overflow_sub-result-then-c-lt-UNKNOWN
-many-overflow_sub-result-then-c-lt-UNKNOWN t c = omega (arith, c.loop-k.invariant.0)
-
-pub many-overflow_add-result : goal.many-overflow_add-result
-many-overflow_add-result t c = omega (
-  arith,
-  c.loop-k.invariant.0,
-  c.loop-k.invariant.1,
-  c.if-c-lt-UNKNOWN.true,
+      c.args.n
+      (tree_of c.args.t.now
+      c.part-y.result)
+      c.args.p
+      (omega (arith, c.requires.0)),
+  c.round-a.ensures,
   c.requires.0,
 )
 
-pub many-returns-then-c-lt-UNKNOWN : goal.many-returns-then-c-lt-UNKNOWN
-many-returns-then-c-lt-UNKNOWN t c = known-ends c.args.t.now
-    c.args.s.now
-    c.args.cells.now
-    c.args.mem.now c.args.n
-    c.args.p c.requires.1
-    c.args.x c.loop-k.k
-    c.args.p c.loop-k.q c.known-c.result
-    (omega (arith, c.requires.0)) c.loop-k.invariant.0
-    c.loop-k.invariant.1 c.loop-k.invariant.3
-    c.loop-k.invariant.2 (c.known-c.ensures c.if-c-lt-UNKNOWN.true)
-
-pub many-eval_with-a-requires : goal.many-eval_with-a-requires
-many-eval_with-a-requires t c = (
+pub eval_with-round-b-requires : goal.eval_with-round-b-requires
+eval_with-round-b-requires t c = (
   omega (
     arith,
-    c.loop-k.invariant.1,
+    below-le c.right-r.result
+        (c.args.x - 1),
+    c.part-z.ensures,
+    c.if-x-eq0.false,
+    ev-within
+        c.args.s.now
+        c.args.cells.now
+        c.args.n
+        (tree_of c.args.t.now
+        c.part-y.result)
+        c.args.p
+        (omega (arith, c.requires.0)),
+    c.round-a.ensures,
+    c.if-a-eq0.false,
     c.decreases,
     c.requires.0,
   ),
   (
     omega (
       arith,
-      c.loop-k.invariant.1,
+      below-le c.right-r.result (c.args.x - 1),
+      c.part-z.ensures,
+      c.if-x-eq0.false,
+      ev-within
+          c.args.s.now
+          c.args.cells.now
+          c.args.n
+          (tree_of c.args.t.now
+          c.part-y.result)
+          c.args.p
+          (omega (arith, c.requires.0)),
+      c.round-a.ensures,
+      c.if-a-eq0.false,
       c.decreases,
       c.requires.0,
     ),
-    knows-from c.args.t.now
+    knows-from
+        c.args.t.now
         c.args.s.now
         c.args.cells.now
         c.args.mem.now
         c.args.n 0 0
         c.args.p
-        c.loop-k.q (omega arith)
-        c.loop-k.invariant.0
-        c.requires.1,
+        (c.args.p + (c.round-a.result - 1))
+        (omega arith) (omega arith) c.requires.1,
   ),
 )
 
-pub many-overflow_sub-a : goal.many-overflow_sub-a
-many-overflow_sub-a t c = omega (arith, c.if-w-eq0.false)
-
-pub many-overflow_sub-result-then-a-le1 : goal.many-overflow_sub-result-then-a-le1
-many-overflow_sub-result-then-a-le1 t c = omega (arith, c.loop-k.invariant.0)
-
-pub many-returns-then-a-le1 : goal.many-returns-then-a-le1
-many-returns-then-a-le1 t c = let h : c.if-w-eq0.a ≡ ev
-    c.args.s.now
-    c.args.cells.now
-    c.args.n (tree_of
-    c.args.t.now
-    c.args.x)
-    c.loop-k.q =
-    elim c.if-w-eq0.branch [
-      | many-then-w-eq0 w ↦ w.a-is ∙ w.eval_with-a.ensures
-      | many-else-w-eq0 w ↦ w.a-is ∙ said-right
-          c.args.t.now
-          c.args.s.now
-          c.args.cells.now
-          c.args.mem.now
-          c.args.n 0
-          c.loop-k.q
-          (knows-from c.args.t.now
-          c.args.s.now
-          c.args.cells.now
-          c.args.mem.now
-          c.args.n 0 0
-          c.args.p
-          c.loop-k.q (omega arith)
-          c.loop-k.invariant.0
-          c.requires.1)
-          c.args.x
-          c.byte_at-b.result c.said-w.result
-          c.loop-k.invariant.1
-          c.byte_at-b.ensures.0 c.said-w.ensures
-          w.if-w-eq0.false
-    ] in
-    omega (
-      arith,
-      rep-ends (λ (i : ℕ). ev c.args.s.now
-          c.args.cells.now
-          c.args.n (tree_of
-          c.args.t.now
-          c.args.x) i)
-          c.loop-k.k
-          c.loop-k.q c.if-w-eq0.a h
-          c.if-a-le1.true,
-      c.loop-k.invariant.2,
-      c.loop-k.invariant.0,
-    )
-
-pub many-overflow_sub-q : goal.many-overflow_sub-q
-many-overflow_sub-q t c = omega (arith, c.if-a-le1.false)
-
-pub many-overflow_add-q : goal.many-overflow_add-q
-many-overflow_add-q t c = let h : c.if-w-eq0.a ≡ ev
-    c.args.s.now
-    c.args.cells.now
-    c.args.n (tree_of
-    c.args.t.now
-    c.args.x)
-    c.loop-k.q =
-    elim c.if-w-eq0.branch [
-      | many-then-w-eq0 w ↦ w.a-is ∙ w.eval_with-a.ensures
-      | many-else-w-eq0 w ↦ w.a-is ∙ said-right
-          c.args.t.now
-          c.args.s.now
-          c.args.cells.now
-          c.args.mem.now
-          c.args.n 0
-          c.loop-k.q
-          (knows-from c.args.t.now
-          c.args.s.now
-          c.args.cells.now
-          c.args.mem.now
-          c.args.n 0 0
-          c.args.p
-          c.loop-k.q (omega arith)
-          c.loop-k.invariant.0
-          c.requires.1)
-          c.args.x
-          c.byte_at-b.result c.said-w.result
-          c.loop-k.invariant.1
-          c.byte_at-b.ensures.0
-          c.said-w.ensures w.if-w-eq0.false
-    ] in
-    omega (
-      arith,
-      ev-within c.args.s.now
-          c.args.cells.now
-          c.args.n (tree_of
-          c.args.t.now
-          c.args.x)
-          c.loop-k.q (omega
-          (arith, c.loop-k.invariant.1)),
-      h,
-      c.requires.0,
-    )
-
-pub many-overflow_sub-k : goal.many-overflow_sub-k
-many-overflow_sub-k t c = omega (arith, c.loop-k-test.true)
-
-pub many-loop-k-smaller : goal.many-loop-k-smaller
-many-loop-k-smaller t c = omega (arith, c.loop-k-test.true)
-
-pub many-loop-k-preserved : goal.many-loop-k-preserved
-many-loop-k-preserved t c = let h : c.if-w-eq0.a ≡ ev
-    c.args.s.now
-    c.args.cells.now
-    c.args.n (tree_of
-    c.args.t.now
-    c.args.x)
-    c.loop-k.q =
-    elim c.if-w-eq0.branch [
-      | many-then-w-eq0 w ↦ w.a-is ∙ w.eval_with-a.ensures
-      | many-else-w-eq0 w ↦ w.a-is ∙ said-right
-          c.args.t.now
-          c.args.s.now
-          c.args.cells.now
-          c.args.mem.now
-          c.args.n 0
-          c.loop-k.q
-          (knows-from c.args.t.now
-          c.args.s.now
-          c.args.cells.now
-          c.args.mem.now
-          c.args.n 0 0
-          c.args.p
-          c.loop-k.q (omega arith)
-          c.loop-k.invariant.0
-          c.requires.1)
-          c.args.x
-          c.byte_at-b.result c.said-w.result
-          c.loop-k.invariant.1
-          c.byte_at-b.ensures.0
-          c.said-w.ensures w.if-w-eq0.false
-    ] in (
-      omega (arith, c.loop-k.invariant.0),
-      omega (
+pub eval_with-overflow_add-result : goal.eval_with-overflow_add-result
+eval_with-overflow_add-result t c = omega (
+  arith,
+  ev-within
+      c.args.s.now
+      c.args.cells.now
+      c.args.n (tree_of
+      c.args.t.now
+      c.part-y.result)
+      c.args.p (omega
+      (arith, c.requires.0)),
+  c.round-a.ensures,
+  ev-within
+      c.args.s.now
+      c.args.cells.now
+      c.args.n (tree_of
+      c.args.t.now
+      c.part-z.result)
+      (c.args.p +
+      (c.round-a.result - 1)) (omega (
         arith,
-        ev-within c.args.s.now
-            c.args.cells.now
-            c.args.n (tree_of
-            c.args.t.now
-            c.args.x)
-            c.loop-k.q (omega
-            (arith, c.loop-k.invariant.1)),
-        h,
-        c.if-a-le1.false,
-      ),
-      omega (
-        arith,
-        rep-more (λ (i : ℕ). ev
+        ev-within
             c.args.s.now
             c.args.cells.now
             c.args.n (tree_of
             c.args.t.now
-            c.args.x) i)
-            c.loop-k.k
-            c.loop-k.q c.if-w-eq0.a
-            c.loop-k-test.true h (omega
-            (arith, c.if-a-le1.false)),
-        c.loop-k.invariant.2,
-      ),
-      omega (
-        arith,
-        c.loop-k.invariant.3,
-        c.if-a-le1.false,
-        c.loop-k-test.true,
-      ),
-    )
-
-pub many-overflow_sub-result-2 : goal.many-overflow_sub-result-2
-many-overflow_sub-result-2 t c = omega (arith, c.loop-k.invariant.0)
-
-pub many-returns : goal.many-returns
-many-returns t c = omega (
-  arith,
-  rep-none (λ (i : ℕ). ev c.args.s.now
-      c.args.cells.now c.args.n
-      (tree_of c.args.t.now c.args.x) i) c.loop-k.k
-      c.loop-k.q (omega (arith, c.loop-k-test.false)),
-  c.loop-k.invariant.2,
-  c.loop-k.invariant.0,
+            c.part-y.result)
+            c.args.p (omega
+            (arith, c.requires.0)),
+        c.round-a.ensures,
+        c.requires.0,
+      )),
+  c.round-b.ensures,
+  c.requires.0,
 )
 
-pub round-overflow_sub-result : goal.round-overflow_sub-result
-round-overflow_sub-result t c = omega (arith, c.if-w-ne0.true)
+pub eval_with-overflow_add-result-in-5 : goal.eval_with-overflow_add-result-in-5
+eval_with-overflow_add-result-in-5 t c = omega (
+  arith,
+  rounds-within c.args.s.now
+      c.args.cells.now
+      c.args.t.now
+      c.args.n c.part-y.result
+      c.args.p
+      (omega (arith, c.requires.0)),
+  c.many.ensures,
+  c.requires.0,
+)
 
-pub round-returns-then-w-ne0 : goal.round-returns-then-w-ne0
-round-returns-then-w-ne0 t c = said-right c.args.t.now c.args.s.now
-    c.args.cells.now c.args.mem.now
-    c.args.n 0 c.args.p
-    c.requires.1 c.args.x c.byte_at-b.result
-    c.said-w.result (omega (arith, c.requires.0)) c.byte_at-b.ensures.0 c.said-w.ensures c.if-w-ne0.true
+pub eval_with-overflow_add-p-else-a-le1 : goal.eval_with-overflow_add-p-else-a-le1
+eval_with-overflow_add-p-else-a-le1 t c = omega (
+  arith,
+  ev-within c.args.s.now
+      c.args.cells.now
+      c.args.n
+      (tree_of c.args.t.now c.part-y.result)
+      c.args.p
+      (omega (arith, c.requires.0)),
+  c.round-a-in-6.ensures,
+  c.requires.0,
+)
 
-pub round-eval_with-requires : goal.round-eval_with-requires
-round-eval_with-requires t c = (omega (arith, c.decreases), c.requires)
+pub eval_with-many-requires-else-a-le1 : goal.eval_with-many-requires-else-a-le1
+eval_with-many-requires-else-a-le1 t c = (
+  omega (
+    arith,
+    below-le c.left-l.result
+        (c.args.x - 1),
+    c.part-y.ensures,
+    c.if-x-eq0.false,
+    ev-within
+        c.args.s.now
+        c.args.cells.now
+        c.args.n
+        (tree_of c.args.t.now c.part-y.result)
+        c.args.p
+        (omega (arith, c.requires.0)),
+    c.round-a-in-6.ensures,
+    c.if-a-le1.false,
+    c.decreases,
+    c.requires.0,
+  ),
+  (
+    omega (
+      arith,
+      below-le c.left-l.result
+          (c.args.x - 1),
+      c.part-y.ensures,
+      c.if-x-eq0.false,
+      ev-within
+          c.args.s.now
+          c.args.cells.now
+          c.args.n
+          (tree_of c.args.t.now c.part-y.result)
+          c.args.p
+          (omega (arith, c.requires.0)),
+      c.round-a-in-6.ensures,
+      c.if-a-le1.false,
+      c.decreases,
+      c.requires.0,
+    ),
+    knows-from
+        c.args.t.now
+        c.args.s.now
+        c.args.cells.now
+        c.args.mem.now
+        c.args.n 0 0
+        c.args.p
+        (c.args.p + (c.round-a-in-6.result - 1)) (omega arith) (omega arith)
+        c.requires.1,
+  ),
+)
 
-pub round-returns : goal.round-returns
-round-returns t c = c.eval_with.ensures
+pub eval_with-overflow_add-result-else-a-le1 : goal.eval_with-overflow_add-result-else-a-le1
+eval_with-overflow_add-result-else-a-le1 t c = omega (
+  arith,
+  ev-within c.args.s.now
+      c.args.cells.now
+      c.args.n
+      (tree_of c.args.t.now
+      c.part-y.result) c.args.p
+      (omega (arith, c.requires.0)),
+  c.round-a-in-6.ensures,
+  rounds-within
+      c.args.s.now
+      c.args.cells.now
+      c.args.t.now
+      c.args.n c.part-y.result
+      (c.args.p + (c.round-a-in-6.result - 1))
+      (omega (
+        arith,
+        ev-within c.args.s.now
+            c.args.cells.now
+            c.args.n
+            (tree_of c.args.t.now
+            c.part-y.result) c.args.p
+            (omega (arith, c.requires.0)),
+        c.round-a-in-6.ensures,
+        c.requires.0,
+      )),
+  c.many-else-a-le1.ensures,
+  c.requires.0,
+)
+
+pub many-returns-then-w-eq1 : goal.many-returns-then-w-eq1
+many-returns-then-w-eq1 t c =
+    ends c.args.t.now c.args.s.now c.args.cells.now c.args.n c.args.x c.args.p c.loop-n.q (c.said-w.result - 1) c.loop-n.invariant.0 c.loop-n.invariant.2
+    (said-right c.args.t.now c.args.s.now c.args.cells.now c.args.mem.now c.args.n 0 c.loop-n.q
+    (knows-from c.args.t.now c.args.s.now c.args.cells.now c.args.mem.now c.args.n 0 0 c.args.p c.loop-n.q (omega arith) c.loop-n.invariant.0 c.requires.1) c.args.x
+    c.byte_at-b.result c.said-w.result c.loop-n.invariant.1 c.byte_at-b.ensures.0 c.said-w.ensures (λ z. omega (arith, z))) (omega arith)
+
+pub many-eval_with-a-requires : goal.many-eval_with-a-requires
+many-eval_with-a-requires t c = (
+  omega arith,
+  (
+    omega arith,
+    knows-from c.args.t.now c.args.s.now c.args.cells.now c.args.mem.now c.args.n 0 0 c.args.p c.loop-n.q (omega arith) c.loop-n.invariant.0 c.requires.1,
+  ),
+)
+
+pub many-returns-then-a-le1 : goal.many-returns-then-a-le1
+many-returns-then-a-le1 t c =
+    let h : c.if-w-eq0.a ≡ ev c.args.s.now c.args.cells.now c.args.n (tree_of c.args.t.now c.args.x) c.loop-n.q =
+    elim c.if-w-eq0.branch [
+      | many-then-w-eq0 w ↦ w.a-is ∙ w.eval_with-a.ensures
+      | many-else-w-eq0 w ↦ w.a-is ∙ said-right c.args.t.now c.args.s.now c.args.cells.now c.args.mem.now c.args.n 0 c.loop-n.q
+          (knows-from c.args.t.now c.args.s.now c.args.cells.now c.args.mem.now c.args.n 0 0 c.args.p c.loop-n.q (omega arith) c.loop-n.invariant.0 c.requires.1)
+          c.args.x c.byte_at-b.result c.said-w.result c.loop-n.invariant.1 c.byte_at-b.ensures.0 c.said-w.ensures w.if-w-eq0.false
+    ] in
+    ends c.args.t.now c.args.s.now c.args.cells.now c.args.n c.args.x c.args.p c.loop-n.q c.if-w-eq0.a c.loop-n.invariant.0 c.loop-n.invariant.2 h c.if-a-le1.true
+
+pub many-overflow_add-q : goal.many-overflow_add-q
+many-overflow_add-q t c =
+    let h : c.if-w-eq0.a ≡ ev c.args.s.now c.args.cells.now c.args.n (tree_of c.args.t.now c.args.x) c.loop-n.q =
+    elim c.if-w-eq0.branch [
+      | many-then-w-eq0 w ↦ w.a-is ∙ w.eval_with-a.ensures
+      | many-else-w-eq0 w ↦ w.a-is ∙ said-right c.args.t.now c.args.s.now c.args.cells.now c.args.mem.now c.args.n 0 c.loop-n.q
+          (knows-from c.args.t.now c.args.s.now c.args.cells.now c.args.mem.now c.args.n 0 0 c.args.p c.loop-n.q (omega arith) c.loop-n.invariant.0 c.requires.1)
+          c.args.x c.byte_at-b.result c.said-w.result c.loop-n.invariant.1 c.byte_at-b.ensures.0 c.said-w.ensures w.if-w-eq0.false
+    ] in
+    omega (arith, goes c.args.t.now c.args.s.now c.args.cells.now c.args.n c.args.x c.args.p c.loop-n.q c.if-w-eq0.a c.loop-n.invariant.0 c.loop-n.invariant.1 c.loop-n.invariant.2 h (omega arith))
+
+pub many-loop-n-smaller : goal.many-loop-n-smaller
+many-loop-n-smaller t c =
+    let h : c.if-w-eq0.a ≡ ev c.args.s.now c.args.cells.now c.args.n (tree_of c.args.t.now c.args.x) c.loop-n.q =
+    elim c.if-w-eq0.branch [
+      | many-then-w-eq0 w ↦ w.a-is ∙ w.eval_with-a.ensures
+      | many-else-w-eq0 w ↦ w.a-is ∙ said-right c.args.t.now c.args.s.now c.args.cells.now c.args.mem.now c.args.n 0 c.loop-n.q
+          (knows-from c.args.t.now c.args.s.now c.args.cells.now c.args.mem.now c.args.n 0 0 c.args.p c.loop-n.q (omega arith) c.loop-n.invariant.0 c.requires.1)
+          c.args.x c.byte_at-b.result c.said-w.result c.loop-n.invariant.1 c.byte_at-b.ensures.0 c.said-w.ensures w.if-w-eq0.false
+    ] in
+    omega (arith, goes c.args.t.now c.args.s.now c.args.cells.now c.args.n c.args.x c.args.p c.loop-n.q c.if-w-eq0.a c.loop-n.invariant.0 c.loop-n.invariant.1 c.loop-n.invariant.2 h (omega arith))
+
+pub many-loop-n-preserved : goal.many-loop-n-preserved
+many-loop-n-preserved t c =
+    let h : c.if-w-eq0.a ≡ ev c.args.s.now c.args.cells.now c.args.n (tree_of c.args.t.now c.args.x) c.loop-n.q =
+    elim c.if-w-eq0.branch [
+      | many-then-w-eq0 w ↦ w.a-is ∙ w.eval_with-a.ensures
+      | many-else-w-eq0 w ↦ w.a-is ∙ said-right c.args.t.now c.args.s.now c.args.cells.now c.args.mem.now c.args.n 0 c.loop-n.q
+          (knows-from c.args.t.now c.args.s.now c.args.cells.now c.args.mem.now c.args.n 0 0 c.args.p c.loop-n.q (omega arith) c.loop-n.invariant.0 c.requires.1)
+          c.args.x c.byte_at-b.result c.said-w.result c.loop-n.invariant.1 c.byte_at-b.ensures.0 c.said-w.ensures w.if-w-eq0.false
+    ] in
+    goes c.args.t.now c.args.s.now c.args.cells.now c.args.n c.args.x c.args.p c.loop-n.q c.if-w-eq0.a c.loop-n.invariant.0 c.loop-n.invariant.1 c.loop-n.invariant.2 h (omega arith)
+
+pub round-returns-else-w-eq0 : goal.round-returns-else-w-eq0
+round-returns-else-w-eq0 t c =
+    said-right c.args.t.now c.args.s.now c.args.cells.now c.args.mem.now c.args.n 0 c.args.p c.requires.1 c.args.x
+    c.byte_at-b.result c.said-w.result (omega arith) c.byte_at-b.ensures.0 c.said-w.ensures c.if-w-eq0.false

@@ -1,73 +1,46 @@
-use Prim.Native.Nat.{ℕ, ◌+◌}
-use mathlib.Core.Path.{◌≡◌, refl, sym, ap, ◌∙◌}
-use native.Mathlib.Omega.{arith}
-use lib.ListN.{length}
+use Rattle.std.proofs.Common.{ℕ, List, ◌+◌, ◌-◌, ◌≡◌, sym, ap, ◌∙◌, arith}
 use Rattle.grammar_table.specs.Table.{words_from}
+use Rattle.grammar_table.specs.laws.Leaves.{words-length}
+use Rattle.match_eval.specs.Eval.{stands}
 use Rattle.match_eval.proofs.laws.EvalSteps.{literal-takes, literal-fails}
 use Rattle.match_eval.proofs.laws.Leaves.{lit-ends, lit-differs, lit-goes, lit-done}
-use Rattle.grammar_table.specs.laws.Leaves.{words-length}
 use Rattle.match_eval.proofs.literal_at.Goals as goal
-
-pub loop-k-init : goal.loop-k-init
-loop-k-init c = (omega arith, omega arith, omega arith, refl)
+use Rattle.match_eval.proofs.literal_at.Goals.{then-s-q-via-then-s-q, then-s-q-via-else-s-q+then-from-word}
 
 pub returns-then-s-q : goal.returns-then-s-q
-returns-then-s-q c = literal-fails c.args.s.now c.args.p
-    (words_from c.args.t.now c.args.i c.args.n)
-    (lit-ends c.args.s.now c.args.t.now c.loop-k.q
-    c.loop-k.j c.loop-k.k c.loop-k-test.true c.if-s-q.true ∙ c.loop-k.invariant.3)
+returns-then-s-q c =
+    elim c.then-s-q.branch [
+      | then-s-q-via-then-s-q w ↦
+          literal-fails c.args.s.now c.args.p (words_from c.args.t.now c.args.i c.args.n)
+          (lit-ends c.args.s.now c.args.t.now (c.args.p + c.loop-k.k) (c.args.i + c.loop-k.k) (c.args.n - c.loop-k.k) (omega arith) w.if-s-q.true
+          ∙ c.loop-k.invariant.1)
+      | then-s-q-via-else-s-q+then-from-word w ↦
+          literal-fails c.args.s.now c.args.p (words_from c.args.t.now c.args.i c.args.n)
+          (lit-differs c.args.s.now c.args.t.now (c.args.p + c.loop-k.k) (c.args.i + c.loop-k.k) (c.args.n - c.loop-k.k) (omega arith)
+          w.from.result w.word.result (omega arith) w.from.ensures w.word.ensures.0 w.if-from-word.true
+          ∙ c.loop-k.invariant.1)
+    ]
 
-pub overflow_cast-b : goal.overflow_cast-b
-overflow_cast-b c = omega (arith, c.shared_slice_known-2-1.given c.loop-k.q)
-
-pub returns-then-b-c : goal.returns-then-b-c
-returns-then-b-c c = literal-fails c.args.s.now
-    c.args.p
-    (words_from c.args.t.now c.args.i
-    c.args.n)
-    (lit-differs c.args.s.now c.args.t.now
-    c.loop-k.q c.loop-k.j c.loop-k.k
-    c.loop-k-test.true _ c.word-c.result (omega (arith, c.if-s-q.false)) refl c.word-c.ensures.0
-    c.if-b-c.true ∙ c.loop-k.invariant.3)
-
-pub overflow_add-j : goal.overflow_add-j
-overflow_add-j c = omega (
-  arith,
-  c.loop-k.invariant.1,
-  c.requires.0,
-  c.requires.1,
-)
-
-pub overflow_add-q : goal.overflow_add-q
-overflow_add-q c = omega (arith, c.if-s-q.false, c.requires.2)
-
-pub overflow_sub-k : goal.overflow_sub-k
-overflow_sub-k c = omega (arith, c.loop-k-test.true)
-
-pub loop-k-smaller : goal.loop-k-smaller
-loop-k-smaller c = omega (arith, c.loop-k-test.true)
+-- a place further, as the loop counts
+further : (s t : List ℕ) (p i n k : ℕ)
+    → stands s (p + (k + 1)) (words_from t (i + (k + 1)) (n - (k + 1))) ≡ stands s (p + k + 1) (words_from t (i + k + 1) (n - k - 1))
+further s t p i n k =
+    let a : p + (k + 1) ≡ p + k + 1 = omega arith in
+    let b : i + (k + 1) ≡ i + k + 1 = omega arith in
+    let c : n - (k + 1) ≡ n - k - 1 = omega arith in
+    cc
 
 pub loop-k-preserved : goal.loop-k-preserved
 loop-k-preserved c = (
-  omega (arith, c.if-s-q.false),
-  omega
-      (arith, c.loop-k.invariant.1, c.loop-k-test.true),
-  omega
-      (arith, c.loop-k.invariant.2),
-  lit-goes c.args.s.now
-      c.args.t.now c.loop-k.q
-      c.loop-k.j c.loop-k.k c.loop-k-test.true _
-      c.word-c.result (omega (arith, c.if-s-q.false)) refl c.word-c.ensures.0 c.if-b-c.false ∙ c.loop-k.invariant.3,
+  omega arith,
+  further c.args.s.now c.args.t.now c.args.p c.args.i c.args.n c.loop-k.k
+      ∙ lit-goes c.args.s.now c.args.t.now (c.args.p + c.loop-k.k) (c.args.i + c.loop-k.k) (c.args.n - c.loop-k.k) (omega arith)
+      c.from.result c.word.result (omega arith) c.from.ensures c.word.ensures.0 c.if-from-word.false
+      ∙ c.loop-k.invariant.1,
 )
 
-pub overflow_add-result : goal.overflow_add-result
-overflow_add-result c = omega (arith, c.requires.1)
-
 pub returns : goal.returns
-returns c = (let e : length (words_from c.args.t.now c.args.i
-    c.args.n) ≡ c.args.n = words-length c.args.t.now
-    c.args.i c.args.n in ap (λ (m : ℕ). m + 1) (sym e)) ∙ literal-takes
-    c.args.s.now c.args.p
-    (words_from c.args.t.now c.args.i c.args.n)
-    (lit-done c.args.s.now c.args.t.now c.loop-k.q c.loop-k.j c.loop-k.k
-    (omega (arith, c.loop-k-test.false)) ∙ c.loop-k.invariant.3)
+returns c =
+    ap (λ (m : ℕ). m + 1) (sym (words-length c.args.t.now c.args.i c.args.n))
+    ∙ literal-takes c.args.s.now c.args.p (words_from c.args.t.now c.args.i c.args.n)
+    (lit-done c.args.s.now c.args.t.now (c.args.p + c.loop-k.k) (c.args.i + c.loop-k.k) (c.args.n - c.loop-k.k) (omega arith) ∙ c.loop-k.invariant.1)

@@ -16,4 +16,4 @@ returns-then-op-eq-SYMBOL c = c.cell_at.ensures ∙ node-ev c.args.s.now
     c.args.t.now c.args.n
     c.args.x c.args.p 1
     c.left-l.result c.if-x-eq0.false (sym
-    c.if-op-eq-SYMBOL.true ∙ c.op-op.ensures.0) c.left-l.ensures.0
+    c.if-op-eq-SYMBOL.true ∙ c.op.ensures.0) c.left-l.ensures.0

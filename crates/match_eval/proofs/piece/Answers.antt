@@ -1,9 +1,8 @@
 use mathlib.Core.Path.{sym, ◌∙◌}
 use native.Mathlib.Omega.{arith}
-use Prim.Native.Nat.{◌+◌, ◌-◌, ◌≤◌}
+use Prim.Native.Nat.{◌+◌, ◌≤◌}
 use lib.ListN.{length}
 use Rattle.grammar_table.specs.Table.{node_by}
-use Rattle.grammar_table.specs.laws.Trees.{below-le}
 use Rattle.match_eval.specs.Eval.{ev}
 use Rattle.match_eval.proofs.laws.Evaluated.{zero-tree, node-ev}
 use Rattle.match_eval.proofs.laws.Memory.{knows-from, said-right, said-ends, said-room, said-next, said-plus, star-rounds, rounds-within}
@@ -19,28 +18,16 @@ pub returns-then-x-eq0 : goal.returns-then-x-eq0
 returns-then-x-eq0 c =
     c.any_at.ensures ∙ zero-tree c.args.s.now c.args.cells.now c.args.t.now c.args.n c.args.x c.args.p c.if-x-eq0.true
 
-pub returns-then-op-eq-SYMBOL : goal.returns-then-op-eq-SYMBOL
+pub returns-in-1 : goal.returns-in-1
 unfolding ev node_by
-returns-then-op-eq-SYMBOL c = c.cell_at.ensures ∙ node-ev c.args.s.now
+returns-in-1 c = c.cell_at.ensures ∙ node-ev c.args.s.now
     c.args.cells.now
     c.args.t.now
     c.args.n
     c.args.x
     c.args.p 1 c.left-l.result
-    c.if-x-eq0.false (sym c.if-op-eq-SYMBOL.true ∙ c.op-op.ensures.0)
+    c.if-x-eq0.false (sym c.in-1.is ∙ c.op.ensures.0)
     c.left-l.ensures.0
-
-pub many_at-requires : goal.many_at-requires
-many_at-requires c = (
-  omega (
-    arith,
-    below-le c.left-l.result (c.args.x - 1),
-    c.part-y.ensures,
-    c.if-x-eq0.false,
-    c.requires.0,
-  ),
-  c.requires.1,
-)
 
 pub overflow_add-result : goal.overflow_add-result
 overflow_add-result c =
@@ -52,11 +39,11 @@ overflow_add-result c =
       c.requires.0,
     )
 
-pub returns-then-op-eq-STAR : goal.returns-then-op-eq-STAR
-returns-then-op-eq-STAR c =
+pub returns-in-5 : goal.returns-in-5
+returns-in-5 c =
     star-rounds c.args.t.now c.args.s.now c.args.cells.now c.args.n c.args.p c.args.x c.part-y.result
     c.left-l.result c.many_at.result c.if-x-eq0.false
-    (sym c.if-op-eq-STAR.true ∙ c.op-op.ensures.0) c.left-l.ensures.0
+    (sym c.in-5.is ∙ c.op.ensures.0) c.left-l.ensures.0
     c.part-y.ensures c.many_at.ensures
 
 -- a byte behind it that is no round
@@ -69,7 +56,7 @@ returns-then-u-eq1 c =
     (omega (
       arith,
       c.requires.0,
-    )) c.part-y-then-op-eq-PLUS.result
+    )) c.part-y-in-6.result
     c.byte_at-b.result
     c.said-v.result
     c.byte_at-b.ensures.0
@@ -79,49 +66,35 @@ returns-then-u-eq1 c =
     (omega (
       arith,
       c.requires.0,
-    )) c.part-y-then-op-eq-PLUS.result
+    )) c.part-y-in-6.result
     c.byte_at-b.result
     c.said-v.result
     c.byte_at-b.ensures.0
     c.said-v.ensures c.args.x c.left-l.result 1
     c.if-x-eq0.false (sym
-    c.if-op-eq-PLUS.true ∙ c.op-op.ensures.0) c.left-l.ensures.0
-    c.part-y-then-op-eq-PLUS.ensures m
+    c.in-6.is ∙ c.op.ensures.0) c.left-l.ensures.0
+    c.part-y-in-6.ensures m
     (said-next c.args.t.now c.args.s.now c.args.cells.now c.args.mem.now c.args.n c.args.p
     c.requires.1
     (omega (
       arith,
       c.requires.0,
-    )) c.part-y-then-op-eq-PLUS.result
+    )) c.part-y-in-6.result
     c.byte_at-b.result
     c.said-v.result
     c.byte_at-b.ensures.0
     c.said-v.ensures 0 m
     (said-ends c.args.t.now c.args.s.now c.args.cells.now c.args.mem.now c.args.n (c.args.p + 1)
     (knows-from c.args.t.now c.args.s.now c.args.cells.now c.args.mem.now c.args.n 0 0 c.args.p (c.args.p + 1) (omega arith) (omega arith)
-    c.requires.1) room c.part-y-then-op-eq-PLUS.result
+    c.requires.1) room c.part-y-in-6.result
     c.byte_at-d.result c.said-u.result c.byte_at-d.ensures.0 c.said-u.ensures (λ z. omega (arith, z, c.if-u-eq1.true))
     (omega (arith, c.if-u-eq1.true))))
-
-pub many_at-requires-then-v-eq3 : goal.many_at-requires-then-v-eq3
-many_at-requires-then-v-eq3 c = (
-  omega (
-    arith,
-    below-le c.left-l.result
-        (c.args.x
-        - 1),
-    c.part-y-then-op-eq-PLUS.ensures,
-    c.if-x-eq0.false,
-    c.requires.0,
-  ),
-  c.requires.1,
-)
 
 pub overflow_add-result-then-v-eq3 : goal.overflow_add-result-then-v-eq3
 overflow_add-result-then-v-eq3 c =
     omega (
       arith,
-      rounds-within c.args.t.now c.args.s.now c.args.cells.now c.args.n c.part-y-then-op-eq-PLUS.result c.args.p
+      rounds-within c.args.t.now c.args.s.now c.args.cells.now c.args.n c.part-y-in-6.result c.args.p
           (omega (
             arith,
             c.requires.0,
@@ -138,13 +111,13 @@ returns-then-v-eq3 c =
       arith,
       c.requires.0,
     ))
-    c.part-y-then-op-eq-PLUS.result
+    c.part-y-in-6.result
     c.byte_at-b.result
     c.said-v.result
     c.byte_at-b.ensures.0
     c.said-v.ensures c.args.x
     c.left-l.result c.many_at-then-v-eq3.result
     c.if-x-eq0.false
-    (sym c.if-op-eq-PLUS.true ∙ c.op-op.ensures.0)
+    (sym c.in-6.is ∙ c.op.ensures.0)
     c.left-l.ensures.0
-    c.part-y-then-op-eq-PLUS.ensures (omega (arith, c.if-v-eq3.true)) c.many_at-then-v-eq3.ensures
+    c.part-y-in-6.ensures (omega (arith, c.if-v-eq3.true)) c.many_at-then-v-eq3.ensures

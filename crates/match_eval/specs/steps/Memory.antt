@@ -3,7 +3,7 @@
 -- how many places of each key it keeps, how many keys there are, the key of each part, a part of each key, which bytes have been seen, what bytes decide
 -- (Firsts), then three words an entry: what it is about (key · 65,536 + the first place), the place past the last, and where rounds from each of them end.
 -- Assumes nothing: these are definitions.
-use Rattle.std.specs.Prelude.{ℕ, suc, ◌+◌, ◌*◌, ◌≤◌, ◌<◌, ◌≡◌, List, ◌⊎◌, get_or, length}
+use Rattle.std.specs.Prelude.{ℕ, suc, ◌+◌, ◌*◌, ◌≤◌, ◌<◌, ◌≡◌, List, ◌⊎◌, get_or, length, set}
 use Rattle.match_eval.specs.Eval.{ev, rep}
 use Rattle.grammar_table.specs.Trees.{tree_of}
 use Rattle.match_eval.specs.steps.Firsts.{parts, said_at, said_of, Heard, Sure, Silent, Added}
@@ -72,6 +72,12 @@ past_of mem i = get_or mem (entries_at + 3 * i + 1) 0
 
 abbrev pub end_of : List ℕ → ℕ → ℕ
 end_of mem i = get_or mem (entries_at + 3 * i + 2) 0
+
+-- entry i is these words from now on, if the memory has it
+abbrev pub Stored : ℕ → ℕ → ℕ → ℕ → List ℕ → List ℕ → Type 0
+Stored i first past end old new =
+    ((entries_at + 3 * i + 2 < length old) × (new ≡ set (set (set old (entries_at + 3 * i) first) (entries_at + 3 * i + 1) past) (entries_at + 3 * i + 2) end))
+    ⊎ (new ≡ old)
 
 -- entry i is about rounds from q on of parts with key k
 abbrev pub About : List ℕ → ℕ → ℕ → ℕ → Type 0

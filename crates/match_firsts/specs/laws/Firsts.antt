@@ -16,8 +16,26 @@ use Rattle.grammar_table.specs.laws.Leaves.{marks-at, words-length}
 use Rattle.match_eval.specs.Eval.{join_of, seq_of, alt_of, opt_of, ahead_of, never_of, ev, leaf_at}
 use Rattle.match_eval.proofs.laws.EvalSteps.{any-takes, literal-takes, literal-fails, class-takes, class-fails, cell-is, rep-ends, plus-ends}
 use Rattle.match_eval.proofs.laws.Leaves.{lit-ends, lit-differs, lit-goes, lit-done}
+use Rattle.match_firsts.specs.declared.Decided.{Decided}
+use Rattle.match_firsts.specs.declared.Decided.TheVariants.{Fails, Empty, Takes}
 use Rattle.match_firsts.specs.steps.Firm.{Firm}
+use Rattle.match_firsts.specs.steps.Taken.{taken_of}
 use Rattle.match_eval.specs.steps.Firsts.{byte_at, word_of, LeafSure, Sure, Guards}
+
+pub taken-small : (v : Decided) → taken_of v < 3
+taken-small Fails = omega arith
+taken-small Empty = omega arith
+taken-small Takes = omega arith
+
+pub not-fails : (v : Decided) → (v ≡ Fails → ⊥) → taken_of v ≡ 0 → ⊥
+not-fails Fails f e = f refl
+not-fails Empty f e = omega (arith, e)
+not-fails Takes f e = omega (arith, e)
+
+pub not-takes : (v : Decided) → (v ≡ Takes → ⊥) → taken_of v ≤ 1
+not-takes Fails f = omega arith
+not-takes Empty f = omega arith
+not-takes Takes f = absurd (f refl)
 
 -- a byte stands within the text
 inside : (s : List ℕ) (p b : ℕ) → byte_at s p ≡ b → b < 256 → p < length s
@@ -243,6 +261,9 @@ firm-star t x k f ka e =
     subst Firm (ap (λ (i : ℕ). node_by i (left_of t (x - 1)) (right_of t (x - 1)) (leaf_in t) (λ i. tree_of t (below i (x - 1)))) (flip e)
     ∙ node_at t x k (left_of t (x - 1)) (right_of t (x - 1)) f ka refl refl)
     (λ s cs n p h. omega (arith, h))
+
+pub firm-either : (t : List ℕ) (x k : ℕ) → (x ≡ 0 → ⊥) → k ≡ op_of t (x - 1) → 4 ≤ k → k ≤ 5 → Firm (tree_of t x)
+firm-either t x k f ka l m = ⊎_elim (λ h. firm-option t x k f ka (omega arith)) (λ h. firm-star t x k f ka (omega arith)) (lt-or-ge k 5)
 
 -- ── guards ──
 ahead_small : (x : ℕ) → ahead_of x ≤ 1

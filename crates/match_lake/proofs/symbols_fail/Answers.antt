@@ -1,31 +1,15 @@
-use native.Mathlib.Omega.{arith}
-use mathlib.Core.Path.{refl, ◌∙◌}
-use borrow.Author.Tests.{not-true, not-false}
-use Rattle.match_lake.specs.laws.Asks.{symbols-found, symbols-on, symbols-end}
+use Rattle.std.proofs.Common.{arith, rules, tests, refl, ◌≡◌, ◌+◌, true, false}
+use Rattle.std.proofs.lemmas.Iterator.{cases_from_all, YieldsList-from_range}
+use Rattle.grammar_table.specs.Table.{name_in}
+use Rattle.match_lake.specs.Asking.{symbol_fails}
+use Rattle.match_lake.specs.laws.Asks.{symbols_from, symbols-more, symbols-end, all-by}
 use Rattle.match_lake.proofs.symbols_fail.Goals as goal
 
-pub loop-i-init : goal.loop-i-init
-loop-i-init c = (omega arith, refl)
-
-pub returns-then-not-symbol_fails : goal.returns-then-not-symbol_fails
-returns-then-not-symbol_fails c = symbols-found c.args.s.now c.args.cells.now
-    c.args.n c.args.p
-    c.args.alt c.args.t.now
-    c.args.n c.loop-i.i c.symbol_fails.result
-    c.loop-i-test.true c.symbol_fails.ensures (not-true c.symbol_fails.result c.if-not-symbol_fails.true-raw) ∙ c.loop-i.invariant.1
-
-pub loop-i-preserved : goal.loop-i-preserved
-loop-i-preserved c = (
-  omega (arith, c.loop-i-test.true),
-  symbols-on c.args.s.now
-      c.args.cells.now c.args.n
-      c.args.p c.args.alt
-      c.args.t.now c.args.n
-      c.loop-i.i c.symbol_fails.result c.loop-i-test.true c.symbol_fails.ensures
-      (not-false c.symbol_fails.result c.if-not-symbol_fails.false-raw) ∙ c.loop-i.invariant.1,
-)
-
 pub returns : goal.returns
-returns c = symbols-end c.args.s.now c.args.cells.now
-    c.args.n c.args.p c.args.alt
-    c.args.t.now c.args.n c.loop-i.i (omega (arith, c.loop-i-test.false)) ∙ c.loop-i.invariant.1
+returns c =
+    let a = c.args in
+    all-by (λ i. symbol_fails a.s.now a.cells.now a.n a.alt i (name_in a.t.now i) a.p) (symbols_from a.s.now a.cells.now a.n a.p a.alt a.t.now a.n) a.n
+    (symbols-more a.s.now a.cells.now a.n a.p a.alt a.t.now a.n) (symbols-end a.s.now a.cells.now a.n a.p a.alt a.t.now a.n) c.all.result
+    (cases_from_all _ _ c.all.result (λ i. symbol_fails a.s.now a.cells.now a.n a.alt i (name_in a.t.now i) a.p ≡ true)
+    (λ i. symbol_fails a.s.now a.cells.now a.n a.alt i (name_in a.t.now i) a.p ≡ false)
+    c.all.ensures.ran (YieldsList-from_range 0 a.n a.n refl (omega arith)) (λ x q k. search (rules, tests)) (λ x q k. search (rules, tests)))

@@ -7,6 +7,9 @@ use mathlib.Core.List.{List, [], ◌∷◌, ◌++◌}
 use Rattle.std.proofs.Math.Option.{Option, none}
 use Rattle.std.proofs.Math.Dec.{eqb}
 use Rattle.std.proofs.Math.ListN.{length, get_or, get_or-eq_default}
+use Rattle.std.specs.Bool.{MatchBool}
+use Rattle.std.specs.List.{range_with_len, AllWithin, HoldsAt}
+use Rattle.std.proofs.lemmas.List.FromFn.{length-range_with_len, get_or-range_with_len}
 use Rattle.read_tokens.specs.Token.{Symbol, Leaf, name, any}
 use Rattle.grammar.specs.Exp.{Exp, sym, ter}
 use Rattle.grammar.specs.Same.{same_symbol, index_of}
@@ -170,19 +173,32 @@ module _ (t s cs : List ℕ) (n : ℕ) (set : List ℕ) (i p : ℕ) where
   unfolding ev
   terminal-asked v e h = ap (λ (x : ℕ). eqb x 0) h ∙ ap (λ (b : Bool). cond b (eqb (leaf_at s (leaf_in t i) p) 0) true) (flip e)
 
--- a loop over them: whatever is left, once one matches
-module _ (s cs : List ℕ) (n p : ℕ) (set t : List ℕ) (m i : ℕ) (r : Bool) (inside : i < m) where
-  pub symbols-found : r ≡ symbol_fails s cs n set i (name_in t i) p → r ≡ false → false ≡ symbols_from s cs n p set t m i
-  symbols-found e f = ap (λ (b : Bool). b && symbols_from s cs n p set t m (i + 1)) (flip f ∙ e) ∙ symbols-more s cs n p set t m i inside
+-- all of them fail, or one does not: what is said from each on, and of the one at it
+false_and : (b c : Bool) → false ≡ c → false ≡ (b && c)
+false_and true c e = e
+false_and false c e = refl
 
-  pub symbols-on : r ≡ symbol_fails s cs n set i (name_in t i) p → r ≡ true → symbols_from s cs n p set t m (i + 1) ≡ symbols_from s cs n p set t m i
-  symbols-on e f = ap (λ (b : Bool). b && symbols_from s cs n p set t m (i + 1)) (flip f ∙ e) ∙ symbols-more s cs n p set t m i inside
+module _ (fails from : ℕ → Bool) (m : ℕ) (more : (i : ℕ) → i < m → (fails i && from (i + 1)) ≡ from i) (ends : (i : ℕ) → m ≤ i → true ≡ from i) where
+  all_from : (k i : ℕ) → i + k ≡ m → ((j : ℕ) → j < m → fails j ≡ true) → true ≡ from i
+  all_from zero i e h = ends i (omega arith)
+  all_from (suc k) i e h = all_from k (i + 1) (omega arith) h ∙ flip (ap (λ (b : Bool). b && from (i + 1)) (h i (omega arith))) ∙ more i (omega arith)
 
-  pub terminals-found : r ≡ terminal_fails s cs n set (64 + i) (leaf_in t i) p → r ≡ false → false ≡ terminals_from s cs n p set t m i
-  terminals-found e f = ap (λ (b : Bool). b && terminals_from s cs n p set t m (i + 1)) (flip f ∙ e) ∙ terminals-more s cs n p set t m i inside
+  some_from : (k i : ℕ) → i + k ≡ m → (j : ℕ) → i ≤ j → j < m → fails j ≡ false → false ≡ from i
+  some_from zero i e j a b f = absurd (omega (arith, a, b, e))
+  some_from (suc k) i e j a b f = go (ltb i j) refl (λ q. some_from k (i + 1) (omega arith) j (omega arith) b f)
+    where
+      go : (c : Bool) → ltb i j ≡ c → (i < j → false ≡ from (i + 1)) → false ≡ from i
+      go true q g = false_and (fails i) (from (i + 1)) (g (ltb-true i j q)) ∙ more i (omega arith)
+      go false q g = let z : j ≡ i = omega (arith, a, ltb-false i j q) in
+          ap (λ (c : Bool). c && from (i + 1)) (flip (subst (λ (x : ℕ). fails x ≡ false) z f)) ∙ more i (omega arith)
 
-  pub terminals-on : r ≡ terminal_fails s cs n set (64 + i) (leaf_in t i) p → r ≡ true → terminals_from s cs n p set t m (i + 1) ≡ terminals_from s cs n p set t m i
-  terminals-on e f = ap (λ (b : Bool). b && terminals_from s cs n p set t m (i + 1)) (flip f ∙ e) ∙ terminals-more s cs n p set t m i inside
+  pub all-by : (b : Bool) → MatchBool b (AllWithin (λ j. fails j ≡ true) (range_with_len 0 m) 0 (length (range_with_len 0 m)))
+      ((k : ℕ) × (k < length (range_with_len 0 m)) × HoldsAt (λ j. fails j ≡ false) (range_with_len 0 m) k) → b ≡ from 0
+  all-by true h = all_from m 0 (omega arith) (λ k l.
+      subst (λ (j : ℕ). fails j ≡ true) (omega (arith, get_or-range_with_len 0 m k 0 l)) (h k 0 (omega arith) (omega (arith, length-range_with_len 0 m))))
+  all-by false h =
+      let l : h.0 < m = omega (arith, h.1, length-range_with_len 0 m) in
+      some_from m 0 (omega arith) h.0 (omega arith) l (subst (λ (j : ℕ). fails j ≡ false) (omega (arith, get_or-range_with_len 0 m h.0 0 l)) (h.2 0))
 
 -- ── all of it, of the grammar that a table holds ──
 -- by its three tests

@@ -1,5 +1,5 @@
 -- Node words as code reads them. Assumes nothing.
-use Prim.Native.Nat.{ℕ, suc, ◌+◌, ◌-◌, ◌*◌, ◌/◌, ◌≤◌, ◌<◌}
+use Prim.Native.Nat.{ℕ, suc, ◌-◌, ◌*◌, ◌/◌, ◌≤◌, ◌<◌}
 use Rattle.std.specs.Prelude.{◌≡◌, Bool, false, ◌&&◌, length, drop}
 use Rattle.std.proofs.Math.Path.{refl, ap}
 use Rattle.std.proofs.Common.{◌∙◌, sym as flip, arith}
@@ -17,6 +17,10 @@ module _ (ws : List ℕ) (k n : ℕ) where
   pub sound-short : length ws / node_words ≤ k → false ≡ sound_at ws k n
   unfolding sound_at node_words
   sound-short h = rw (lt-leb (node_words * suc k) (length ws) (omega (arith, h)))
+
+  pub sound-inside : true ≡ sound_at ws k n → k < length ws / node_words
+  unfolding sound_at node_words
+  sound-inside h = omega (arith, leb-true (node_words * suc k) (length ws) (and_parts (leb (node_words * suc k) (length ws)) _ (flip h)).0)
 
   module _ (a b : ℕ) (whole : k < length ws / node_words) (start : a ≡ node_word ws k 1) (end : b ≡ node_word ws k 2) where
     pub sound-turned : b < a → false ≡ sound_at ws k n
@@ -40,6 +44,9 @@ module _ (ws : List ℕ) (k n : ℕ) where
               ap (λ (x : ℕ). take (x - a) (drop a s)) end ∙ ap (λ (x : ℕ). take (node_word ws k 2 - x) (drop x s)) start
               ∙ ap (λ (x : Bool). cond x (part_of s (node_at ws k)) []) (h ∙ ap (sound_at ws k) (flip g));
         }
+
+  pub span-sound : (a b : ℕ) → a ≡ node_word ws k 1 → b ≡ node_word ws k 2 → true ≡ sound_at ws k n → Spans ws k n a b
+  span-sound a b start end h = span-is a b (sound-inside h) start end h
 
   pub span_none : false ≡ sound_at ws k n → Spans ws k n 0 0
   unfolding node_text node_start

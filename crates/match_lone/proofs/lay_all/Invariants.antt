@@ -1,4 +1,4 @@
-use Prim.Native.Nat.{◌*◌, ◌-◌, ◌≤◌}
+use Prim.Native.Nat.{◌*◌, ◌≤◌}
 use mathlib.Core.Path.{◌≡◌}
 use lib.ListN.{length}
 use Rattle.grammar_table.specs.Table.{expression_count}
@@ -8,6 +8,3 @@ use Rattle.match_lone.proofs.lay_all.Given as goal
 
 abbrev pub invariant-loop-e : goal.invariant-loop-e
 invariant-loop-e l = (length l.desk ≡ length l.initial.desk) × (l.k ≤ 8) × Desk l.t l.desk (expression_count l.t) × Laid l.t l.mem l.desk (256 * l.k)
-
-abbrev pub decreases-loop-e : goal.decreases-loop-e
-decreases-loop-e l = l.m - l.e

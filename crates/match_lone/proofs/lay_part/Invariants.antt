@@ -1,4 +1,4 @@
-use Prim.Native.Nat.{◌+◌, ◌*◌, ◌-◌, ◌≤◌}
+use Prim.Native.Nat.{◌+◌, ◌*◌}
 use mathlib.Core.Path.{◌≡◌}
 use lib.ListN.{length}
 use Rattle.grammar_table.specs.Table.{expression_count}
@@ -7,7 +7,4 @@ use Rattle.match_lone.specs.steps.Lanes.{Laid}
 use Rattle.match_lone.proofs.lay_part.Given as goal
 
 abbrev pub invariant-loop-b : goal.invariant-loop-b
-invariant-loop-b l = (length l.desk ≡ length l.initial.desk) × (l.b ≤ 256) × Desk l.t l.desk (expression_count l.t) × Laid l.t l.mem l.desk (256 * l.k + l.b)
-
-abbrev pub decreases-loop-b : goal.decreases-loop-b
-decreases-loop-b l = 256 - l.b
+invariant-loop-b l = (length l.desk ≡ length l.initial.desk) × Desk l.t l.desk (expression_count l.t) × Laid l.t l.mem l.desk (256 * l.k + l.b)

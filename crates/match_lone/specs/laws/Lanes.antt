@@ -1,10 +1,34 @@
 -- Words are laid in the lanes one after the other, and stay. Assumes nothing.
-use Rattle.std.specs.Prelude.{ℕ, ◌+◌, ◌*◌, ◌≤◌, ◌<◌, ◌≡◌, List, ◌⊎◌, length, get_or, set}
-use Rattle.std.proofs.Common.{◌∙◌, subst, sym as flip, inl, inr, eq-or-lt_of_le, arith, get_or-set_same, get_or-set_other}
+use Rattle.std.specs.Prelude.{ℕ, ◌+◌, ◌*◌, ◌≤◌, ◌<◌, ◌≡◌, List, ◌⊎◌, length, get_or, set, Option, None, Some}
+use Rattle.std.proofs.Common.{refl, ap, ◌∙◌, subst, sym as flip, inl, inr, eq-or-lt_of_le, arith, get_or-set_same, get_or-set_other}
 use Rattle.grammar_table.specs.Table.{expression_count}
 use Rattle.match_desk.specs.steps.Desk.{lanes_at, Desk}
+use Rattle.match_lone.specs.declared.Round.{Round}
+use Rattle.match_lone.specs.declared.Round.TheVariants.{Silent, Node}
 use Rattle.match_lone.specs.steps.Lone.{Lone}
-use Rattle.match_lone.specs.steps.Lanes.{Told, Tells, Laid, Behind}
+use Rattle.match_lone.specs.steps.Lanes.{Told, Tells, Laid, Behind, code_of}
+
+-- codes
+some-code : (r : Option Round) → 0 < code_of r
+some-code None = omega arith
+some-code (Some Silent) = omega arith
+some-code (Some (Node r)) = omega arith
+
+pub code-small : (t mem k : List ℕ) (b x : ℕ) (r : Option Round) → Lone t mem k b x r → code_of r ≤ 66
+code-small t mem k b x None h = omega arith
+code-small t mem k b x (Some Silent) h = omega arith
+code-small t mem k b x (Some (Node r)) h = omega (arith, h.1.0)
+
+code-same : (a b : Option Round) → code_of a ≡ code_of b → a ≡ b
+code-same None None e = refl
+code-same None (Some Silent) e = absurd (omega (arith, e))
+code-same None (Some (Node r)) e = absurd (omega (arith, e))
+code-same (Some Silent) None e = absurd (omega (arith, e))
+code-same (Some Silent) (Some Silent) e = refl
+code-same (Some Silent) (Some (Node r)) e = absurd (omega (arith, e))
+code-same (Some (Node q)) None e = absurd (omega (arith, e))
+code-same (Some (Node q)) (Some Silent) e = absurd (omega (arith, e))
+code-same (Some (Node q)) (Some (Node r)) e = ap (λ (a : ℕ). Some (Node a)) (omega (arith, e))
 
 module _ (t mem : List ℕ) where
   pub laid_none : (k : List ℕ) → Laid t mem k 0
@@ -12,17 +36,17 @@ module _ (t mem : List ℕ) where
 
   -- 0 says nothing
   pub tells_none : (b : ℕ) → Tells t mem b 0
-  tells_none b x v l e = absurd (omega (arith, e))
+  tells_none b x r l e = absurd (omega (arith, e, some-code r))
 
-  pub tells-lone : (k : List ℕ) (b x v w : ℕ) → Desk t k (expression_count t) → Lone t mem k b x v → v ≤ 4096 → w ≡ 8192 * x + v + 1 → Tells t mem b w
-  tells-lone k b x v w desk h few is x' v' few' e =
-      (k, desk, subst (λ (a : ℕ). Lone t mem k b a v') same-part (subst (λ (a : ℕ). Lone t mem k b x a) same_word h))
+  pub tells-lone : (k : List ℕ) (b x w : ℕ) (r : Option Round) → Desk t k (expression_count t) → Lone t mem k b x r → w ≡ 8192 * x + code_of r → Tells t mem b w
+  tells-lone k b x w r desk h is x' r' few e =
+      (k, desk, subst (λ (a : ℕ). Lone t mem k b a r') same-part (subst (λ (a : Option Round). Lone t mem k b x a) (code-same r r' same_code) h))
     where
       same-part : x ≡ x'
-      same-part = omega (arith, is, e, few, few')
+      same-part = omega (arith, is, e, few, some-code r, some-code r', code-small t mem k b x r h)
 
-      same_word : v ≡ v'
-      same_word = omega (arith, is, e, few, few')
+      same_code : code_of r ≡ code_of r'
+      same_code = omega (arith, is, e, few, some-code r, some-code r', code-small t mem k b x r h)
 
   module _ (k : List ℕ) (i : ℕ) (laid : Laid t mem k i) where
     -- fewer of them

@@ -1,8 +1,8 @@
 -- What stands for a part that takes just a byte, and what it lists. Assumes nothing.
-use Rattle.std.specs.Prelude.{ℕ, ◌+◌, ◌≤◌, ◌<◌, ◌≡◌, List}
+use Rattle.std.specs.Prelude.{ℕ, ◌+◌, ◌≤◌, ◌<◌, ◌≡◌, ◌⊎◌, List, ◌∷◌, Option, None, Some}
 use Rattle.std.proofs.Math.Path.{refl, ap, subst, sym as flip}
-use Rattle.std.proofs.Common.{◌∙◌, arith}
-use Rattle.grammar.specs.Exp.{Exp, sym, alt}
+use Rattle.std.proofs.Common.{◌∙◌, arith, inl, inr}
+use Rattle.grammar.specs.Exp.{Exp, alt}
 use Rattle.grammar_table.specs.Table.{symbol_word, expression_count}
 use Rattle.grammar_table.specs.Trees.{tree_of}
 use Rattle.match_eval.specs.Eval.{ev}
@@ -14,8 +14,11 @@ use Rattle.match_desk.specs.steps.Desk.{parent_of, mark_of, Desk}
 use Rattle.match_desk.specs.steps.Parts.{shape, Made}
 use Rattle.match_desk.specs.laws.Parts.{shaped}
 use Rattle.match_desk.specs.laws.Desks.{parent_above}
+use Rattle.match_walks.specs.steps.Tasks.{again}
+use Rattle.match_walks.specs.steps.Waits.{going}
+use Rattle.match_lone.specs.declared.Round.TheVariants.{Silent, Node}
 use Rattle.match_walks.specs.laws.Waits.{up-star, up-plus}
-use Rattle.match_lone.specs.steps.Lone.{Wherever, Stands, Settles, Single, Lone, Repeated}
+use Rattle.match_lone.specs.steps.Lone.{Wherever, Stands, Settles, Settled, Single, Lone, Repeated}
 
 stands_self : (t mem : List ℕ) (b x : ℕ) → Stands t mem b x x
 stands_self t mem b x = record { small = omega arith; lists = λ s cs n p k l q f. refl }
@@ -68,24 +71,24 @@ settles-right t mem b x w op l y z u is made choice three first fails r h =
       };
     }
 
+-- the same of what settles it, if that is known
+module _ (t mem : List ℕ) (b x w op l y z : ℕ) (is : w ≡ said_of mem b x) (made : Made t x op l y z) (choice : op ≡ 3) (three : w ≡ 3) where
+  pub settled-left : (r : Option ℕ) → Settled t mem b y r → Settled t mem b x r
+  settled-left None h = tt
+  settled-left (Some r) h = settles-left t mem b x w is op l y z made choice three r h
+
+  pub settled-right : (u : ℕ) → u ≡ said_of mem b y → u ≡ 1 → (r : Option ℕ) → Settled t mem b z r → Settled t mem b x r
+  settled-right u first fails None h = tt
+  settled-right u first fails (Some r) h = settles-right t mem b x w op l y z u is made choice three first fails r h
+
 -- ── what a round lists ──
 module _ (t mem k : List ℕ) (b x : ℕ) where
-  pub lone-unknown : Lone t mem k b x 4096
-  lone-unknown = record { silent = λ e. absurd (omega (arith, e)); one = λ f g. absurd (g refl) }
+  pub lone-silent : (y m : ℕ) → Settles t mem b x y → m ≡ mark_of k y → m ≡ 0 → Lone t mem k b x (Some Silent)
+  lone-silent y m h e z = (y, h, flip e ∙ z)
 
-  pub lone-silent : (y m : ℕ) → Settles t mem b x y → m ≡ mark_of k y → m ≡ 0 → Lone t mem k b x 2048
-  lone-silent y m h e z = record { silent = λ o. (y, h, flip e ∙ z); one = λ f. absurd (f refl) }
-
-  pub lone-symbol : (y op l i j v : ℕ) → Settles t mem b x y → Made t y op l i j → op ≡ 1 → ((v ≡ 4096 → ⊥) → (v ≡ l) × Single t mem k b l) → Lone t mem k b x v
+  pub lone-symbol : (y op l i j : ℕ) → Settles t mem b x y → Made t y op l i j → op ≡ 1 → Single t mem k b l → Lone t mem k b x (Some (Node l))
   unfolding shape
-  lone-symbol y op l i j v h made is h' =
-      record {
-        silent = λ e. let u = h' (λ f. omega (arith, e, f)) in absurd (omega (arith, e, u.0, u.1.0));
-        one = λ f g. let u = h' g in ((y, h, flip (shaped t y op l i j 1 made is) ∙ ap sym (flip u.0)), by_name (flip u.0) u.1);
-      }
-    where
-      by_name : {a : ℕ} → a ≡ v → Single t mem k b a → Single t mem k b v
-      by_name e s = subst (λ (a : ℕ). Single t mem k b a) e s
+  lone-symbol y op l i j h made is s = ((y, h, flip (shaped t y op l i j 1 made is)), s)
 
 -- the node of symbol r alone: what stands for its body lists none
 module _ (t mem k : List ℕ) (b r z m : ℕ) (few : r < 64) (body : z ≡ symbol_word t r 1) where
@@ -104,8 +107,9 @@ module _ (t k : List ℕ) (x e op l y z : ℕ) (desk : Desk t k (expression_coun
   above : (x < e) × (e ≤ expression_count t)
   above = parent_above t k (expression_count t) desk fits x e (flip parent) (omega (arith, made.left))
 
-  pub repeated-star : op ≡ 5 → Repeated t k x
-  repeated-star i = (omega (arith, above), (e, λ d. up-star t k (expression_count t) desk fits e op l y z d made above.1 x i (flip parent)))
-
-  pub repeated-plus : op ≡ 6 → Repeated t k x
-  repeated-plus i = (omega (arith, above), (e, λ d. up-plus t k (expression_count t) desk fits e op l y z d made above.1 x i (flip parent)))
+  pub repeated : (op ≡ 5) ⊎ (op ≡ 6) → Repeated t k x
+  repeated o = (omega (arith, above), (e, behind o))
+    where
+      behind : (op ≡ 5) ⊎ (op ≡ 6) → (d : ℕ) → going t k d x ≡ again x d ∷ going t k d e
+      behind (inl i) d = up-star t k (expression_count t) desk fits e op l y z d made above.1 x i (flip parent)
+      behind (inr i) d = up-plus t k (expression_count t) desk fits e op l y z d made above.1 x i (flip parent)

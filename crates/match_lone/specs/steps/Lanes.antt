@@ -1,17 +1,25 @@
--- What bytes decide of rounds, laid out in the desk's lanes: 4 of 256 words, one word a byte. A word that is not 0 says which part it is about, and 1 + what
--- its byte decides of a round (Lone). Assumes nothing: these are definitions.
-use Rattle.std.specs.Prelude.{ℕ, suc, ◌+◌, ◌*◌, ◌≤◌, ◌<◌, ◌≡◌, List, get_or}
+-- What bytes decide of rounds, laid out in the desk's lanes: 4 of 256 words, one word a byte. A word that is not 0 says which part it is about, and what its
+-- byte decides of a round (Lone), by its code. Assumes nothing: these are definitions.
+use Rattle.std.specs.Prelude.{ℕ, ◌+◌, ◌*◌, ◌≤◌, ◌<◌, ◌≡◌, List, get_or, Option, None, Some}
 use Rattle.grammar_table.specs.Table.{expression_count}
 use Rattle.match_desk.specs.steps.Desk.{lanes_at, Desk}
+use Rattle.match_lone.specs.declared.Round.{Round}
+use Rattle.match_lone.specs.declared.Round.TheVariants.{Silent, Node}
 use Rattle.match_lone.specs.steps.Lone.{Lone}
 
+-- what is said of a round, as a number
+abbrev pub code_of : Option Round → ℕ
+code_of None = 1
+code_of (Some Silent) = 2
+code_of (Some (Node r)) = 3 + r
+
 -- r says what is so of x where byte b stands, by some desk of the table: what a desk's marks say is so of the table
-abbrev pub Told : List ℕ → List ℕ → ℕ → ℕ → ℕ → Type 0
+abbrev pub Told : List ℕ → List ℕ → ℕ → ℕ → Option Round → Type 0
 Told t mem b x r = (k : List ℕ) × Desk t k (expression_count t) × Lone t mem k b x r
 
 -- word w says what is so where byte b stands
 abbrev pub Tells : List ℕ → List ℕ → ℕ → ℕ → Type 0
-Tells t mem b w = (x v : ℕ) → v ≤ 4096 → w ≡ 8192 * x + suc v → Told t mem b x v
+Tells t mem b w = (x : ℕ) (r : Option Round) → code_of r ≤ 4096 → w ≡ 8192 * x + code_of r → Told t mem b x r
 
 -- the first i words of the lanes of desk k say what is so
 pub record Laid (t mem k : List ℕ) (i : ℕ) : Type 0 where

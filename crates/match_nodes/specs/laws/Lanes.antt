@@ -1,5 +1,5 @@
 -- Rounds that need no walk: what a byte decides of one, one after the other, and the turn that they are. Assumes nothing.
-use Rattle.std.specs.Prelude.{ℕ, ◌+◌, ◌≤◌, ◌<◌, ◌≡◌, length}
+use Rattle.std.specs.Prelude.{ℕ, ◌+◌, ◌≤◌, ◌<◌, ◌≡◌, length, Bool, Some, Err}
 use Rattle.std.proofs.Math.Path.{refl, ap, subst, sym as flip}
 use Rattle.std.proofs.Common.{◌∙◌}
 use mathlib.Core.List.{List, [], ◌∷◌, ◌++◌}
@@ -19,10 +19,12 @@ use Rattle.match_walks.specs.steps.Tasks.{Task, walk, again, under, takes, walke
 use Rattle.match_walks.specs.steps.Waits.{going, waiting, tasks_of, climb}
 use Rattle.match_walks.specs.laws.Walks.{again-more}
 use Rattle.match_lone.specs.steps.Lone.{Stands, Settles, Lone, Repeated}
+use Rattle.match_lone.specs.declared.Round.TheVariants.{Silent, Node as Round}
+use Rattle.match_nodes.specs.declared.Offence.{Offence}
 use Rattle.match_nodes.specs.steps.Passes.{Out, out, run}
-use Rattle.match_nodes.specs.steps.Turns.{Ready, State, turns, Turned}
-use Rattle.match_nodes.specs.steps.Lanes.{Laned}
-use Rattle.match_nodes.specs.laws.Passes.{run-append}
+use Rattle.match_nodes.specs.steps.Turns.{Ready, State, turns, Turned, Ended}
+use Rattle.match_nodes.specs.steps.Lanes.{Laned, LaneStopped}
+use Rattle.match_nodes.specs.laws.Passes.{run-append, run-stopped}
 use Rattle.match_nodes.specs.laws.Turns.{climb-few, symbol-in, under-is}
 
 -- ── what the byte at p decides of x ──
@@ -37,14 +39,13 @@ module _ (t s cs : List ℕ) (n : ℕ) (mem k : List ℕ) (ready : Ready t s cs 
         flip (desk.silent v (omega (arith, h.small, l)) m s (λ e i. ev s cs n e i) (λ r i. under t s cs n d r i) p)
         ∙ h.lists s cs n p here inside byte (λ r i. under t s cs n d r i)
 
-    pub lone-none : (r : ℕ) → Lone t mem k b x r → r ≡ 2048 → (takes t s cs n x p ≡ 2) × ((d : ℕ) → [] ≡ walked t s cs n x d p)
-    lone-none r h e = let u = h.silent e in (u.1.two s cs n p here inside byte, quiet x u.0 known u.1.stands u.2)
+    pub lone-none : Lone t mem k b x (Some Silent) → (takes t s cs n x p ≡ 2) × ((d : ℕ) → [] ≡ walked t s cs n x d p)
+    lone-none u = (u.1.two s cs n p here inside byte, quiet x u.0 known u.1.stands u.2)
 
-    pub lone-node : (r : ℕ) → Lone t mem k b x r → (r ≡ 2048 → ⊥) → (r ≡ 4096 → ⊥)
+    pub lone-node : (r : ℕ) → Lone t mem k b x (Some (Round r))
         → (r < 64) × (takes t s cs n x p ≡ 2) × ((d : ℕ) → d ≤ 256 → nd r p (p + 1) d ∷ [] ≡ walked t s cs n x d p)
     unfolding walk_of ev
-    lone-node r h f g =
-        let u = h.one f g in
+    lone-node r u =
         let hx : Settles t mem b x u.0.0 = u.0.1 in
         let tree : tree_of t u.0.0 ≡ sym r = u.0.2 in
         let cell : 2 ≡ cell_at s cs n r p = flip (hx.ends s cs n p here inside byte) ∙ ap (λ (e : Exp ℕ). ev s cs n e p) tree in
@@ -60,7 +61,7 @@ module _ (t s cs : List ℕ) (n : ℕ) (mem k : List ℕ) (ready : Ready t s cs 
         )
 
 -- ── one after the other ──
-module _ (t s cs : List ℕ) (n room w : ℕ) (x d : ℕ) where
+module _ (t s cs : List ℕ) (n room : ℕ) (w : Bool) (x d : ℕ) where
   pub lane-none : (o : Out) (p : ℕ) → p ≤ length s → Laned t s cs n room w o o x d p p
   lane-none o p l = record { place = l; forward = omega arith; stays = λ e. refl; same = λ zs. refl; able = λ zs a. a; less = λ zs. omega arith }
 
@@ -86,6 +87,16 @@ module _ (t s cs : List ℕ) (n room w : ℕ) (x d : ℕ) where
       next : p + 1 ≡ after t s cs n (walk x d) p
       next = omega (arith, two)
 
+  -- a node that offends
+  pub lane-stops : (o : Out) (ws : List ℕ) (e : Offence) (p : ℕ) → x < 2048 → p ≤ length s → takes t s cs n x p ≡ 2 → out ws (Err e) ≡ run room w o (walked t s cs n x d p)
+      → LaneStopped t s cs n room w o (out ws (Err e)) x d p
+  unfolding listed nodes
+  lane-stops o ws e p small l two is zs =
+      run-stopped room w ws e (listed t s cs n (again x d ∷ zs) (after t s cs n (walk x d) p))
+      ∙ ap (λ (u : Out). run room w u (listed t s cs n (again x d ∷ zs) (after t s cs n (walk x d) p))) is
+      ∙ flip (run-append room w o (walked t s cs n x d p) (listed t s cs n (again x d ∷ zs) (after t s cs n (walk x d) p)))
+      ∙ ap (run room w o) ((again-more t s cs n d p l x 2 small (flip two) (omega arith)).same zs)
+
   pub lane-on : (o i j : Out) (p q r : ℕ) → Laned t s cs n room w o i x d p q → Laned t s cs n room w i j x d q r → Laned t s cs n room w o j x d p r
   lane-on o i j p q r h g =
       record {
@@ -98,14 +109,18 @@ module _ (t s cs : List ℕ) (n room w : ℕ) (x d : ℕ) where
       }
 
 -- ── the turn that they are ──
-module _ (t s cs : List ℕ) (n room w : ℕ) (o i : Out) (k : List ℕ) (m d x p q : ℕ) (state : State t s cs n k m d x p) (done : m ≡ 1) where
-  pub turned-lane : Repeated t k x → Laned t s cs n room w o i x d p q → (q ≡ p → ⊥) → Turned t s cs n room w o i (tasks_of t k m d x) p (climb m d x) k 1 d x q
+module _ (t s cs : List ℕ) (n room : ℕ) (w : Bool) (o i : Out) (k : List ℕ) (m d x p q : ℕ) (state : State t s cs n k m d x p) (done : m ≡ 1) where
+  pub turned-stopped : Repeated t k x → LaneStopped t s cs n room w o i x d p → Ended t s cs n room w o i (tasks_of t k m d x) p
+  turned-stopped again-is h =
+      h (going t k d again-is.1.0 ++ waiting t k d)
+      ∙ ap (λ (zs : List Task). run room w o (listed t s cs n zs p)) (flip (ap (λ (j : ℕ). tasks_of t k j d x) done ∙ ap (λ (zs : List Task). zs ++ waiting t k d) (again-is.1.1 d)))
+
+  pub turned-lane : Repeated t k x → Laned t s cs n room w o i x d p q → p < q → Turned t s cs n room w o i (tasks_of t k m d x) p (climb m d x) k 1 d x q
   unfolding turns
   turned-lane again-is h moved =
       record {
         same = ap (λ (zs : List Task). run room w i (listed t s cs n zs q)) tasks ∙ h.same behind ∙ ap (λ (zs : List Task). run room w o (listed t s cs n zs p)) (flip before);
-        desk = state.desk;
-        state = λ l.
+        state =
             record {
               desk = state.desk;
               place = h.place;
@@ -116,12 +131,12 @@ module _ (t s cs : List ℕ) (n room w : ℕ) (o i : Out) (k : List ℕ) (m d x 
                   subst (λ (zs : List Task). AllAble t s cs n zs q) (flip tasks)
                   (h.able behind (subst (λ (zs : List Task). AllAble t s cs n zs p) before state.able));
             };
-        less = λ l.
+        less =
             omega (
               arith,
               h.less behind,
               h.forward,
-              moved',
+              moved,
               climb-few 1 d x state.level,
               ap (λ (zs : List Task). to_do t s cs n zs q) tasks,
               ap (λ (zs : List Task). to_do t s cs n zs p) before,
@@ -136,12 +151,3 @@ module _ (t s cs : List ℕ) (n room w : ℕ) (o i : Out) (k : List ℕ) (m d x 
 
       before : tasks_of t k m d x ≡ again x d ∷ behind
       before = ap (λ (j : ℕ). tasks_of t k j d x) done ∙ tasks
-
-      moved' : p < q
-      moved' = omega (arith, h.forward, moved)
-
--- rounds that stay where they are leave the words as they were
-pub turned-stays : (t s cs : List ℕ) (n room w : ℕ) (ws ws' : List ℕ) (at at' i : ℕ) (o : Out) (xs : List Task) (p c : ℕ) (k : List ℕ) (m d x q : ℕ) → out ws' at' ≡ out ws at
-    → Turned t s cs n room w o (out ws i) xs p c k m d x q → Turned t s cs n room w o (out ws' i) xs p c k m d x q
-turned-stays t s cs n room w ws ws' at at' i o xs p c k m d x q e h =
-    subst (λ (l : List ℕ). Turned t s cs n room w o (out l i) xs p c k m d x q) (flip (ap (λ (u : Out). u.words) e)) h

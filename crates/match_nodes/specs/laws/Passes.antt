@@ -1,162 +1,150 @@
 -- Two passes give the answer and leave the words that `listing_of` and `words_of` say.
 -- Assumes nothing.
-use Rattle.std.specs.Prelude.{ℕ, zero, suc, ◌+◌, ◌-◌, ◌≤◌, ◌<◌, ◌≡◌, Bool, true, false, ltb}
-use Rattle.std.proofs.Math.Path.{refl, ap, sym as flip}
-use Rattle.std.proofs.Common.{subst, ◌∙◌, arith, add-one}
+use Rattle.std.specs.Prelude.{ℕ, suc, ◌+◌, ◌≤◌, ◌<◌, ◌≡◌, Bool, true, false, ltb, Result, Ok, Err}
+use Rattle.std.proofs.Math.Path.{refl, ap, subst, sym as flip}
+use Rattle.std.proofs.Common.{◌∙◌, add-one}
 use mathlib.Core.List.{List, [], ◌∷◌, ◌++◌}
 use borrow.Author.Tests.{lt-ltb, le-ltb, ltb-true, ltb-false}
 use Rattle.read_tokens.specs.Bounds.{depth_bound}
 use Rattle.match_meaning.specs.Meaning.{Node}
 use Rattle.match_list.specs.Nodes.{Listing, all, deep, full, listing_of, put_node, written, words_of}
-use Rattle.match_nodes.specs.steps.Passes.{big, Out, out, put_if, note, run, number_of, decode}
+use Rattle.match_nodes.specs.declared.Offence.{Offence}
+use Rattle.match_nodes.specs.declared.Offence.TheVariants.{Deep, Full}
+use Rattle.match_nodes.specs.steps.Passes.{Out, out, put_if, next_of, note, run, answer_of, said}
 use Rattle.match_list.proofs.laws.Cut.{listing-deep, listing_full, listing-next, IsAll, high}
 use Rattle.match_list.proofs.laws.Words.{if-all, words-refused}
 
--- ── the flag ──
-pub put-off : (w : ℕ) (ws : List ℕ) (k : ℕ) (n : Node) → w ≡ 0 → ws ≡ put_if w ws k n
-unfolding put_if
-put-off w ws k n h = rw h
-
-pub put_on : (w : ℕ) (ws : List ℕ) (k : ℕ) (n : Node) → (w ≡ 0 → ⊥) → put_node ws k n ≡ put_if w ws k n
-unfolding put_if
-put_on zero ws k n f = absurd (f refl)
-put_on (suc w) ws k n f = refl
-
 -- ── one node ──
-module _ (room w : ℕ) (ws : List ℕ) (at : ℕ) (n : Node) where
-  pub note-stopped : big ≤ at → out ws at ≡ note room w (out ws at) n
-  unfolding note
-  note-stopped h = rw (le-ltb at big h)
+module _ (room : ℕ) (w : Bool) (ws : List ℕ) (k : ℕ) (n : Node) where
+  pub note-deep : depth_bound < n.depth → out ws (Err (Deep k)) ≡ note room w (out ws (Ok k)) n
+  unfolding note next_of
+  note-deep g = rw (lt-ltb depth_bound n.depth g)
 
-  pub note-deep : at < big → depth_bound < n.depth → out ws (at + big) ≡ note room w (out ws at) n
-  unfolding note
-  note-deep h g = rw (lt-ltb at big h, lt-ltb depth_bound n.depth g)
+  pub note-full : n.depth ≤ depth_bound → room ≤ k → out ws (Err (Full k)) ≡ note room w (out ws (Ok k)) n
+  unfolding note next_of
+  note-full g h = rw (le-ltb depth_bound n.depth g, le-ltb k room h)
 
-  pub note-full : at < big → n.depth ≤ depth_bound → room ≤ at → out ws (big + big) ≡ note room w (out ws at) n
-  unfolding note
-  note-full h g k = rw (lt-ltb at big h, le-ltb depth_bound n.depth g, le-ltb at room k)
+  pub note-one : n.depth ≤ depth_bound → k < room → out (put_if w ws k n) (Ok (k + 1)) ≡ note room w (out ws (Ok k)) n
+  unfolding note next_of
+  note-one g h = rw (le-ltb depth_bound n.depth g, lt-ltb k room h)
 
-  pub note-one : at < big → n.depth ≤ depth_bound → at < room → out (put_if w ws at n) (at + 1) ≡ note room w (out ws at) n
-  unfolding note
-  note-one h g k = rw (lt-ltb at big h, le-ltb depth_bound n.depth g, lt-ltb at room k)
+module _ (room : ℕ) (ws : List ℕ) (k : ℕ) (n : Node) where
+  pub note-looks : n.depth ≤ depth_bound → k < room → out ws (Ok (k + 1)) ≡ note room false (out ws (Ok k)) n
+  unfolding put_if
+  note-looks g h = note-one room false ws k n g h
+
+  pub note-writes : n.depth ≤ depth_bound → k < room → out (put_node ws k n) (Ok (k + 1)) ≡ note room true (out ws (Ok k)) n
+  unfolding put_if
+  note-writes g h = note-one room true ws k n g h
+
+-- a node that is noted is not too deep
+abbrev Fine : Result ℕ Offence → Type 0
+Fine (Ok k) = Unit
+Fine (Err e) = ⊥
+
+ok-err : {A : Type 0} (x : Result ℕ Offence) (k : ℕ) (e : Offence) → x ≡ Ok k → x ≡ Err e → A
+ok-err x k e h g = absurd (subst Fine g (subst Fine (flip h) tt))
+
+pub noted-high : (room : ℕ) (w : Bool) (ws words : List ℕ) (k i : ℕ) (n : Node) → out words (Ok i) ≡ note room w (out ws (Ok k)) n → n.depth ≤ depth_bound
+noted-high room w ws words k i n h = go (ltb depth_bound n.depth) refl
+  where
+    go : (b : Bool) → ltb depth_bound n.depth ≡ b → n.depth ≤ depth_bound
+    go true e = ok-err (note room w (out ws (Ok k)) n).at i (Deep k) (flip (ap (λ (o : Out). o.at) h)) (flip (ap (λ (o : Out). o.at) (note-deep room w ws k n (ltb-true depth_bound n.depth e))))
+    go false e = ltb-false depth_bound n.depth e
 
 -- ── a list ──
--- a pass that has an answer stays as it is
-pub run-stopped : (room w : ℕ) (ws : List ℕ) (at : ℕ) (l : List Node) → big ≤ at → out ws at ≡ run room w (out ws at) l
-unfolding run
-run-stopped room w ws at [] h = refl
-run-stopped room w ws at (n ∷ l) h = run-stopped room w ws at l h ∙ ap (λ (x : Out). run room w x l) (note-stopped room w ws at n h)
+-- a pass that has a refusal stays as it is
+pub run-stopped : (room : ℕ) (w : Bool) (ws : List ℕ) (e : Offence) (l : List Node) → out ws (Err e) ≡ run room w (out ws (Err e)) l
+unfolding run note
+run-stopped room w ws e [] = refl
+run-stopped room w ws e (n ∷ l) = run-stopped room w ws e l
 
-pub run-append : (room w : ℕ) (o : Out) (a b : List Node) → run room w o (a ++ b) ≡ run room w (run room w o a) b
+pub run-append : (room : ℕ) (w : Bool) (o : Out) (a b : List Node) → run room w o (a ++ b) ≡ run room w (run room w o a) b
 unfolding run
 run-append room w o [] b = refl
 run-append room w o (n ∷ ns) b = run-append room w (note room w o n) ns b
 
-pub run_none : (room w : ℕ) (o : Out) (l : List Node) → [] ≡ l → o ≡ run room w o l
+pub run_none : (room : ℕ) (w : Bool) (o : Out) (l : List Node) → [] ≡ l → o ≡ run room w o l
 unfolding run
 run_none room w o l h = rw (← h)
 
-pub run-two : (room w : ℕ) (o o₁ o₂ : Out) (a b l : List Node) → o₁ ≡ run room w o a → o₂ ≡ run room w o₁ b → a ++ b ≡ l → o₂ ≡ run room w o l
-run-two room w o o₁ o₂ a b l h g e = g ∙ ap (λ (x : Out). run room w x b) h ∙ flip (run-append room w o a b) ∙ ap (run room w o) e
-
-pub run-node : (room w : ℕ) (o o₁ o₂ : Out) (n : Node) (b l : List Node) → o₁ ≡ note room w o n → o₂ ≡ run room w o₁ b → n ∷ b ≡ l → o₂ ≡ run room w o l
-unfolding run
-run-node room w o o₁ o₂ n b l h g e = g ∙ ap (λ (x : Out). run room w x b) h ∙ ap (run room w o) e
-
-pub run-single : (room w : ℕ) (o i : Out) (n : Node) (l : List Node) → i ≡ note room w o n → n ∷ [] ≡ l → i ≡ run room w o l
+pub run-single : (room : ℕ) (w : Bool) (o i : Out) (n : Node) (l : List Node) → i ≡ note room w o n → n ∷ [] ≡ l → i ≡ run room w o l
 unfolding run
 run-single room w o i n l h e = h ∙ ap (run room w o) e
 
--- a pass that only looks ends with the answer's number
-look-by : (room k : ℕ) (ws : List ℕ) (n : Node) (ns : List Node) (b c : Bool) → ltb depth_bound n.depth ≡ b → ltb k room ≡ c → k < big
-    → (k < room → run room 0 (out ws (suc k)) ns ≡ out ws (number_of (listing_of room (suc k) ns))) → run room 0 (out ws k) (n ∷ ns) ≡ out ws (number_of (listing_of room k (n ∷ ns)))
-unfolding run number_of put_if
-look-by room k ws n ns true c h g l f =
+-- a pass that only looks ends with the answer
+look-by : (room k : ℕ) (ws : List ℕ) (n : Node) (ns : List Node) (b c : Bool) → ltb depth_bound n.depth ≡ b → ltb k room ≡ c
+    → run room false (out ws (Ok (suc k))) ns ≡ out ws (answer_of (listing_of room (suc k) ns)) → run room false (out ws (Ok k)) (n ∷ ns) ≡ out ws (answer_of (listing_of room k (n ∷ ns)))
+unfolding run
+look-by room k ws n ns true c h g f =
     let d : depth_bound < n.depth = ltb-true depth_bound n.depth h in
-    ap (λ (o : Out). run room 0 o ns) (flip (note-deep room 0 ws k n l d)) ∙ flip (run-stopped room 0 ws (k + big) ns (omega arith))
-    ∙ ap (λ (x : Listing). out ws (number_of x)) (flip (listing-deep room k n ns d))
-look-by room k ws n ns false true h g l f =
+    ap (λ (o : Out). run room false o ns) (flip (note-deep room false ws k n d)) ∙ flip (run-stopped room false ws (Deep k) ns)
+    ∙ ap (λ (x : Listing). out ws (answer_of x)) (flip (listing-deep room k n ns d))
+look-by room k ws n ns false true h g f =
     let d : n.depth ≤ depth_bound = ltb-false depth_bound n.depth h in
     let r : k < room = ltb-true k room g in
-    ap (λ (o : Out). run room 0 o ns) (flip (note-one room 0 ws k n l d r) ∙ ap (out ws) (add-one k)) ∙ f r ∙ ap (λ (x : Listing). out ws (number_of x)) (flip (listing-next room k n ns d r))
-look-by room k ws n ns false false h g l f =
+    ap (λ (o : Out). run room false o ns) (flip (note-looks room ws k n d r) ∙ ap (λ (i : ℕ). out ws (Ok i)) (add-one k)) ∙ f
+    ∙ ap (λ (x : Listing). out ws (answer_of x)) (flip (listing-next room k n ns d r))
+look-by room k ws n ns false false h g f =
     let d : n.depth ≤ depth_bound = ltb-false depth_bound n.depth h in
     let r : room ≤ k = ltb-false k room g in
-    ap (λ (o : Out). run room 0 o ns) (flip (note-full room 0 ws k n l d r)) ∙ flip (run-stopped room 0 ws (big + big) ns (omega arith))
-    ∙ ap (λ (x : Listing). out ws (number_of x)) (flip (listing_full room k n ns d r))
+    ap (λ (o : Out). run room false o ns) (flip (note-full room false ws k n d r)) ∙ flip (run-stopped room false ws (Full k) ns)
+    ∙ ap (λ (x : Listing). out ws (answer_of x)) (flip (listing_full room k n ns d r))
 
-pub run-looks : (room k : ℕ) (ws : List ℕ) (ns : List Node) → room < big → k ≤ room → run room 0 (out ws k) ns ≡ out ws (number_of (listing_of room k ns))
-unfolding run number_of listing_of
-run-looks room k ws [] r h = refl
-run-looks room k ws (n ∷ ns) r h = look-by room k ws n ns (ltb depth_bound n.depth) (ltb k room) refl refl (omega arith) (λ l. run-looks room (suc k) ws ns r (omega arith))
+pub run-looks : (room k : ℕ) (ws : List ℕ) (ns : List Node) → run room false (out ws (Ok k)) ns ≡ out ws (answer_of (listing_of room k ns))
+unfolding run listing_of
+run-looks room k ws [] = refl
+run-looks room k ws (n ∷ ns) = look-by room k ws n ns (ltb depth_bound n.depth) (ltb k room) refl refl (run-looks room (suc k) ws ns)
 
--- where there is no offender a pass that writes writes all, and ends with the same number
-pub run-writes : (room k : ℕ) (ws : List ℕ) (ns : List Node) → room < big → k ≤ room → IsAll (listing_of room k ns)
-    → run room 1 (out ws k) ns ≡ out (written ws k ns) (number_of (listing_of room k ns))
-unfolding run written put_if number_of listing_of
-run-writes room k ws [] r h i = refl
-run-writes room k ws (n ∷ ns) r h i =
+-- where there is no offender a pass that writes writes all, and ends with the same answer
+pub run-writes : (room k : ℕ) (ws : List ℕ) (ns : List Node) → IsAll (listing_of room k ns)
+    → run room true (out ws (Ok k)) ns ≡ out (written ws k ns) (answer_of (listing_of room k ns))
+unfolding run written listing_of
+run-writes room k ws [] i = refl
+run-writes room k ws (n ∷ ns) i =
     let e : (n.depth ≤ depth_bound) × (k < room) × IsAll (listing_of room (suc k) ns) = high room k n ns i in
-    ap (λ (o : Out). run room 1 o ns) (flip (note-one room 1 ws k n (omega (arith, e.1)) e.0 e.1) ∙ ap (out (put_node ws k n)) (add-one k))
-    ∙ run-writes room (suc k) (put_node ws k n) ns r (omega (arith, e.1)) e.2
-    ∙ ap (λ (x : Listing). out (written (put_node ws k n) (suc k) ns) (number_of x)) (flip (listing-next room k n ns e.0 e.1))
+    ap (λ (o : Out). run room true o ns) (flip (note-writes room ws k n e.0 e.1) ∙ ap (λ (i : ℕ). out (put_node ws k n) (Ok i)) (add-one k))
+    ∙ run-writes room (suc k) (put_node ws k n) ns e.2
+    ∙ ap (λ (x : Listing). out (written (put_node ws k n) (suc k) ns) (answer_of x)) (flip (listing-next room k n ns e.0 e.1))
 
--- ── the answer's number, read ──
-pub reads_all : (room v : ℕ) → v < big → all v ≡ decode room v
-unfolding decode
-reads_all room v h = rw (lt-ltb v big h)
+-- ── the answer, read ──
+said-answer : (l : Listing) → said (answer_of l) ≡ l
+unfolding said
+said-answer (all k) = refl
+said-answer (deep k) = refl
+said-answer (full k) = refl
 
-pub reads-deep : (room v : ℕ) → big ≤ v → v < big + big → deep (v - big) ≡ decode room v
-unfolding decode
-reads-deep room v h g = rw (le-ltb v big h, lt-ltb v (big + big) g)
+all-by : (k : ℕ) (l : Listing) → Ok k ≡ answer_of l → IsAll l
+all-by k (all i) h = tt
+all-by k (deep i) h = ok-err (Err (Deep i)) k (Deep i) (flip h) refl
+all-by k (full i) h = ok-err (Err (Full i)) k (Full i) (flip h) refl
 
-pub reads-full : (room v : ℕ) → big + big ≤ v → full room ≡ decode room v
-unfolding decode
-reads-full room v h = rw (le-ltb v big (omega arith), le-ltb v (big + big) h)
-
-number_by : (room k : ℕ) (n : Node) (ns : List Node) (b c : Bool) → ltb depth_bound n.depth ≡ b → ltb k room ≡ c → room < big → k ≤ room
-    → (k < room → decode room (number_of (listing_of room (suc k) ns)) ≡ listing_of room (suc k) ns) → decode room (number_of (listing_of room k (n ∷ ns))) ≡ listing_of room k (n ∷ ns)
-unfolding number_of
-number_by room k n ns true c h g r l f =
-    rw (listing-deep room k n ns (ltb-true depth_bound n.depth h)) (flip (reads-deep room (k + big) (omega arith) (omega arith)) ∙ ap deep (omega arith))
-number_by room k n ns false true h g r l f = rw (listing-next room k n ns (ltb-false depth_bound n.depth h) (ltb-true k room g)) (f (ltb-true k room g))
-number_by room k n ns false false h g r l f =
-    rw (listing_full room k n ns (ltb-false depth_bound n.depth h) (ltb-false k room g))
-    (flip (reads-full room (big + big) (omega arith)) ∙ ap full (omega (arith, ltb-false k room g)))
-
-pub number_read : (room k : ℕ) (ns : List Node) → room < big → k ≤ room → decode room (number_of (listing_of room k ns)) ≡ listing_of room k ns
-unfolding number_of listing_of
-number_read room k [] r l = flip (reads_all room k (omega arith))
-number_read room k (n ∷ ns) r l = number_by room k n ns (ltb depth_bound n.depth) (ltb k room) refl refl r l (λ h. number_read room (suc k) ns r (omega arith))
-
--- whether the answer is a refusal is seen by its number
-answer-by : (room v : ℕ) (b c : Bool) (l : Listing) → ltb v big ≡ b → ltb v (big + big) ≡ c → decode room v ≡ l → ((v < big) → IsAll l) × ((big ≤ v) → IsAll l → ⊥)
-unfolding decode
-answer-by room v true c l h g e = (λ i. subst IsAll (reads_all room v i ∙ e) tt, λ i _. omega (arith, ltb-true v big h))
-answer-by room v false true l h g e =
-    (λ i. absurd (omega (arith, ltb-false v big h)), λ i j. subst IsAll (flip (reads-deep room v i (ltb-true v (big + big) g) ∙ e)) j)
-answer-by room v false false l h g e =
-    (λ i. absurd (omega (arith, ltb-false v big h)), λ i j. subst IsAll (flip (reads-full room v (ltb-false v (big + big) g) ∙ e)) j)
+none-by : (e : Offence) (l : Listing) → Err e ≡ answer_of l → IsAll l → ⊥
+none-by e (all i) h a = ok-err (Ok i) i e refl (flip h)
+none-by e (deep i) h a = a
+none-by e (full i) h a = a
 
 -- ── the two passes, as code has them ──
-looked : (room : ℕ) (ws o : List ℕ) (v : ℕ) (l : List Node) → room < big → out o v ≡ run room 0 (out ws 0) l → (o ≡ ws) × (v ≡ number_of (listing_of room 0 l))
-looked room ws o v l r h =
-    let e : out o v ≡ out ws (number_of (listing_of room 0 l)) = h ∙ run-looks room 0 ws l r (omega arith) in
-    (ap (λ (x : Out). x.words) e, ap (λ (x : Out). x.at) e)
+module _ (room : ℕ) (ws o : List ℕ) (v : Result ℕ Offence) (l : List Node) (h : out o v ≡ run room false (out ws (Ok 0)) l) where
+  looked : out o v ≡ out ws (answer_of (listing_of room 0 l))
+  looked = h ∙ run-looks room 0 ws l
 
-module _ (room : ℕ) (ws o : List ℕ) (v : ℕ) (l : List Node) (r : room < big) (h : out o v ≡ run room 0 (out ws 0) l) where
-  answered : decode room v ≡ listing_of room 0 l
-  answered = ap (decode room) (looked room ws o v l r h).1 ∙ number_read room 0 l r (omega arith)
+  same-words : o ≡ ws
+  same-words = ap (λ (x : Out). x.words) looked
+
+  same-answer : v ≡ answer_of (listing_of room 0 l)
+  same-answer = ap (λ (x : Out). x.at) looked
 
   -- the first one refuses
-  pub pass-refused : big ≤ v → (decode room v ≡ listing_of room 0 l) × (o ≡ words_of room ws l)
-  pass-refused k = (answered, (looked room ws o v l r h).0 ∙ flip (words-refused room ws l ((answer-by room v (ltb v big) (ltb v (big + big)) (listing_of room 0 l) refl refl answered).1 k)))
+  pub pass-refused : (e : Offence) → v ≡ Err e → (said v ≡ listing_of room 0 l) × (o ≡ words_of room ws l)
+  pass-refused e k =
+      (ap said same-answer ∙ said-answer (listing_of room 0 l), same-words ∙ flip (words-refused room ws l (none-by e (listing_of room 0 l) (flip k ∙ same-answer))))
 
   -- or the second one writes
-  pub pass-written : (u : List ℕ) (i : ℕ) → v < big → out u i ≡ run room 1 (out o 0) l → (decode room i ≡ listing_of room 0 l) × (u ≡ words_of room ws l)
+  pub pass-written : (k : ℕ) (u : List ℕ) (i : Result ℕ Offence) → v ≡ Ok k → out u i ≡ run room true (out o (Ok 0)) l → (said i ≡ listing_of room 0 l) × (u ≡ words_of room ws l)
   unfolding words_of
-  pass-written u i k g =
-      let a : IsAll (listing_of room 0 l) = (answer-by room v (ltb v big) (ltb v (big + big)) (listing_of room 0 l) refl refl answered).0 k in
-      let f : out u i ≡ out (written ws 0 l) (number_of (listing_of room 0 l)) =
-      g ∙ ap (λ (x : List ℕ). run room 1 (out x 0) l) (looked room ws o v l r h).0 ∙ run-writes room 0 ws l r (omega arith) a in
-      (ap (λ (x : Out). decode room x.at) f ∙ number_read room 0 l r (omega arith), ap (λ (x : Out). x.words) f ∙ flip (if-all (listing_of room 0 l) (written ws 0 l) ws a))
+  pass-written k u i e g =
+      let a : IsAll (listing_of room 0 l) = all-by k (listing_of room 0 l) (flip e ∙ same-answer) in
+      let f : out u i ≡ out (written ws 0 l) (answer_of (listing_of room 0 l)) =
+      g ∙ ap (λ (x : List ℕ). run room true (out x (Ok 0)) l) same-words ∙ run-writes room 0 ws l a in
+      (ap (λ (x : Out). said x.at) f ∙ said-answer (listing_of room 0 l), ap (λ (x : Out). x.words) f ∙ flip (if-all (listing_of room 0 l) (written ws 0 l) ws a))

@@ -1,12 +1,12 @@
 -- The turns of a pass: entering a symbol, one turn, the start and the end. Assumes nothing.
-use Rattle.std.specs.Prelude.{ℕ, zero, suc, ◌+◌, ◌-◌, ◌*◌, ◌≤◌, ◌<◌, ◌≡◌, Bool, eqb, length, set}
+use Rattle.std.specs.Prelude.{ℕ, zero, suc, ◌+◌, ◌-◌, ◌*◌, ◌≤◌, ◌<◌, ◌≡◌, Bool, length, set, Result, Ok, Err}
 use Rattle.std.proofs.Math.Path.{refl, ap, subst, sym as flip}
 use Rattle.std.proofs.Common.{◌∙◌}
 use Rattle.std.proofs.Math.Bool.{true, false}
 use mathlib.Core.List.{List, [], ◌∷◌, ◌++◌, append-nil}
 use native.Mathlib.Omega.{arith}
 use Rattle.std.proofs.Math.Dec.{ltb}
-use borrow.Author.Tests.{ltb-true, ltb-false, eqb-true, eqb-false}
+use borrow.Author.Tests.{ltb-true, ltb-false}
 use Rattle.read_tokens.specs.Bounds.{depth_bound}
 use Rattle.grammar.specs.Exp.{Exp, sym}
 use Rattle.grammar_table.specs.Table.{symbol_word, symbol_count, expression_count}
@@ -14,20 +14,22 @@ use Rattle.match_meaning.specs.Meaning.{Node, nd}
 use Rattle.match_meaning.proofs.laws.One.{one}
 use Rattle.match_eval.specs.Eval.{body_of, cell_at, ev}
 use Rattle.match_list.specs.Nodes.{walk_of, nodes_of, levels, list_of}
-use Rattle.match_nodes.specs.steps.Passes.{big, Out, out, note, run}
+use Rattle.match_nodes.specs.declared.Offence.{Offence}
+use Rattle.match_nodes.specs.declared.Stand.{Stand}
+use Rattle.match_nodes.specs.steps.Passes.{Out, out, note, run}
 use Rattle.match_cells.specs.laws.Sound.{plainly, sym-is}
 use Rattle.match_cells.specs.laws.Agrees.{ev-sound}
 use Rattle.match_eval.proofs.laws.EvalSteps.{cell-past}
 use Rattle.match_eval.proofs.laws.Within.{cell-within}
 use Rattle.match_list.proofs.laws.NodeSteps.{nodes-more, nodes-fails}
-use Rattle.match_nodes.specs.laws.Passes.{run_none, note-deep}
+use Rattle.match_nodes.specs.laws.Passes.{run_none, run-stopped, noted-high}
 use Rattle.grammar_table.specs.Trees.{tree_of, bodies_of}
 use Rattle.match_cells.specs.laws.Rows.{bodies-length, body_at}
 use Rattle.match_walks.specs.steps.Tasks.{Task, walk, enter, under, takes, walked, nodes, after, listed, AllAble, rank, cost, cost_of, to_do, Moves}
 use Rattle.match_desk.specs.steps.Desk.{returns_at, parent_of, return_of, Desk, Silent}
 use Rattle.match_walks.specs.steps.Waits.{going, waiting, tasks_of, climb}
 use Rattle.match_walks.specs.steps.Walks.{Walkable, Walked, Risen}
-use Rattle.match_nodes.specs.steps.Turns.{Ready, Left, State, turns, Turned}
+use Rattle.match_nodes.specs.steps.Turns.{Ready, State, turns, Turned, Ended, Enters}
 use Rattle.match_walks.specs.laws.Steps.{cost-one, cost-less, step-moves}
 use Rattle.match_desk.specs.laws.Desks.{no-parent, desk-stays}
 use Rattle.match_walks.specs.laws.Waits.{going-top, waiting-entered, going-entered}
@@ -81,8 +83,22 @@ module _ (t s cs : List ℕ) (n : ℕ) (ready : Ready t s cs n) where
         ∙ ap (λ (x : ℕ). walk_of s (λ e i. ev s cs (length (bodies_of t)) e i) (λ r i. nodes_of (bodies_of t) s cs x (d + 1) r i) (body_of (bodies_of t) r) p) i)
         ∙ nodes-more (bodies_of t) s cs d r p (levels - d) c g (cell ∙ ap (λ (m : ℕ). cell_at s cs m r p) many) f
 
-  module _ (room w d r p at c b : ℕ) (o : Out) (ws : List ℕ) (inside : p ≤ length s) (able : cell_at s cs n r p ≡ 0 → ⊥) (depth : d ≤ 256) (begun : at < big)
-      (cell : c ≡ cell_at s cs n r p) (body : b ≡ symbol_word t r 1) (noted : o ≡ note room w (out ws at) (nd r p (p + (c - 1)) d)) where
+  module _ (room : ℕ) (w : Bool) (d r p c b at : ℕ) (ws words : List ℕ) (inside : p ≤ length s) (able : cell_at s cs n r p ≡ 0 → ⊥) (depth : d ≤ 256)
+      (cell : c ≡ cell_at s cs n r p) (body : b ≡ symbol_word t r 1) where
+    -- a node that offends stops the pass
+    pub enter-stopped : (e : Offence) → out words (Err e) ≡ note room w (out ws (Ok at)) (nd r p (p + (c - 1)) d) → (zs : List Task)
+        → Ended t s cs n room w (out ws (Ok at)) (out words (Err e)) (enter r d ∷ zs) p
+    unfolding listed nodes run
+    enter-stopped e noted zs =
+        run-stopped room w words e (walked t s cs n b (d + 1) p ++ listed t s cs n zs (after t s cs n (enter r d) p))
+        ∙ ap (λ (u : Out). run room w u (walked t s cs n b (d + 1) p ++ listed t s cs n zs (after t s cs n (enter r d) p))) noted
+        ∙ ap (λ (l : List Node). run room w (out ws (Ok at)) (l ++ listed t s cs n zs (after t s cs n (enter r d) p))) (under-is d r p c b inside able depth cell body)
+
+  module _ (room : ℕ) (w : Bool) (d r p c b at i : ℕ) (ws words : List ℕ) (inside : p ≤ length s) (able : cell_at s cs n r p ≡ 0 → ⊥) (depth : d ≤ 256)
+      (cell : c ≡ cell_at s cs n r p) (body : b ≡ symbol_word t r 1) (noted : out words (Ok i) ≡ note room w (out ws (Ok at)) (nd r p (p + (c - 1)) d)) where
+    abbrev o : Out
+    o = out words (Ok i)
+
     within-n : r < n
     within-n = symbol-in r p able
 
@@ -93,27 +109,20 @@ module _ (t s cs : List ℕ) (n : ℕ) (ready : Ready t s cs n) where
     unfolding after
     after_is = ap (λ (v : ℕ). p + (v - 1)) (cell-body r p within-n inside b body)
 
-    -- a node that is too deep stops the pass
-    deep-stops : o.at < big → d ≤ 255
+    not-deep : d ≤ 255
     unfolding depth_bound
-    deep-stops h = go (ltb 255 d) refl
-      where
-        go : (x : Bool) → ltb 255 d ≡ x → d ≤ 255
-        go true e =
-            let g : o.at ≡ at + big = ap (λ (x : Out). x.at) (noted ∙ flip (note-deep room w ws at (nd r p (p + (c - 1)) d) begun (ltb-true 255 d e))) in
-            absurd (omega (arith, g, h))
-        go false e = ltb-false 255 d e
+    not-deep = noted-high room w ws words at i (nd r p (p + (c - 1)) d) noted
 
     fall : cost (length s) (rank b (d + 1)) + 1 ≤ cost (length s) (rank 0 d)
     unfolding rank
     fall = cost-less (length s) ((257 - (d + 1)) * 2048 + b) ((257 - d) * 2048 + 0) (omega (arith, depth, small_b))
 
-    enter-same : (zs : List Task) → run room w o (listed t s cs n (walk b (d + 1) ∷ zs) p) ≡ run room w (out ws at) (listed t s cs n (enter r d ∷ zs) p)
+    enter-same : (zs : List Task) → run room w o (listed t s cs n (walk b (d + 1) ∷ zs) p) ≡ run room w (out ws (Ok at)) (listed t s cs n (enter r d ∷ zs) p)
     unfolding listed nodes run
     enter-same zs =
         ap (λ (i : ℕ). run room w o (walked t s cs n b (d + 1) p ++ listed t s cs n zs i)) after_is
         ∙ ap (λ (u : Out). run room w u (walked t s cs n b (d + 1) p ++ listed t s cs n zs (after t s cs n (enter r d) p))) noted
-        ∙ ap (λ (l : List Node). run room w (out ws at) (l ++ listed t s cs n zs (after t s cs n (enter r d) p))) (under-is d r p c b inside able depth cell body)
+        ∙ ap (λ (l : List Node). run room w (out ws (Ok at)) (l ++ listed t s cs n zs (after t s cs n (enter r d) p))) (under-is d r p c b inside able depth cell body)
 
     -- x is the symbol's use, on whose level are the tasks behind it
     module _ (k : List ℕ) (x : ℕ) (desk : Desk t k (expression_count t)) (small-x : x < 4294967296) (rest : AllAble t s cs n (going t k d x ++ waiting t k d) (after t s cs n (enter r d) p)) where
@@ -121,20 +130,19 @@ module _ (t s cs : List ℕ) (n : ℕ) (ready : Ready t s cs n) where
       behind = going t k d x ++ waiting t k d
 
       -- a body that lists no node is passed over
-      passed-same : Silent (tree_of t b) → run room w o (listed t s cs n behind (p + (c - 1))) ≡ run room w (out ws at) (listed t s cs n (enter r d ∷ behind) p)
+      passed-same : Silent (tree_of t b) → run room w o (listed t s cs n behind (p + (c - 1))) ≡ run room w (out ws (Ok at)) (listed t s cs n (enter r d ∷ behind) p)
       unfolding listed nodes after
       passed-same h =
           ap (λ (l : List Node). run room w o (l ++ listed t s cs n behind (p + (c - 1)))) (flip (h s (λ e i. ev s cs n e i) (λ r i. under t s cs n (d + 1) r i) p))
           ∙ ap (λ (v : ℕ). run room w o (walked t s cs n b (d + 1) p ++ listed t s cs n behind (p + (v - 1)))) (cell ∙ flip (cell-body r p within-n inside b body))
           ∙ enter-same behind
 
-      pub passed : Silent (tree_of t b) → Turned t s cs n room w (out ws at) o (enter r d ∷ (going t k d x ++ waiting t k d)) p 0 k 1 d x (p + (c - 1))
+      pub passed : Silent (tree_of t b) → Turned t s cs n room w (out ws (Ok at)) o (enter r d ∷ (going t k d x ++ waiting t k d)) p 0 k 1 d x (p + (c - 1))
       unfolding turns to_do cost_of after
       passed h =
           record {
             same = passed-same h;
-            desk = desk;
-            state = λ l.
+            state =
                 record {
                   desk = desk;
                   place = omega (arith, cell, cell-within s cs n r p inside);
@@ -143,7 +151,7 @@ module _ (t s cs : List ℕ) (n : ℕ) (ready : Ready t s cs n) where
                   known = λ i. absurd (omega (arith, i));
                   able = subst (λ (i : ℕ). AllAble t s cs n behind i) (ap (λ (v : ℕ). p + (v - 1)) (flip cell)) rest;
                 };
-            less = λ l.
+            less =
                 omega (arith, climb-few 1 d x depth, cost-one (length s) (rank 0 d), ap (λ (v : ℕ). to_do t s cs n behind (p + (v - 1))) cell);
           }
 
@@ -153,28 +161,27 @@ module _ (t s cs : List ℕ) (n : ℕ) (ready : Ready t s cs n) where
           (going-entered t k (expression_count t) desk ready.fits d x depth (d + 1) b (ap (λ (i : ℕ). parent_of k i) body ∙ desk.roots r (omega (arith, within-n, ready.count))))
           ∙ ap (λ (zs : List Task). walk b (d + 1) ∷ zs) (waiting-entered t k (expression_count t) desk ready.fits d x depth)
 
-      pub entered : Turned t s cs n room w (out ws at) o (enter r d ∷ (going t k d x ++ waiting t k d)) p 0 (set k (returns_at + d) x) 2 (d + 1) b p
+      pub entered : Turned t s cs n room w (out ws (Ok at)) o (enter r d ∷ (going t k d x ++ waiting t k d)) p 0 (set k (returns_at + d) x) 2 (d + 1) b p
       unfolding turns to_do cost_of climb
       entered =
           record {
             same = ap (λ (zs : List Task). run room w o (listed t s cs n zs p)) entered-tasks ∙ enter-same behind;
-            desk = desk-stays t k (expression_count t) desk ready.fits d x depth;
-            state = λ l.
+            state =
                 record {
                   desk = desk-stays t k (expression_count t) desk ready.fits d x depth;
                   place = inside;
-                  level = omega (arith, deep-stops l);
+                  level = omega (arith, not-deep);
                   small = omega (arith, small_b);
                   known = λ i. omega (arith, body, ready.small r within-n);
                   able =
                       subst (λ (zs : List Task). AllAble t s cs n zs p) (flip entered-tasks)
                       (λ z. able (flip (cell-body r p within-n inside b body) ∙ z), subst (λ (i : ℕ). AllAble t s cs n behind i) (flip after_is) rest);
                 };
-            less = λ l. omega (arith, fall, ap (λ (zs : List Task). to_do t s cs n zs p) entered-tasks, ap (λ (i : ℕ). to_do t s cs n behind i) after_is);
+            less = omega (arith, fall, ap (λ (zs : List Task). to_do t s cs n zs p) entered-tasks, ap (λ (i : ℕ). to_do t s cs n behind i) after_is);
           }
 
 -- ── one turn ──
-module _ (t s cs : List ℕ) (n room w : ℕ) (o : Out) (k : List ℕ) (m d x p : ℕ) (state : State t s cs n k m d x p) where
+module _ (t s cs : List ℕ) (n room : ℕ) (w : Bool) (o : Out) (k : List ℕ) (m d x p : ℕ) (state : State t s cs n k m d x p) where
   -- an expression that is to be walked
   module _ (walks : 2 ≤ m) where
     as-walk : tasks_of t k m d x ≡ walk x d ∷ (going t k d x ++ waiting t k d)
@@ -197,8 +204,7 @@ module _ (t s cs : List ℕ) (n room w : ℕ) (o : Out) (k : List ℕ) (m d x p 
     turned_walk kind y q h f =
         record {
           same = ap (run room w o) (moves.same ∙ ap (λ (zs : List Task). listed t s cs n zs p) (flip as-walk));
-          desk = state.desk;
-          state = λ l.
+          state =
               record {
                 desk = state.desk;
                 place = moves.place;
@@ -207,28 +213,32 @@ module _ (t s cs : List ℕ) (n room w : ℕ) (o : Out) (k : List ℕ) (m d x p 
                 known = λ i. h.known (omega (arith, i, h.few f));
                 able = moves.able able-walk;
               };
-          less = λ l. omega (arith, moves.less, climb-few kind d y state.level, ap (λ (zs : List Task). to_do t s cs n zs p) as-walk);
+          less = omega (arith, moves.less, climb-few kind d y state.level, ap (λ (zs : List Task). to_do t s cs n zs p) as-walk);
         }
       where
         moves : Moves t s cs n (tasks_of t k 2 d x) p (tasks_of t k kind d y) q 1
         moves = h.on f d
 
     -- a symbol's use: what is behind it waits
-    pub rest-able : (y q : ℕ) → Walked t s cs n k x p 3 y q → (cell_at s cs n y p ≡ 0 → ⊥) × AllAble t s cs n (going t k d x ++ waiting t k d) (after t s cs n (enter y d) p)
-    rest-able y q h = ((h.enters refl).1 d).able (going t k d x ++ waiting t k d) able-walk.1
+    pub rest-able : (y : ℕ) → Walked t s cs n k x p 3 y p → (cell_at s cs n y p ≡ 0 → ⊥) × AllAble t s cs n (going t k d x ++ waiting t k d) (after t s cs n (enter y d) p)
+    rest-able y h = ((h.enters refl).1 d).able (going t k d x ++ waiting t k d) able-walk.1
 
-    pub turned-enter : (i : Out) (y q : ℕ) (k' : List ℕ) (m' d' x' q' : ℕ) → Walked t s cs n k x p 3 y q
-        → Turned t s cs n room w o i (enter y d ∷ (going t k d x ++ waiting t k d)) p 0 k' m' d' x' q' → Turned t s cs n room w o i (tasks_of t k m d x) p (climb m d x) k' m' d' x' q'
-    turned-enter i y q k' m' d' x' q' h g =
-        record {
-          same = g.same ∙ ap (run room w o) (moves.same ∙ ap (λ (zs : List Task). listed t s cs n zs p) (flip as-walk));
-          desk = g.desk;
-          state = g.state;
-          less = λ l. omega (arith, g.less l, moves.less, ap (λ (zs : List Task). to_do t s cs n zs p) as-walk);
-        }
-      where
-        moves : Moves t s cs n (walk x d ∷ (going t k d x ++ waiting t k d)) p (enter y d ∷ (going t k d x ++ waiting t k d)) p 1
-        moves = step-moves t s cs n (walk x d) p p (enter y d ∷ []) (going t k d x ++ waiting t k d) ((h.enters refl).1 d)
+    module _ (y : ℕ) (h : Walked t s cs n k x p 3 y p) where
+      entering : Moves t s cs n (walk x d ∷ (going t k d x ++ waiting t k d)) p (enter y d ∷ (going t k d x ++ waiting t k d)) p 1
+      entering = step-moves t s cs n (walk x d) p p (enter y d ∷ []) (going t k d x ++ waiting t k d) ((h.enters refl).1 d)
+
+      enter-list : listed t s cs n (enter y d ∷ (going t k d x ++ waiting t k d)) p ≡ listed t s cs n (tasks_of t k m d x) p
+      enter-list = entering.same ∙ ap (λ (zs : List Task). listed t s cs n zs p) (flip as-walk)
+
+      pub turned-enter : (ws k' : List ℕ) (r : Result Stand Offence) → Enters t s cs n room w o ws (enter y d ∷ (going t k d x ++ waiting t k d)) p 0 k' r
+          → Enters t s cs n room w o ws (tasks_of t k m d x) p (climb m d x) k' r
+      turned-enter ws k' (Err e) g = g ∙ ap (run room w o) enter-list
+      turned-enter ws k' (Ok r) g =
+          record {
+            same = g.same ∙ ap (run room w o) enter-list;
+            state = g.state;
+            less = omega (arith, g.less, entering.less, ap (λ (zs : List Task). to_do t s cs n zs p) as-walk);
+          }
 
   -- one that is done
   module _ (done : m ≡ 1) where
@@ -243,8 +253,7 @@ module _ (t s cs : List ℕ) (n room w : ℕ) (o : Out) (k : List ℕ) (m d x p 
     turned_up kind y h f g =
         record {
           same = ap (run room w o) (moves.same ∙ ap (λ (zs : List Task). listed t s cs n zs p) (flip as-done));
-          desk = state.desk;
-          state = λ l.
+          state =
               record {
                 desk = state.desk;
                 place = moves.place;
@@ -253,7 +262,7 @@ module _ (t s cs : List ℕ) (n room w : ℕ) (o : Out) (k : List ℕ) (m d x p 
                 known = λ i. h.known (omega (arith, i, g));
                 able = moves.able able-done;
               };
-          less = λ l.
+          less =
               omega (arith, moves.less, h.climbs f d, ap (λ (zs : List Task). to_do t s cs n zs p) as-done, ap (λ (i : ℕ). climb i d x) done);
         }
       where
@@ -273,15 +282,9 @@ module _ (t s cs : List ℕ) (n room w : ℕ) (o : Out) (k : List ℕ) (m d x p 
       unfolding climb
       up-some = subst (λ (i : ℕ). 0 < climb i d x) (flip done) (omega arith)
 
-      pub turned-over : d ≡ 0 → Turned t s cs n room w o o (tasks_of t k m d x) p (climb m d x) k 0 0 0 p
-      unfolding turns climb to_do
-      turned-over z =
-          record {
-            same = ap (λ (zs : List Task). run room w o (listed t s cs n zs p)) (flip (over-tasks z));
-            desk = state.desk;
-            state = λ l. record { desk = state.desk; place = state.place; level = omega arith; small = omega arith; known = λ i. absurd (omega (arith, i)); able = tt };
-            less = λ l. omega (arith, up-some);
-          }
+      pub turned-over : d ≡ 0 → Ended t s cs n room w o o (tasks_of t k m d x) p
+      unfolding listed run
+      turned-over z = ap (λ (zs : List Task). run room w o (listed t s cs n zs p)) (flip (over-tasks z))
 
       -- the word of the level above
       module _ (e x' : ℕ) (above : d ≡ suc e) (is : x' ≡ return_of k e) (small : x' < 4294967296) where
@@ -298,8 +301,7 @@ module _ (t s cs : List ℕ) (n room w : ℕ) (o : Out) (k : List ℕ) (m d x p 
         turned-level =
             record {
               same = ap (λ (zs : List Task). run room w o (listed t s cs n zs p)) (flip level-tasks);
-              desk = state.desk;
-              state = λ l.
+              state =
                   record {
                     desk = state.desk;
                     place = state.place;
@@ -308,30 +310,8 @@ module _ (t s cs : List ℕ) (n room w : ℕ) (o : Out) (k : List ℕ) (m d x p 
                     known = λ i. absurd (omega (arith, i));
                     able = subst (λ (zs : List Task). AllAble t s cs n zs p) level-tasks state.able;
                   };
-              less = λ l. omega (arith, level-less, ap (λ (zs : List Task). to_do t s cs n zs p) level-tasks);
+              less = omega (arith, level-less, ap (λ (zs : List Task). to_do t s cs n zs p) level-tasks);
             }
-
-      -- as code says it
-      module _ (ws : List ℕ) (at : ℕ) (is : o ≡ out ws at) where
-        pub turned_left : (m' e x' q i : ℕ) → Left k d p at m' e x' q i → Turned t s cs n room w o (out ws i) (tasks_of t k m d x) p (climb m d x) k m' e x' q
-        turned_left m' e x' q i l =
-            subst (λ (j : ℕ). Turned t s cs n room w o (out ws j) (tasks_of t k m d x) p (climb m d x) k m' e x' q) (flip l.list)
-            (subst (λ (u : Out). Turned t s cs n room w o u (tasks_of t k m d x) p (climb m d x) k m' e x' q) is
-            (subst (λ (j : ℕ). Turned t s cs n room w o o (tasks_of t k m d x) p (climb m d x) k m' e x' j) (flip l.place) (go (eqb d 0) refl)))
-          where
-            go : (b : Bool) → eqb d 0 ≡ b → Turned t s cs n room w o o (tasks_of t k m d x) p (climb m d x) k m' e x' p
-            go true z =
-                let a : (m' ≡ 0) × (e ≡ 0) × (x' ≡ 0) = l.over (eqb-true d 0 z) in
-                rw (a.0, a.1, a.2) (turned-over (eqb-true d 0 z))
-            go false z =
-                let a : (m' ≡ 1) × (d ≡ suc e) × (x' ≡ return_of k e) × (x' < 4294967296) = l.level (eqb-false d 0 z) in
-                rw a.0 (turned-level e x' a.1 a.2 a.3)
-
--- a pass that stands otherwise walks
-pub two_up : (m : ℕ) → 0 < m → (m ≡ 1 → ⊥) → 2 ≤ m
-two_up zero l f = absurd (omega (arith, l))
-two_up (suc zero) l f = absurd (f refl)
-two_up (suc (suc m)) l f = omega arith
 
 -- ── the start and the end ──
 module _ (t s cs : List ℕ) (n : ℕ) (k : List ℕ) (x : ℕ) (desk : Desk t k (expression_count t)) (fits : expression_count t ≤ 1024) (far : 1025 ≤ x) where
@@ -349,12 +329,8 @@ module _ (t s cs : List ℕ) (n : ℕ) (k : List ℕ) (x : ℕ) (desk : Desk t k
       let z : levels - 0 ≡ levels = omega arith in
       ap (λ (zs : List Task). listed t s cs n (enter 0 0 ∷ zs) 0) start-waits ∙ append-nil (under t s cs n 0 0 0) ∙ ap (λ (x : ℕ). nodes_of (bodies_of t) s cs x 0 0 0) z
 
-pub end_list : (t s cs : List ℕ) (n room w m d x p : ℕ) (o : Out) (k : List ℕ) → m ≡ 0 → run room w o (listed t s cs n (tasks_of t k m d x) p) ≡ o
-unfolding listed run
-end_list t s cs n room w m d x p o k e = ap (λ (i : ℕ). run room w o (listed t s cs n (tasks_of t k i d x) p)) e
-
 -- a start symbol that fails lists nothing
-pub fail-list : (t s cs : List ℕ) (n room w c : ℕ) (o : Out) → n ≡ symbol_count t → c ≡ cell_at s cs n 0 0 → c ≡ 0 → o ≡ run room w o (list_of (bodies_of t) s cs)
+pub fail-list : (t s cs : List ℕ) (n room : ℕ) (w : Bool) (c : ℕ) (o : Out) → n ≡ symbol_count t → c ≡ cell_at s cs n 0 0 → c ≡ 0 → o ≡ run room w o (list_of (bodies_of t) s cs)
 unfolding list_of
 fail-list t s cs n room w c o k h z =
     run_none room w o (nodes_of (bodies_of t) s cs levels 0 0 0) (nodes-fails (bodies_of t) s cs 0 0 0 levels c (h ∙ ap (λ (m : ℕ). cell_at s cs m 0 0) (k ∙ flip (bodies-length t))) z)

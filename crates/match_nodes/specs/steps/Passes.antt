@@ -1,44 +1,48 @@
 -- The node list in two passes over lent words: the first only looks, and the second writes if there is no offender, so that a refusal leaves every word
--- as it was. A pass carries one number: the count so far or, once there is an offender, the refusal.
+-- as it was. A pass carries the count so far or, once there is an offender, the refusal.
 -- Assumes nothing: these are definitions.
-use Rattle.std.specs.Prelude.{ℕ, zero, suc, ◌+◌, ◌-◌, cond, List, [], ◌∷◌, ltb}
+use Rattle.std.specs.Prelude.{ℕ, ◌+◌, cond, Bool, true, false, List, [], ◌∷◌, ltb, Result, Ok, Err}
 use Rattle.read_tokens.specs.Bounds.{depth_bound}
 use Rattle.match_meaning.specs.Meaning.{Node}
 use Rattle.match_list.specs.Nodes.{Listing, all, deep, full, put_node}
-
--- above every count of nodes: a quarter of a slice's length is always below it
-abbrev pub big : ℕ
-big = 4611686018427387904
+use Rattle.match_nodes.specs.declared.Offence.{Offence}
+use Rattle.match_nodes.specs.declared.Offence.TheVariants.{Deep, Full}
 
 pub record Out : Type 0 where
   pub words : List ℕ
-  pub at : ℕ
+  pub at : Result ℕ Offence
 
-abbrev pub out : List ℕ → ℕ → Out
+abbrev pub out : List ℕ → Result ℕ Offence → Out
 out ws i = record { words = ws; at = i }
 
--- a pass with flag 0 only looks
-unfoldable pub put_if : ℕ → List ℕ → ℕ → Node → List ℕ
-put_if zero ws k n = ws
-put_if (suc w) ws k n = put_node ws k n
+-- a pass may only look
+unfoldable pub put_if : Bool → List ℕ → ℕ → Node → List ℕ
+put_if false ws k n = ws
+put_if true ws k n = put_node ws k n
 
--- one node: a pass that has an answer goes on with it
-unfoldable pub note : ℕ → ℕ → Out → Node → Out
-note room w o n =
-    cond (ltb o.at big)
-    (cond (ltb depth_bound n.depth) (out o.words (o.at + big))
-    (cond (ltb o.at room) (out (put_if w o.words o.at n) (o.at + 1)) (out o.words (big + big))))
-    o
+-- node k
+unfoldable pub next_of : ℕ → Bool → List ℕ → ℕ → Node → Out
+next_of room w ws k n = cond (ltb depth_bound n.depth) (out ws (Err (Deep k))) (cond (ltb k room) (out (put_if w ws k n) (Ok (k + 1))) (out ws (Err (Full k))))
 
-unfoldable pub run : ℕ → ℕ → Out → List Node → Out
+-- one node more: a pass that has a refusal stays with it
+abbrev pub note_by : ℕ → Bool → List ℕ → Result ℕ Offence → Node → Out
+note_by room w ws (Ok k) n = next_of room w ws k n
+note_by room w ws (Err e) n = out ws (Err e)
+
+unfoldable pub note : ℕ → Bool → Out → Node → Out
+note room w o n = note_by room w o.words o.at n
+
+unfoldable pub run : ℕ → Bool → Out → List Node → Out
 run room w o [] = o
 run room w o (n ∷ ns) = run room w (note room w o n) ns
 
--- the number that a pass ends with, and that number read: at the first node without room the count is the room
-unfoldable pub number_of : Listing → ℕ
-number_of (all k) = k
-number_of (deep k) = k + big
-number_of (full k) = big + big
+-- the answer of a list, and an answer in the words of the definition
+abbrev pub answer_of : Listing → Result ℕ Offence
+answer_of (all k) = Ok k
+answer_of (deep k) = Err (Deep k)
+answer_of (full k) = Err (Full k)
 
-unfoldable pub decode : ℕ → ℕ → Listing
-decode room v = cond (ltb v big) (all v) (cond (ltb v (big + big)) (deep (v - big)) (full room))
+unfoldable pub said : Result ℕ Offence → Listing
+said (Ok k) = all k
+said (Err (Deep k)) = deep k
+said (Err (Full k)) = full k

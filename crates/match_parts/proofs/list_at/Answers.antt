@@ -1,5 +1,5 @@
 use Prim.Native.Nat.{ℕ, ◌+◌, ◌-◌}
-use mathlib.Core.Path.{◌≡◌, refl, ap, ◌∙◌}
+use mathlib.Core.Path.{◌≡◌, ap, ◌∙◌}
 use native.Mathlib.Omega.{arith}
 use lib.Dec.{eqb}
 use mathlib.Core.List.{List}
@@ -16,31 +16,6 @@ use Rattle.match_parts.proofs.list_at.Goals as goal
 module _ (t s cs : List ℕ) (n : ℕ) (lists : List ℕ) (i p kind k : ℕ) (e : kind ≡ get_or lists i 0) (f : k ≡ get_or lists (i + 1) 0) where
   whole : run_of (eqb kind 3) t s cs n lists (i + 2) p k (taken_by (eqb kind 3) 0) ≡ list_of t s cs n lists i p
   whole = rw (e, f)
-
-pub loop-k-init : goal.loop-k-init
-loop-k-init c = (
-  omega arith,
-  omega (arith, c.requires),
-  omega arith,
-  (λ e. refl),
-  (let z : c.args.ask.p - c.args.ask.p ≡ 0 = omega arith in ap (λ
-      (d : ℕ). run_of (eqb c.word-kind.result 3) c.args.t.now
-      c.args.s.now c.args.cells.now
-      c.args.ask.n c.args.lists.now
-      (c.args.ask.i + 2) c.args.ask.p c.word-k.result (taken_by (eqb
-      c.word-kind.result 3) d)) z),
-)
-
-pub overflow_add-ask-in-loop-k : goal.overflow_add-ask-in-loop-k
-overflow_add-ask-in-loop-k c = omega (arith, c.requires)
-
-pub overflow_add-ask-in-loop-k-2 : goal.overflow_add-ask-in-loop-k-2
-overflow_add-ask-in-loop-k-2 c = omega (
-  arith,
-  c.requires,
-  c.loop-k.invariant.2,
-  c.word-k.ensures.1,
-)
 
 pub piece-a-requires : goal.piece-a-requires
 piece-a-requires c = (
@@ -84,8 +59,8 @@ returns-then-a-ne0 c = choice-takes c.args.t.now
     c.args.t.now (get_or
     c.args.lists.now
     (c.args.ask.i + 2 +
-    (c.loop-k.k - 1)) 0)) h) (c.loop-k.invariant.3 c.if-kind-eq-CHOICE.true))
-    c.if-a-ne0.true ∙ c.loop-k.invariant.4 ∙ whole
+    (c.loop-k.k - 1)) 0)) h) (c.loop-k.invariant.2 c.if-kind-eq-CHOICE.true))
+    c.if-a-ne0.true ∙ c.loop-k.invariant.3 ∙ whole
     c.args.t.now
     c.args.s.now
     c.args.cells.now
@@ -94,19 +69,15 @@ returns-then-a-ne0 c = choice-takes c.args.t.now
     c.args.ask.i
     c.args.ask.p
     c.word-kind.result
-    c.word-k.result
+    c.word-count.result
     c.word-kind.ensures.0
-    c.word-k.ensures.0
-
-pub loop-k-smaller-else-a-ne0 : goal.loop-k-smaller-else-a-ne0
-loop-k-smaller-else-a-ne0 c = omega (arith, c.loop-k-test.true)
+    c.word-count.ensures.0
 
 pub loop-k-preserved-else-a-ne0 : goal.loop-k-preserved-else-a-ne0
 loop-k-preserved-else-a-ne0 c = (
   c.loop-k.invariant.0,
   c.loop-k.invariant.1,
-  omega (arith, c.loop-k.invariant.2),
-  c.loop-k.invariant.3,
+  c.loop-k.invariant.2,
   choice-goes-on c.args.t.now
       c.args.s.now
       c.args.cells.now
@@ -130,8 +101,8 @@ loop-k-preserved-else-a-ne0 c = (
       c.args.t.now (get_or
       c.args.lists.now
       (c.args.ask.i + 2 +
-      (c.loop-k.k - 1)) 0)) h) (c.loop-k.invariant.3 c.if-kind-eq-CHOICE.true))
-      c.if-a-ne0.false ∙ c.loop-k.invariant.4,
+      (c.loop-k.k - 1)) 0)) h) (c.loop-k.invariant.2 c.if-kind-eq-CHOICE.true))
+      c.if-a-ne0.false ∙ c.loop-k.invariant.3,
 )
 
 pub returns-then-a-eq0 : goal.returns-then-a-eq0
@@ -159,7 +130,7 @@ returns-then-a-eq0 c = sequence-fails c.args.t.now
     c.args.lists.now
     (c.args.ask.i + 2 +
     (c.loop-k.k - 1)) 0)) h) (omega (arith, c.loop-k.invariant.0)))
-    c.if-a-eq0.true ∙ c.loop-k.invariant.4 ∙ whole
+    c.if-a-eq0.true ∙ c.loop-k.invariant.3 ∙ whole
     c.args.t.now
     c.args.s.now
     c.args.cells.now
@@ -168,12 +139,9 @@ returns-then-a-eq0 c = sequence-fails c.args.t.now
     c.args.ask.i
     c.args.ask.p
     c.word-kind.result
-    c.word-k.result
+    c.word-count.result
     c.word-kind.ensures.0
-    c.word-k.ensures.0
-
-pub overflow_sub-q : goal.overflow_sub-q
-overflow_sub-q c = omega (arith, c.if-a-eq0.false)
+    c.word-count.ensures.0
 
 pub overflow_add-q : goal.overflow_add-q
 overflow_add-q c = omega (
@@ -188,9 +156,6 @@ overflow_add-q c = omega (
       c.args.t.now c.word-x.result)
       c.loop-k.q c.loop-k.invariant.1,
 )
-
-pub loop-k-smaller : goal.loop-k-smaller
-loop-k-smaller c = omega (arith, c.loop-k-test.true)
 
 pub loop-k-preserved : goal.loop-k-preserved
 loop-k-preserved c = (
@@ -207,7 +172,6 @@ loop-k-preserved c = (
         c.args.t.now c.word-x.result)
         c.loop-k.q c.loop-k.invariant.1,
   ),
-  omega (arith, c.loop-k.invariant.2),
   (λ e. absurd (c.if-kind-eq-CHOICE.false e)),
   sequence-goes-on c.args.t.now
       c.args.s.now
@@ -235,35 +199,11 @@ loop-k-preserved c = (
       c.args.lists.now
       (c.args.ask.i + 2 +
       (c.loop-k.k - 1)) 0)) h) (omega (arith, c.loop-k.invariant.0)))
-      c.if-a-eq0.false (omega (arith, c.loop-k.invariant.0)) ∙ c.loop-k.invariant.4,
+      c.if-a-eq0.false (omega (arith, c.loop-k.invariant.0)) ∙ c.loop-k.invariant.3,
 )
 
-pub returns-then-kind-eq-CHOICE-2 : goal.returns-then-kind-eq-CHOICE-2
-returns-then-kind-eq-CHOICE-2 c = choice-ends c.args.t.now
-    c.args.s.now
-    c.args.cells.now
-    c.args.ask.n
-    c.args.lists.now
-    (c.args.ask.i + 2)
-    c.args.ask.p c.word-kind.result c.if-kind-eq-CHOICE-2.true
-    c.loop-k.k (c.loop-k.q - c.args.ask.p)
-    c.loop-k-test.false ∙ c.loop-k.invariant.4 ∙ whole c.args.t.now
-    c.args.s.now
-    c.args.cells.now
-    c.args.ask.n
-    c.args.lists.now
-    c.args.ask.i
-    c.args.ask.p c.word-kind.result
-    c.word-k.result c.word-kind.ensures.0 c.word-k.ensures.0
-
-pub overflow_sub-result : goal.overflow_sub-result
-overflow_sub-result c = omega (arith, c.loop-k.invariant.0)
-
-pub overflow_add-result : goal.overflow_add-result
-overflow_add-result c = omega (arith, c.loop-k.invariant.1, c.requires)
-
-pub returns : goal.returns
-returns c = sequence-ends c.args.t.now
+pub returns-else-kind-eq-CHOICE-2 : goal.returns-else-kind-eq-CHOICE-2
+returns-else-kind-eq-CHOICE-2 c = sequence-ends c.args.t.now
     c.args.s.now
     c.args.cells.now
     c.args.ask.n
@@ -272,7 +212,7 @@ returns c = sequence-ends c.args.t.now
     c.args.ask.p c.word-kind.result
     c.if-kind-eq-CHOICE-2.false c.loop-k.k (c.loop-k.q -
     c.args.ask.p)
-    c.loop-k-test.false ∙ c.loop-k.invariant.4 ∙ whole
+    c.loop-k-test.false ∙ c.loop-k.invariant.3 ∙ whole
     c.args.t.now
     c.args.s.now
     c.args.cells.now
@@ -280,4 +220,12 @@ returns c = sequence-ends c.args.t.now
     c.args.lists.now
     c.args.ask.i
     c.args.ask.p c.word-kind.result
-    c.word-k.result c.word-kind.ensures.0 c.word-k.ensures.0
+    c.word-count.result c.word-kind.ensures.0 c.word-count.ensures.0
+
+pub returns-then-kind-eq-CHOICE-2 : goal.returns-then-kind-eq-CHOICE-2
+returns-then-kind-eq-CHOICE-2 c =
+    choice-ends c.args.t.now c.args.s.now c.args.cells.now c.args.ask.n c.args.lists.now (c.args.ask.i + 2) c.args.ask.p c.word-kind.result
+    c.if-kind-eq-CHOICE-2.true c.loop-k.k (c.loop-k.q - c.args.ask.p) c.loop-k-test.false
+    ∙ c.loop-k.invariant.3
+    ∙ whole c.args.t.now c.args.s.now c.args.cells.now c.args.ask.n c.args.lists.now c.args.ask.i c.args.ask.p c.word-kind.result c.word-count.result
+    c.word-kind.ensures.0 c.word-count.ensures.0

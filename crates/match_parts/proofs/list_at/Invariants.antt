@@ -7,9 +7,6 @@ use Rattle.match_parts.proofs.list_at.Given as goal
 
 abbrev pub invariant-loop-k : goal.invariant-loop-k
 invariant-loop-k l =
-    (l.ask.p ≤ l.q) × (l.q ≤ length l.s) × (l.k ≤ l.initial.k) × (l.kind ≡ 3 → l.q ≡ l.ask.p)
+    (l.ask.p ≤ l.q) × (l.q ≤ length l.s) × (l.kind ≡ 3 → l.q ≡ l.ask.p)
     × (run_of (eqb l.kind 3) l.t l.s l.cells l.ask.n l.lists (l.ask.i + 2) l.ask.p l.k (taken_by (eqb l.kind 3) (l.q - l.ask.p))
-    ≡ run_of (eqb l.kind 3) l.t l.s l.cells l.ask.n l.lists (l.ask.i + 2) l.ask.p l.initial.k (taken_by (eqb l.kind 3) 0))
-
-abbrev pub decreases-loop-k : goal.decreases-loop-k
-decreases-loop-k l = l.k
+    ≡ run_of (eqb l.kind 3) l.t l.s l.cells l.ask.n l.lists (l.ask.i + 2) l.ask.p l.count (taken_by (eqb l.kind 3) 0))

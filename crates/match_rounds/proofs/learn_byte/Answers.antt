@@ -39,7 +39,6 @@ overflow_add-c c = let within = rounds-within c.args.t.now
     (arith, c.requires.0)) in
     omega (
       arith,
-      c.key-k.ensures.1,
       c.many_at-c.ensures,
       within,
       c.requires.0,
@@ -55,7 +54,6 @@ note-requires c = let within = rounds-within c.args.t.now
     (arith, c.requires.0)) in
     omega (
       arith,
-      c.key-k.ensures.1,
       c.many_at-c.ensures,
       within,
       c.requires.0,
@@ -68,12 +66,12 @@ returns-then-not-go_on c = learnt c.args.t.now
     c.args.mem.now _
     c.args.n
     c.args.y
-    c.key-k.result
+    c.in-Some.k
     c.args.p (c.many_at-c.result + 1) (omega
     (arith, c.requires.0))
-    (c.key-k.ensures.0 (omega (arith, c.if-k-ne0.true)))
+    c.in-Some.ensures.0
     c.requires.1
-    (subst (λ (v : List ℕ). Noted c.key-k.result
+    (subst (λ (v : List ℕ). Noted c.in-Some.k
     c.args.p (c.many_at-c.result + 1) v
     c.note.new.mem) (c.go_on.ensures.same (not-true _ c.if-not-go_on.true-raw)) c.note.ensures)
     (omega (
@@ -95,9 +93,9 @@ returns-else-not-go_on c = longer-learnt c.args.t.now
     c.args.cells.now
     c.args.mem.now _
     c.args.n c.args.y
-    c.key-k.result c.args.p (omega
+    c.in-Some.k c.args.p (omega
     (arith, c.requires.0)) (omega
     (arith, c.requires.0))
-    (c.key-k.ensures.0 (omega (arith, c.if-k-ne0.true)))
+    c.in-Some.ensures.0
     c.requires.1 c.requires.0.4
     (c.go_on.ensures.longer (not-false _ c.if-not-go_on.false-raw))

@@ -46,8 +46,8 @@ many_at-c-requires c = (
       c.requires.1,
 )
 
-pub overflow_add-first-2 : goal.overflow_add-first-2
-overflow_add-first-2 c = omega (
+pub overflow_add-first-in-Some : goal.overflow_add-first-in-Some
+overflow_add-first-in-Some c = omega (
   arith,
   ev-within c.args.s.now
       c.args.cells.now
@@ -84,8 +84,7 @@ overflow_add-first-2 c = omega (
 pub remember-requires : goal.remember-requires
 remember-requires c = omega (
   arith,
-  c.key-k.ensures.1,
-  c.if-k-eq0.false,
+  c.in-Some.ensures,
   ev-within
       c.args.s.now
       c.args.cells.now
@@ -119,18 +118,17 @@ remember-requires c = omega (
       )),
 )
 
-pub returns : goal.returns
-returns c = learnt c.args.t.now
+pub returns-in-Some : goal.returns-in-Some
+returns-in-Some c = learnt c.args.t.now
     c.args.s.now
     c.args.cells.now
     c.args.mem.now _
     c.args.n
     c.args.first.y
-    c.key-k.result
+    c.in-Some.k
     c.args.first.p _ (omega
     (arith, c.requires.0))
-    (c.key-k.ensures.0 (omega
-    (arith, c.if-k-eq0.false)))
+    c.in-Some.ensures.0
     c.requires.1 c.remember.ensures
     (ap (λ (v : ℕ). c.args.first.a - 1 + v)
     c.many_at-c.ensures

@@ -1,16 +1,10 @@
-use native.Mathlib.Omega.{arith}
+use Rattle.std.proofs.Common.{ℕ, Option, Some, IfSome, ◌+◌, ◌-◌, ◌≡◌, subst, arith, rules}
+use Rattle.match_eval.specs.steps.Memory.{About, end_of}
 use Rattle.match_rounds.proofs.run_on.Goals as goal
 
-pub lengthen-requires : goal.lengthen-requires
-lengthen-requires c = (
-  omega (arith, c.requires),
-  (c.says-d.ensures (omega (arith, c.if-d-c.true, c.requires))).0,
-)
-
-pub returns-then-d-c : goal.returns-then-d-c
-returns-then-d-c c = c.lengthen.ensures c.args.c (omega (
-  arith,
-  (c.says-d.ensures (omega
-      (arith, c.if-d-c.true, c.requires))).1,
-  c.if-d-c.true,
-))
+pub returns-then-eq : goal.returns-then-eq
+returns-then-eq c =
+    let e : c.says.result ≡ Some (c.args.c - 1) = search rules in
+    let h = subst (λ (o : Option ℕ). IfSome o (λ d. About c.args.mem.now (4096 + c.args.k) c.args.k (c.args.p + 1)
+    × (end_of c.args.mem.now (4096 + c.args.k) ≡ c.args.p + 1 + d))) e c.says.ensures in
+    c.lengthen.ensures c.args.c (omega (arith, h.1))

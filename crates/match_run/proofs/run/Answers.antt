@@ -33,7 +33,7 @@ fill-requires c = (
 )
 
 pub returns-then-c-eq0 : goal.returns-then-c-eq0
-returns-then-c-eq0 c = ran-none c.args.t.now
+returns-then-c-eq0 c = rw c.not_matched-then-c-eq0.ensures (ran-none c.args.t.now
     c.args.input.now
     c.args.cells.now
     c.args.nodes.now
@@ -41,10 +41,10 @@ returns-then-c-eq0 c = ran-none c.args.t.now
     c.symbols-n.ensures
     (omega (arith, c.if-input-gt65535.false)) refl
     (omega (arith, c.if-cells-need.false)) _
-    c.fill.ensures.0 c.word-c.result c.word-c.ensures.0 c.if-c-eq0.true
+    c.fill.ensures.0 c.word-c.result c.word-c.ensures.0 c.if-c-eq0.true)
 
-pub list-l-requires : goal.list-l-requires
-list-l-requires c = (
+pub list-requires : goal.list-requires
+list-requires c = (
   ready c.args.t.now c.args.input.now c.args.cells.now
       c.args.nodes.now c.symbols-n.result _
       c.symbols-n.ensures (omega
@@ -72,5 +72,5 @@ returns c = ran-all c.args.t.now
     )) _ c.fill.ensures.0
     c.word-c.result
     c.word-c.ensures.0
-    c.if-c-eq0.false c.list-l.result _ c.listed_match.result
-    c.list-l.ensures.0 c.list-l.ensures.1 c.listed_match.ensures
+    c.if-c-eq0.false c.list.result _ c.listed_match.result
+    c.list.ensures.0 c.list.ensures.1 c.listed_match.ensures

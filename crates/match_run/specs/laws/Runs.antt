@@ -1,5 +1,5 @@
 -- A match on a table, from what its parts answer. Assumes nothing.
-use Rattle.std.specs.Prelude.{ℕ, suc, ◌+◌, ◌-◌, ◌*◌, ◌≤◌, ◌<◌, ◌≡◌, refl, Bool, true, false, List, length, get_or, ltb}
+use Rattle.std.specs.Prelude.{ℕ, suc, ◌+◌, ◌-◌, ◌*◌, ◌≤◌, ◌<◌, ◌≡◌, refl, Bool, true, false, List, length, get_or, ltb, Result, Ok, Err}
 use Rattle.std.proofs.Common.{sym, ◌∙◌, subst, arith, mul_comm, mul-le-mul_right, lt-ltb, le-ltb}
 use Rattle.std.proofs.Math.Path.{ap, ap₂}
 use Rattle.std.proofs.Math.Option.{Option, none, some}
@@ -15,9 +15,10 @@ use Rattle.match_list.specs.Nodes.{list_of, listing_of, words_of, room_of}
 use Rattle.match_cells.specs.laws.Agrees.{Right}
 use Rattle.match_cells.specs.steps.Runs.{Plain, Fills}
 use Rattle.match_cells.specs.laws.Runs.{bodies_of_lem, cells_right}
-use Rattle.match_nodes.specs.declared.Listed.{Listed}
-use Rattle.match_nodes.specs.declared.Listed.TheVariants.{All, Deep, Full}
-use Rattle.match_nodes.specs.steps.Turns.{Ready, said}
+use Rattle.match_nodes.specs.declared.Offence.{Offence}
+use Rattle.match_nodes.specs.declared.Offence.TheVariants.{Deep, Full}
+use Rattle.match_nodes.specs.steps.Passes.{said}
+use Rattle.match_nodes.specs.steps.Turns.{Ready}
 use Rattle.match_nodes.specs.laws.Forests.{body-in, forest-of}
 use Rattle.prepare.specs.declared.Verdict.TheVariants.{Refused as VerdictRefused}
 use Rattle.match_run.specs.declared.Match.{Match}
@@ -49,11 +50,11 @@ module _ (t s cs : List ℕ) (n : ℕ) (q : n ≡ symbol_count t) (g : Grammar) 
     enough h = by-cells false (le-ltb (length cs) (needed bodies s) (omega (arith, h, need-is)))
 
 -- ── the list ──
-listing-said : (taken : ℕ) (l : Listed) → listed_by taken (said l) ≡ listed_match taken l
+listing-said : (taken : ℕ) (l : Result ℕ Offence) → listed_by taken (said l) ≡ listed_match taken l
 unfolding said
-listing-said taken (All k) = refl
-listing-said taken (Deep k) = refl
-listing-said taken (Full k) = refl
+listing-said taken (Ok k) = refl
+listing-said taken (Err (Deep k)) = refl
+listing-said taken (Err (Full k)) = refl
 
 module _ (s cs ws : List ℕ) (bodies : List (Exp ℕ)) (new : List ℕ) (e : new ≡ filled_by bodies s cs) (c : ℕ) (f : c ≡ get_or new 0 0) where
   by-cell : ran_by c bodies s new ws ≡ ran_after none bodies s cs ws
@@ -62,7 +63,7 @@ module _ (s cs ws : List ℕ) (bodies : List (Exp ℕ)) (new : List ℕ) (e : ne
   unmatched : c ≡ 0 → lent (outcome 0 NoMatch) new ws ≡ ran_after none bodies s cs ws
   unmatched z = ap (λ (k : ℕ). ran_by k bodies s new ws) (sym z) ∙ by-cell
 
-  matched : (k : ℕ) → c ≡ suc k → (l : Listed) (words : List ℕ) → said l ≡ listing_of (room_of ws) 0 (list_of bodies s new) → words ≡ words_of (room_of ws) ws (list_of bodies s new)
+  matched : (k : ℕ) → c ≡ suc k → (l : Result ℕ Offence) (words : List ℕ) → said l ≡ listing_of (room_of ws) 0 (list_of bodies s new) → words ≡ words_of (room_of ws) ws (list_of bodies s new)
       → lent (listed_match k l) new words ≡ ran_after none bodies s cs ws
   matched k z l words a b =
       ap₂ (λ (r : Match) (w : List ℕ). lent r new w) (sym (listing-said k l) ∙ ap (listed_by k) a) b
@@ -106,7 +107,7 @@ module _ (t s cs ws : List ℕ) where
           rooms : (k : ℕ) → n ≡ k → (length s + 1) * k ≤ length cs
           rooms k e = let a : (length s + 1) * k ≡ k * (length s + 1) = mul_comm (length s + 1) k in let b : n * (length s + 1) ≡ k * (length s + 1) = ap (λ (j : ℕ). j * (length s + 1)) e in omega (arith, a, b, room, m)
 
-      pub ran-all : (c : ℕ) → c ≡ get_or new 0 0 → (c ≡ 0 → ⊥) → (l : Listed) (words : List ℕ) (r : Match) → said l ≡ listing_of (room_of ws) 0 (list_of (bodies_of t) s new)
+      pub ran-all : (c : ℕ) → c ≡ get_or new 0 0 → (c ≡ 0 → ⊥) → (l : Result ℕ Offence) (words : List ℕ) (r : Match) → said l ≡ listing_of (room_of ws) 0 (list_of (bodies_of t) s new)
           → words ≡ words_of (room_of ws) ws (list_of (bodies_of t) s new) → r ≡ listed_match (c - 1) l → Ran t s cs ws new words r
       ran-all c f z l words r a b e = record {
         are =

@@ -1,13 +1,13 @@
 -- A match on the table of a plain grammar, as code says it (01, Meaning of a match; 01, Refusal numbers, 9 to 12). Assumes nothing: these are definitions.
-use Rattle.std.specs.Prelude.{ℕ, zero, suc, ◌+◌, ◌*◌, ◌≡◌, List, length, get_or, ltb}
+use Rattle.std.specs.Prelude.{ℕ, zero, suc, ◌+◌, ◌*◌, ◌≡◌, List, length, get_or, ltb, Result, Ok, Err}
 use Rattle.std.proofs.Math.Option.{Option, none, some}
 use Rattle.read_tokens.specs.Bounds.{input_bound}
 use Rattle.grammar.specs.Exp.{Exp}
 use Rattle.grammar.specs.Numbers.{Grammar}
 use Rattle.grammar.specs.Refusal.{Refusal, refuse_if, ◌▸◌}
 use Rattle.lake_plain.specs.Calls.{loop, order}
-use Rattle.match_nodes.specs.declared.Listed.{Listed}
-use Rattle.match_nodes.specs.declared.Listed.TheVariants.{All, Deep, Full}
+use Rattle.match_nodes.specs.declared.Offence.{Offence}
+use Rattle.match_nodes.specs.declared.Offence.TheVariants.{Deep, Full}
 use Rattle.match_cells.specs.Cells.{cells}
 use Rattle.match_cells.specs.steps.Runs.{Plain}
 use Rattle.match_list.specs.Nodes.{Listing, all, deep, full, list_of, listing_of, words_of, room_of}
@@ -28,10 +28,10 @@ abbrev pub outcome : ℕ → Outcome → Match
 outcome k o = record { nodes = k; outcome = o }
 
 -- a list's answer for a match of so many bytes
-abbrev pub listed_match : ℕ → Listed → Match
-listed_match taken (All k) = outcome k (Matched taken)
-listed_match taken (Deep k) = outcome 0 (OutcomeRefused 11 k)
-listed_match taken (Full k) = outcome 0 (OutcomeRefused 12 k)
+abbrev pub listed_match : ℕ → Result ℕ Offence → Match
+listed_match taken (Ok k) = outcome k (Matched taken)
+listed_match taken (Err (Deep k)) = outcome 0 (OutcomeRefused 11 k)
+listed_match taken (Err (Full k)) = outcome 0 (OutcomeRefused 12 k)
 
 -- a refusal, handed on
 abbrev pub not_matched : Verdict → Match
@@ -58,9 +58,9 @@ abbrev pub filled_by : List (Exp ℕ) → List ℕ → List ℕ → List ℕ
 filled_by bodies s cs = cells bodies (order bodies) s cs
 
 abbrev pub listed_by : ℕ → Listing → Match
-listed_by taken (all k) = listed_match taken (All k)
-listed_by taken (deep k) = listed_match taken (Deep k)
-listed_by taken (full k) = listed_match taken (Full k)
+listed_by taken (all k) = listed_match taken (Ok k)
+listed_by taken (deep k) = listed_match taken (Err (Deep k))
+listed_by taken (full k) = listed_match taken (Err (Full k))
 
 -- by the start symbol's cell at 0
 abbrev pub ran_by : ℕ → List (Exp ℕ) → List ℕ → List ℕ → List ℕ → Lent

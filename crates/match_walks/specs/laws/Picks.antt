@@ -1,5 +1,5 @@
 -- The alternative of a choice that is taken. Assumes nothing.
-use Rattle.std.specs.Prelude.{ℕ, ◌≤◌, ◌<◌, ◌≡◌, ◌⊎◌, List}
+use Rattle.std.specs.Prelude.{ℕ, ◌≤◌, ◌<◌, ◌≡◌, ◌⊎◌, List, Option, None, Some}
 use Rattle.std.proofs.Math.Path.{refl, ap, sym as flip}
 use Rattle.std.proofs.Common.{◌∙◌, arith}
 use Rattle.std.proofs.Math.Logic.{inl, inr}
@@ -12,26 +12,13 @@ use Rattle.match_list.proofs.laws.NodeSteps.{alt-left as List-left, alt-right as
 use Rattle.grammar_table.specs.Trees.{tree_of}
 use Rattle.match_desk.specs.steps.Parts.{shape, Made}
 use Rattle.match_desk.specs.laws.Parts.{shaped}
-use Rattle.match_walks.specs.steps.Picks.{Picked, Chosen}
+use Rattle.match_walks.specs.steps.Picks.{StandsFor, Picked, Chosen}
 use Rattle.match_walks.specs.laws.Waits.{choice-left, choice-right}
 
 module _ (t s cs : List ℕ) (n x p : ℕ) where
   -- x itself
-  pub pick-fails : (v : ℕ) → v ≡ ev s cs n (tree_of t x) p → v ≡ 0 → Picked t s cs n x p 4096
-  pick-fails v e h =
-      record {
-        fails = λ i. flip e ∙ h;
-        small = λ f. absurd (f refl);
-        works = λ f. absurd (f refl);
-        takes = λ f. absurd (f refl);
-        lists = λ f w. absurd (f refl);
-        up = λ f k m d a b c. absurd
-            (f refl);
-      }
-
-  pub pick-whole : (v : ℕ) → v ≡ ev s cs n (tree_of t x) p → (v ≡ 0 → ⊥) → x < 2048 → Picked t s cs n x p x
-  pick-whole v e h l =
-      record { fails = λ i. absurd (omega (arith, i)); small = λ f. omega arith; works = λ f i. h (e ∙ i); takes = λ f. refl; lists = λ f w. refl; up = λ f k m d a b c. refl }
+  pub pick-whole : (ev s cs n (tree_of t x) p ≡ 0 → ⊥) → StandsFor t s cs n x p x
+  pick-whole f = record { small = omega arith; works = f; takes = refl; lists = λ w. refl; up = λ k m d a b c. refl }
 
   -- a choice
   module _ (k l y z : ℕ) (made : Made t x k l y z) (is : k ≡ 3) where
@@ -45,68 +32,49 @@ module _ (t s cs : List ℕ) (n x p : ℕ) where
     lists-is : (w : ℕ → ℕ → List Node) → walk_of s (λ e i. ev s cs n e i) w (alt (tree_of t y) (tree_of t z)) p ≡ walk_of s (λ e i. ev s cs n e i) w (tree_of t x) p
     lists-is w = ap (λ (e : Exp ℕ). walk_of s (λ e i. ev s cs n e i) w e p) choice
 
-    pub pick_first : (a : ℕ) → Picked t s cs n y p a → (a ≡ 4096 → ⊥) → Picked t s cs n x p a
+    pub pick_first : (a : ℕ) → StandsFor t s cs n y p a → StandsFor t s cs n x p a
     unfolding ev walk_of
-    pick_first a h f =
-        let g : ev s cs n (tree_of t y) p ≡ 0 → ⊥ = λ o. h.works f (h.takes f ∙ o) in
+    pick_first a h =
+        let g : ev s cs n (tree_of t y) p ≡ 0 → ⊥ = λ o. h.works (h.takes ∙ o) in
         record {
-          fails = λ i. absurd (f i);
-          small = λ i. omega (arith, h.small f, made.left);
-          works = λ i. h.works f;
-          takes = λ i. h.takes f ∙ alt-left (ev s cs n (tree_of t y) p) (λ m. ev s cs n (tree_of t z) p) (ev s cs n (tree_of t y) p) refl g ∙ takes-is;
-          lists = λ i w.
-              h.lists f w ∙ List-left (ev s cs n (tree_of t y) p) (walk_of s (λ e i. ev s cs n e i) w (tree_of t y) p) (walk_of s (λ e i. ev s cs n e i) w (tree_of t z) p) (ev s cs n
+          small = omega (arith, h.small, made.left);
+          works = h.works;
+          takes = h.takes ∙ alt-left (ev s cs n (tree_of t y) p) (λ m. ev s cs n (tree_of t z) p) (ev s cs n (tree_of t y) p) refl g ∙ takes-is;
+          lists = λ w.
+              h.lists w ∙ List-left (ev s cs n (tree_of t y) p) (walk_of s (λ e i. ev s cs n e i) w (tree_of t y) p) (walk_of s (λ e i. ev s cs n e i) w (tree_of t z) p) (ev s cs n
               (tree_of t y) p) refl g
               ∙ lists-is w;
-          up = λ i b m d desk few known. h.up f b m d desk few (omega (arith, known, made.left)) ∙ choice-left t b m desk few x k l y z d made known is;
+          up = λ b m d desk few known. h.up b m d desk few (omega (arith, known, made.left)) ∙ choice-left t b m desk few x k l y z d made known is;
         }
 
-    pub pick_second : (a b : ℕ) → Picked t s cs n y p a → a ≡ 4096 → Picked t s cs n z p b → Picked t s cs n x p b
+    pub pick_second : (b : Option ℕ) → ev s cs n (tree_of t y) p ≡ 0 → Picked t s cs n z p b → Picked t s cs n x p b
     unfolding ev walk_of
-    pick_second a b i j h =
-        let g : ev s cs n (tree_of t y) p ≡ 0 = i.fails j in
-        let u : ev s cs n (tree_of t z) p ≡ ev s cs n (tree_of t x) p =
-        alt-right (ev s cs n (tree_of t y) p) (λ m. ev s cs n (tree_of t z) p) (ev s cs n (tree_of t y) p) (ev s cs n (tree_of t z) p) refl g refl ∙ takes-is in
+    pick_second None g h =
+        flip (alt-right (ev s cs n (tree_of t y) p) (λ m. ev s cs n (tree_of t z) p) (ev s cs n (tree_of t y) p) (ev s cs n (tree_of t z) p) refl g refl ∙ takes-is) ∙ h
+    pick_second (Some b) g h =
         record {
-          fails = λ e. flip u ∙ h.fails e;
-          small = λ f. omega (arith, h.small f, made.right);
-          works = λ f. h.works f;
-          takes = λ f. h.takes f ∙ u;
-          lists = λ f w.
-              h.lists f w ∙ List-right (ev s cs n (tree_of t y) p) (walk_of s (λ e i. ev s cs n e i) w (tree_of t y) p) (walk_of s (λ e i. ev s cs n e i) w (tree_of t z) p) (ev s cs n
+          small = omega (arith, h.small, made.right);
+          works = h.works;
+          takes = h.takes ∙ alt-right (ev s cs n (tree_of t y) p) (λ m. ev s cs n (tree_of t z) p) (ev s cs n (tree_of t y) p) (ev s cs n (tree_of t z) p) refl g refl ∙ takes-is;
+          lists = λ w.
+              h.lists w ∙ List-right (ev s cs n (tree_of t y) p) (walk_of s (λ e i. ev s cs n e i) w (tree_of t y) p) (walk_of s (λ e i. ev s cs n e i) w (tree_of t z) p) (ev s cs n
               (tree_of t y) p) refl g
               ∙ lists-is w;
-          up = λ f c m d desk few known. h.up f c m d desk few (omega (arith, known, made.right)) ∙ choice-right t c m desk few x k l y z d made known is;
+          up = λ c m d desk few known. h.up c m d desk few (omega (arith, known, made.right)) ∙ choice-right t c m desk few x k l y z d made known is;
         }
 
 -- a choice by its parts
 module _ (t s cs : List ℕ) (n y z p : ℕ) where
-  pub choose-first : (a : ℕ) → Picked t s cs n y p a → (a ≡ 4096 → ⊥) → Chosen t s cs n y z p a
+  pub choose-first : (a : ℕ) → StandsFor t s cs n y p a → Chosen t s cs n y z p a
   unfolding ev walk_of
-  choose-first a h f =
-      let g : ev s cs n (tree_of t y) p ≡ 0 → ⊥ = λ o. h.works f (h.takes f ∙ o) in
+  choose-first a h =
+      let g : ev s cs n (tree_of t y) p ≡ 0 → ⊥ = λ o. h.works (h.takes ∙ o) in
       record {
-        small = λ i. inl (h.small f);
-        takes = λ i. h.takes f ∙ alt-left (ev s cs n (tree_of t y) p) (λ m. ev s cs n (tree_of t z) p) (ev s cs n (tree_of t y) p) refl g;
+        small = λ i. inl h.small;
+        takes = λ i. h.takes ∙ alt-left (ev s cs n (tree_of t y) p) (λ m. ev s cs n (tree_of t z) p) (ev s cs n (tree_of t y) p) refl g;
         lists = λ i w.
-            h.lists f w ∙ List-left (ev s cs n (tree_of t y) p) (walk_of s (λ e i. ev s cs n e i) w (tree_of t y) p) (walk_of s (λ e i. ev s cs n e i) w (tree_of t z) p) (ev s cs n (tree_of t y) p) refl g;
-        up = λ i k m d l desk few c e u v. h.up f k m d desk few c ∙ u;
-      }
-
-  pub choose-second : (a b : ℕ) → Picked t s cs n y p a → a ≡ 4096 → Picked t s cs n z p b → Chosen t s cs n y z p b
-  unfolding ev walk_of
-  choose-second a b i j h =
-      let g : ev s cs n (tree_of t y) p ≡ 0 = i.fails j in
-      let u : ev s cs n (tree_of t z) p ≡ ev s cs n (alt (tree_of t y) (tree_of t z)) p =
-      alt-right (ev s cs n (tree_of t y) p) (λ m. ev s cs n (tree_of t z) p) (ev s cs n (tree_of t y) p) (ev s cs n (tree_of t z) p) refl g refl in
-      let k : (ev s cs n (alt (tree_of t y) (tree_of t z)) p ≡ 0 → ⊥) → b ≡ 4096 → ⊥ = λ f e. f (flip u ∙ h.fails e) in
-      record {
-        small = λ f. inr (h.small (k f));
-        takes = λ f. h.takes (k f) ∙ u;
-        lists = λ f w.
-            h.lists (k f) w ∙ List-right (ev s cs n (tree_of t y) p) (walk_of s (λ e i. ev s cs n e i) w (tree_of t y) p) (walk_of s (λ e i. ev s cs n e i) w (tree_of t z) p) (ev s cs n
-            (tree_of t y) p) refl g;
-        up = λ f i m d l desk few c e u v. h.up (k f) i m d desk few e ∙ v;
+            h.lists w ∙ List-left (ev s cs n (tree_of t y) p) (walk_of s (λ e i. ev s cs n e i) w (tree_of t y) p) (walk_of s (λ e i. ev s cs n e i) w (tree_of t z) p) (ev s cs n (tree_of t y) p) refl g;
+        up = λ i k m d l desk few c e u v. h.up k m d desk few c ∙ u;
       }
 
   -- the second part fails, so that the first matches where one does

@@ -1,8 +1,7 @@
 -- What walking an expression comes to, and what comes behind one that is done: by the words that code has read. Assumes nothing.
-use Rattle.std.specs.Prelude.{ℕ, ◌+◌, ◌-◌, ◌≤◌, ◌<◌, ◌≡◌, refl, ◌⊎◌, Bool, true, false, List, [], ◌∷◌, ◌++◌, eqb, length}
-use Rattle.std.proofs.Common.{ap, ◌∙◌, subst, sym as flip, inl, inr, append_assoc, eqb-true}
+use Rattle.std.specs.Prelude.{ℕ, ◌+◌, ◌-◌, ◌≤◌, ◌<◌, ◌≡◌, refl, ◌⊎◌, List, [], ◌∷◌, ◌++◌, length}
+use Rattle.std.proofs.Common.{ap, ◌∙◌, sym as flip, inl, inr, append_assoc, eq-or-lt_of_le}
 use native.Mathlib.Omega.{arith}
-use Rattle.std.proofs.lemmas.Bool.{eqb-false}
 use Rattle.grammar_table.specs.Table.{expression_count}
 use Rattle.grammar_table.specs.Trees.{tree_of}
 use Rattle.match_walks.specs.steps.Tasks.{Task, walk, again, enter, takes, Step, Moves}
@@ -12,7 +11,7 @@ use Rattle.match_desk.specs.steps.Parts.{Made}
 use Rattle.match_walks.specs.steps.Picks.{Chosen}
 use Rattle.match_walks.specs.steps.Walks.{Walkable, Walked, Risen}
 use Rattle.match_walks.specs.laws.Steps.{step-moves, moves-same, moves-on, moves-less}
-use Rattle.match_walks.specs.laws.Walks.{step-symbol, step-seq, step-choice, step-skips, step-takes, step-plus, step-ahead, step-never, step-silent, star-ends, star-more, again-ends, again-more}
+use Rattle.match_walks.specs.laws.Walks.{step-symbol, step-seq, step-choice, step-skips, step-takes, step-plus, step-silent, star-ends, star-more, again-ends, again-more}
 use Rattle.match_desk.specs.laws.Desks.{parent_above}
 use Rattle.match_walks.specs.laws.Waits.{going-top, seq-left, seq-right, choice-left, choice-right, option-part, star-part, plus-part, up_left, up_right, up-star, up-plus, up-other}
 
@@ -57,16 +56,6 @@ module _ (t s cs : List ℕ) (n : ℕ) (k : List ℕ) (x p : ℕ) where
         (u.0, u.1, walked-done (p + (a - 1)) (omega (arith, small)) (λ d. (step-silent t s cs n d p w.place x a h w.able e).2))
 
     module _ (op l y z : ℕ) (made : Made t x op l y z) where
-      -- a guard takes nothing
-      pub walk-guard : 7 ≤ op → Walked t s cs n k x p 1 x p
-      walk-guard h = go (eqb op 7) refl
-        where
-          go : (b : Bool) → eqb op 7 ≡ b → Walked t s cs n k x p 1 x p
-          go true e = walked-done p (omega (arith, small)) (λ d. step-ahead t s cs n d p w.place x op l y z small w.able made (eqb-true op 7 e))
-          go false e =
-              walked-done p (omega (arith, small))
-              (λ d. step-never t s cs n d p w.place x op l y z small w.able made (λ i. omega (arith, i, h)) (λ i. omega (arith, i, h)) (λ i. omega (arith, i, h)) (λ i. omega (arith, i, h)) (λ i. omega (arith, i, h)) (λ i. omega (arith, i, h)) (λ i. omega (arith, i, h)) (eqb-false op 7 e))
-
       pub walk-symbol : op ≡ 1 → Walked t s cs n k x p 3 l p
       walk-symbol e = walked-enter l made.small (λ d. (step-symbol t s cs n d p w.place x op l y z small w.able made e w.few).1)
 
@@ -104,6 +93,9 @@ module _ (t s cs : List ℕ) (n : ℕ) (k : List ℕ) (x p : ℕ) where
           (λ d. plus-part t k (expression_count t) w.desk w.fits x op l y z d made w.known e)
 
 -- ── going up ──
+pub five_or_six : (op : ℕ) → 5 ≤ op → op ≤ 6 → (op ≡ 5) ⊎ (op ≡ 6)
+five_or_six op l h = elim (eq-or-lt_of_le l) [ inl e ↦ inl (flip e) | inr g ↦ inr (omega arith) ]
+
 module _ (t s cs : List ℕ) (n : ℕ) (k : List ℕ) (x p : ℕ) (desk : Desk t k (expression_count t)) (fits : expression_count t ≤ 1024) (place : p ≤ length s) where
   -- no parent: the body is done
   pub risen-top : (e : ℕ) → e ≡ parent_of k x → e ≡ 0 → Risen t s cs n k x p 0 0
@@ -200,13 +192,3 @@ module _ (t s cs : List ℕ) (n : ℕ) (k : List ℕ) (x p : ℕ) (desk : Desk t
           more-on : (d : ℕ) → Moves t s cs n (again x d ∷ (going t k d e ++ waiting t k d)) p (walk x d ∷ again x d ∷ (going t k d e ++ waiting t k d)) p 0
               → Moves t s cs n (tasks_of t k 1 d x) p (tasks_of t k 2 d x) p 0
           more-on d m = rw (before-is o d) m
-
-    -- as code says it
-    abbrev Said : ℕ → ℕ → ℕ → Type 0
-    Said kind y q = ((takes t s cs n x p ≤ 1) × (kind ≡ 1) × (y ≡ e) × (q ≡ p)) ⊎ ((1 < takes t s cs n x p) × (kind ≡ 2) × (y ≡ x) × (q ≡ p))
-
-    pub risen-rounds : (kind y q : ℕ) → (op ≡ 5) ⊎ (op ≡ 6) → Said kind y q → Risen t s cs n k x p kind y × (kind ≤ 2) × (q ≡ p)
-    risen-rounds kind y q o (inl u) =
-        (subst (λ (i : ℕ). Risen t s cs n k x p i y) (flip u.1) (subst (λ (i : ℕ). Risen t s cs n k x p 1 i) (flip u.2) (risen-ends (takes t s cs n x p) refl o u.0)), omega (arith, u.1), u.3)
-    risen-rounds kind y q o (inr u) =
-        (subst (λ (i : ℕ). Risen t s cs n k x p i y) (flip u.1) (subst (λ (i : ℕ). Risen t s cs n k x p 2 i) (flip u.2) (risen-more (takes t s cs n x p) refl o u.0)), omega (arith, u.1), u.3)

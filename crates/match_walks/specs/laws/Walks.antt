@@ -7,14 +7,16 @@ use Rattle.std.proofs.Math.Bool.{true, false}
 use mathlib.Core.List.{List, [], ◌∷◌}
 use Rattle.std.proofs.Math.Dec.{ltb}
 use Rattle.std.proofs.Math.ListN.{length}
-use borrow.Author.Tests.{ltb-true, ltb-false}
+use borrow.Author.Tests.{ltb-true, ltb-false, eqb-true}
+use Rattle.std.proofs.lemmas.Bool.{eqb-false}
+use Rattle.std.specs.Prelude.{eqb}
 use Rattle.grammar.specs.Exp.{Exp, sym, ter, seq, alt, opt, star, plus, ahead, never}
 use Rattle.grammar_table.specs.Table.{leaf_in}
 use Rattle.match_eval.specs.Eval.{leaf_at, cell_at, seq_of, rep, plus_of, ahead_of, never_of, ev}
 use Rattle.match_list.specs.Nodes.{rep_n, walk_of}
 use Rattle.match_eval.proofs.laws.Within.{ev-within}
 use Rattle.match_eval.proofs.laws.EvalSteps.{seq-left, seq-right, seq-both, plus-fails, plus-takes, opt-fails, opt-takes, rep-ends, cell-past}
-use Rattle.match_list.proofs.laws.NodeSteps.{seq-both as list-both, opt_none as list-none, opt-some as list-some, ahead_none, never-none, rep-ends as list-ends}
+use Rattle.match_list.proofs.laws.NodeSteps.{seq-both as list-both, opt_none as list-none, opt-some as list-some, rep-ends as list-ends}
 use Rattle.grammar_table.specs.Trees.{tree_of}
 use Rattle.match_walks.specs.steps.Tasks.{walk, again, enter, under, walked, takes, nodes, after, rank, cost, cost_of, Step}
 use Rattle.match_desk.specs.steps.Desk.{Silent}
@@ -184,27 +186,29 @@ module _ (t s cs : List ℕ) (n d p : ℕ) (inside : p ≤ length s) where
         (omega (arith, u, v, g)) g tt
         (cost-rounds (length s) (p + (takes t s cs n y p - 1)) (rank y d) (rank y d) (rank x d) (rank_less x y d made.left) (rank_less x y d made.left))
 
-    pub step-ahead : k ≡ 7 → Step t s cs n (walk x d) p [] p
-    unfolding ev walk_of shape
-    step-ahead e = stays (ahead (tree_of t y)) (tree_is 7 e) (one-ahead (takes t s cs n y p) (able-is (ahead (tree_of t y)) (tree_is 7 e))) (ahead_none s (λ e i. ev s cs n e i) (λ r i. under t s cs n d r i) (tree_of t y) p)
-
-    pub step-never : (k ≡ 0 → ⊥) → (k ≡ 1 → ⊥) → (k ≡ 2 → ⊥) → (k ≡ 3 → ⊥) → (k ≡ 4 → ⊥) → (k ≡ 5 → ⊥) → (k ≡ 6 → ⊥) → (k ≡ 7 → ⊥) → Step t s cs n (walk x d) p [] p
-    unfolding ev walk_of shape
-    step-never a b c f g h i j =
-        let e : never (tree_of t y) ≡ tree_of t x = is_never k a b c f g h i j ∙ made.tree in
-        stays (never (tree_of t y)) e (one-never (takes t s cs n y p) (able-is (never (tree_of t y)) e)) (never-none s (λ e i. ev s cs n e i) (λ r i. under t s cs n d r i) (tree_of t y) p)
+    pub guard-takes : 7 ≤ k → takes t s cs n x p ≡ 1
+    unfolding ev shape
+    guard-takes h = go (eqb k 7) refl
       where
-        is_never : (q : ℕ) → (q ≡ 0 → ⊥) → (q ≡ 1 → ⊥) → (q ≡ 2 → ⊥) → (q ≡ 3 → ⊥) → (q ≡ 4 → ⊥) → (q ≡ 5 → ⊥) → (q ≡ 6 → ⊥) → (q ≡ 7 → ⊥)
-            → never (tree_of t y) ≡ shape q (leaf_in t l) l (tree_of t y) (tree_of t z)
-        is_never zero a b c d e f g h = absurd (a refl)
-        is_never (suc zero) a b c d e f g h = absurd (b refl)
-        is_never (suc (suc zero)) a b c d e f g h = absurd (c refl)
-        is_never (suc (suc (suc zero))) a b c d e f g h = absurd (d refl)
-        is_never (suc (suc (suc (suc zero)))) a b c d e f g h = absurd (e refl)
-        is_never (suc (suc (suc (suc (suc zero))))) a b c d e f g h = absurd (f refl)
-        is_never (suc (suc (suc (suc (suc (suc zero)))))) a b c d e f g h = absurd (g refl)
-        is_never (suc (suc (suc (suc (suc (suc (suc zero))))))) a b c d e f g h = absurd (h refl)
-        is_never (suc (suc (suc (suc (suc (suc (suc (suc q)))))))) a b c d e f g h = refl
+        is_never : (q : ℕ) → 8 ≤ q → never (tree_of t y) ≡ shape q (leaf_in t l) l (tree_of t y) (tree_of t z)
+        is_never zero l = absurd (omega (arith, l))
+        is_never (suc zero) l = absurd (omega (arith, l))
+        is_never (suc (suc zero)) l = absurd (omega (arith, l))
+        is_never (suc (suc (suc zero))) l = absurd (omega (arith, l))
+        is_never (suc (suc (suc (suc zero)))) l = absurd (omega (arith, l))
+        is_never (suc (suc (suc (suc (suc zero))))) l = absurd (omega (arith, l))
+        is_never (suc (suc (suc (suc (suc (suc zero)))))) l = absurd (omega (arith, l))
+        is_never (suc (suc (suc (suc (suc (suc (suc zero))))))) l = absurd (omega (arith, l))
+        is_never (suc (suc (suc (suc (suc (suc (suc (suc q)))))))) l = refl
+
+        go : (b : Bool) → eqb k 7 ≡ b → takes t s cs n x p ≡ 1
+        go true e =
+            let u : ahead (tree_of t y) ≡ tree_of t x = tree_is 7 (eqb-true k 7 e) in
+            flip (takes-is (ahead (tree_of t y)) u) ∙ one-ahead (takes t s cs n y p) (able-is (ahead (tree_of t y)) u)
+        go false e =
+            let f : k ≡ 7 → ⊥ = eqb-false k 7 e in
+            let u : never (tree_of t y) ≡ tree_of t x = is_never k (omega (arith, f, h)) ∙ made.tree in
+            flip (takes-is (never (tree_of t y)) u) ∙ one-never (takes t s cs n y p) (able-is (never (tree_of t y)) u)
 
   -- further rounds
   module _ (x a : ℕ) (small : x < 2048) (e : a ≡ takes t s cs n x p) where

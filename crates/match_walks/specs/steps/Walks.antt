@@ -2,6 +2,10 @@
 use Rattle.std.specs.Prelude.{ℕ, ◌≤◌, ◌<◌, ◌≡◌, List, [], ◌∷◌, length}
 use Rattle.grammar_table.specs.Table.{expression_count}
 use Rattle.match_desk.specs.steps.Desk.{Desk}
+use Rattle.match_walks.specs.declared.Down.{Down}
+use Rattle.match_walks.specs.declared.Down.TheVariants.{Done, Walk, Enter}
+use Rattle.match_walks.specs.declared.Up.{Up}
+use Rattle.match_walks.specs.declared.Up.TheVariants.{Over, Done as Parent, Walk as Next}
 use Rattle.match_walks.specs.steps.Tasks.{walk, enter, takes, Step, Moves}
 use Rattle.match_walks.specs.steps.Waits.{going, tasks_of, climb}
 
@@ -31,3 +35,14 @@ module _ (t s cs : List ℕ) (n : ℕ) where
     pub known : kind ≡ 2 → y ≤ expression_count t
     pub small : y < 4294967296
     pub climbs : (kind ≡ 0 → ⊥) → (d : ℕ) → climb kind d y < climb 1 d x
+
+  -- the same by what code answers
+  abbrev pub Descends : (k : List ℕ) (x p : ℕ) → Down → Type 0
+  Descends k x p (Done q) = Walked k x p 1 x q
+  Descends k x p (Walk y) = Walked k x p 2 y p
+  Descends k x p (Enter r) = Walked k x p 3 r p
+
+  abbrev pub Ascends : (k : List ℕ) (x p : ℕ) → Up → Type 0
+  Ascends k x p Over = Risen k x p 0 0
+  Ascends k x p (Parent e) = Risen k x p 1 e
+  Ascends k x p (Next y) = Risen k x p 2 y

@@ -15,24 +15,24 @@ returns-then-is_refused c = record {
 pub returns-then-e-gt1024 : goal.returns-then-e-gt1024
 returns-then-e-gt1024 c = record {
   ready = λ m s t ms sets eps succ a w. refusing c.refused-then-e-gt1024.result c.refused-then-e-gt1024.ensures
-      (ap (λ (x : Counted). is_refused x.verdict) c.refusal-f.ensures)
-      (c.refusal-f.ensures ∙ by-seven m s t c.args.r a
+      (ap (λ (x : Counted). is_refused x.verdict) c.refusal.ensures)
+      (c.refusal.ensures ∙ by-seven m s t c.args.r a
       (sym c.is_refused.ensures ∙ c.if-is_refused.false) _ _ _ _ _ _ _
       c.translate-e.result c.args.made.rounds
       (c.translate-e.ensures.translated t ms sets eps succ c.args.made.rounds w) c.if-e-gt1024.true);
 }
 
-pub returns-then-l-k : goal.returns-then-l-k
-returns-then-l-k c = record {
-  ready = λ m s t ms sets eps succ a w. refusing c.refused-then-l-k.result c.refused-then-l-k.ensures
-      (ap (λ (x : Counted). is_refused x.verdict) c.refusal-f-then-l-k.ensures)
-      (c.refusal-f-then-l-k.ensures ∙ by-eight m s t c.args.r a
+pub returns-then-l-r : goal.returns-then-l-r
+returns-then-l-r c = record {
+  ready = λ m s t ms sets eps succ a w. refusing c.refused-then-l-r.result c.refused-then-l-r.ensures
+      (ap (λ (x : Counted). is_refused x.verdict) c.refusal-then-l-r.ensures)
+      (c.refusal-then-l-r.ensures ∙ by-eight m s t c.args.r a
       (sym c.is_refused.ensures ∙
       c.if-is_refused.false) _ _ _ _ _ _ _ c.translate-e.result
       c.args.made.rounds
       (c.translate-e.ensures.translated t ms sets eps succ
       c.args.made.rounds w) (omega (arith, c.if-e-gt1024.false))
-      c.loop_of-l.result c.loop_of-l.ensures c.if-l-k.true);
+      c.loop_of-l.result c.loop_of-l.ensures c.if-l-r.true);
 }
 
 pub returns : goal.returns
@@ -41,5 +41,5 @@ returns c = record {
       (sym c.is_refused.ensures ∙ c.if-is_refused.false) _ _ _ _ _ _ _
       c.translate-e.result c.args.made.rounds
       (c.translate-e.ensures.translated t ms sets eps succ c.args.made.rounds w)
-      (omega (arith, c.if-e-gt1024.false)) c.loop_of-l.result c.loop_of-l.ensures (omega (arith, c.if-l-k.false));
+      (omega (arith, c.if-e-gt1024.false)) c.loop_of-l.result c.loop_of-l.ensures (omega (arith, c.if-l-r.false));
 }

@@ -1,4 +1,3 @@
-use Prim.Native.Nat.{◌-◌}
 use native.Mathlib.Omega.{arith}
 use Rattle.prepare.specs.laws.Loads.{clean, not-long, six-one, six-two, six-three, loads-refused, loads-accepted}
 use Rattle.prepare.proofs.gather.Goals as goal

@@ -1,22 +1,19 @@
 use mathlib.Core.Path.{sym, ap, ◌∙◌}
 use lib.ListN.{length}
-use Rattle.read_syntax.specs.declared.syntax.Found.{Found}
 use Rattle.prepare.specs.declared.Counted.{Counted}
 use Rattle.prepare.specs.Reads.{is_refused}
 use Rattle.prepare.specs.laws.Loads.{early, loads-refused}
 use Rattle.prepare.specs.laws.Reads.{first-six, refused-plain, as_plain}
 use Rattle.prepare.proofs.translated.Goals as goal
 
-pub returns-then-f-ne0 : goal.returns-then-f-ne0
-returns-then-f-ne0 c = refused-plain c.args.mode c.args.text.now _ c.refusal.result
-    (ap (λ (r : Counted). is_refused r.verdict) c.refusal.ensures)
-    (first-six c.args.mode c.args.text.now
-    c.args.out.now c.refusal.result
-    (loads-refused c.refusal.ensures (early c.args.mode c.args.text.now
-    c.refused-f.result c.refused-f.ensures c.if-f-ne0.true)) (ap (λ (r : Counted). is_refused r.verdict) c.refusal.ensures))
+pub returns-in-Some : goal.returns-in-Some
+returns-in-Some c =
+    refused-plain c.args.mode c.args.text.now _ c.refusal.result (ap (λ (r : Counted). is_refused r.verdict) c.refusal.ensures)
+    (first-six c.args.mode c.args.text.now c.args.out.now c.refusal.result
+    (loads-refused c.refusal.ensures (early c.args.mode c.args.text.now c.in-Some.f c.in-Some.ensures)) (ap (λ (r : Counted). is_refused r.verdict) c.refusal.ensures))
 
 pub gather-r-requires : goal.gather-r-requires
-gather-r-requires c = (ap length c.renew.ensures, sym (ap (λ (f : Found). f.number) c.refused-f.ensures) ∙ c.if-f-ne0.false)
+gather-r-requires c = (ap length c.renew.ensures, sym c.in_default.ensures)
 
 pub returns-then-is_refused : goal.returns-then-is_refused
 returns-then-is_refused c = refused-plain c.args.mode
@@ -26,7 +23,7 @@ returns-then-is_refused c = refused-plain c.args.mode
     (sym c.is_refused.ensures ∙ c.if-is_refused.true))
 
 pub returns : goal.returns
-returns c = as_plain (c.finish-p.ensures.ready
+returns c = as_plain (c.finish.ensures.ready
     c.args.mode
     c.args.text.now _ _ _ _ _ c.gather-r.ensures
     c.alternatives-made.ensures.between)

@@ -1,15 +1,16 @@
 -- The chain of refusals 1 to 5, check after check, and reading's chain by it. Assumes nothing.
 use Rattle.std.specs.Prelude.{ℕ, zero, suc, ◌-◌, ◌≤◌, ◌<◌, ◌≡◌, refl, Bool, true, false, length, ltb}
-use Rattle.std.proofs.Common.{sym, ◌∙◌, arith, sub-one, lt-ltb, le-ltb}
+use Rattle.std.specs.Prelude as std
+use Rattle.std.specs.Prelude.{Some, None, unwrap_or}
+use Rattle.std.proofs.Common.{sym, ◌∙◌, arith, lt-ltb, le-ltb}
 use Rattle.std.proofs.Math.Path.{ap}
 use mathlib.Core.List.{List, []}
 use Rattle.std.proofs.Math.Option.{Option, none, some}
 use Rattle.read_tokens.specs.declared.Mode.{Mode}
-use Rattle.read_tokens.specs.Token.{Lexeme}
 use Rattle.read_tokens.specs.Bounds.{text_bound}
 use Rattle.read_tokens.specs.Tokens.{lexemes, toks_of}
 use Rattle.grammar.specs.Refusal.{Refusal, refusal, refuse_if, refuse_at, ◌▸◌}
-use Rattle.read_syntax.specs.Machine.{Judged, fine, syntax, wide, judge, start, place_of}
+use Rattle.read_syntax.specs.Machine.{Judged, fine, syntax, wide, judge, start}
 use Rattle.read_syntax.specs.Reading.{too_long, offence, second, unruled, lefts_in, too_many, rules_from, refuses_text, rules_of}
 use Rattle.read_syntax.specs.declared.syntax.Found.{Found}
 use Rattle.read_syntax.specs.steps.Found.{found}
@@ -56,45 +57,46 @@ module _ (m : Mode) (s : List ℕ) (b : ℕ) (e : b ≡ text_bound m) (h : lengt
   abbrev offends : Option Refusal
   offends = offence (length s) (lexemes m s) (judge m 0 start (lexemes m s))
 
-  no_number : (j : Judged) → (found (offence (length s) (lexemes m s) j)).number ≡ 0 → offence (length s) (lexemes m s) j ≡ none
-  no_number fine z = refl
-  no_number (syntax k) z = absurd (omega arith)
-  no_number (wide k) z = absurd (omega arith)
+  no_offence : (j : Judged) → None ≡ found (offence (length s) (lexemes m s) j) → offence (length s) (lexemes m s) j ≡ none
+  no_offence fine z = refl
+  no_offence (syntax k) z = let y : ◌≡◌ {A = ℕ} 0 1 = cc in absurd (omega arith)
+  no_offence (wide k) z = let y : ◌≡◌ {A = ℕ} 0 1 = cc in absurd (omega arith)
 
-  some_number : (o : Option Refusal) (r : Option Refusal) → ((found o).number ≡ 0 → ⊥) → found o ≡ found (o ▸ r)
-  some_number none r f = absurd (f refl)
-  some_number (some x) r f = refl
+  first-found : (f : Found) (o : Option Refusal) (r : Option Refusal) → Some f ≡ found o → found o ≡ found (o ▸ r)
+  first-found f none r e = let y : ◌≡◌ {A = ℕ} 0 1 = cc in absurd (omega arith)
+  first-found f (some x) r e = refl
 
-  pub syntax-refuses : (f : Found) → f ≡ found offends → (f.number ≡ 0 → ⊥) → f ≡ found (scanned m s)
-  syntax-refuses f q n = q ∙ some_number offends rest (λ z. n (ap (λ (x : Found). x.number) q ∙ z)) ∙ ap found (sym short)
+  pub syntax-refuses : (f : Found) → Some f ≡ found offends → Some f ≡ found (scanned m s)
+  syntax-refuses f q = q ∙ first-found f offends rest q ∙ ap found (sym short)
 
-  module _ (f : Found) (q : f ≡ found offends) (n : f.number ≡ 0) where
+  module _ (q : None ≡ found offends) where
     clean : scanned m s ≡ rest
-    clean = short ∙ ap (λ (o : Option Refusal). o ▸ rest) (no_number (judge m 0 start (lexemes m s)) (sym (ap (λ (x : Found). x.number) q) ∙ n))
+    clean = short ∙ ap (λ (o : Option Refusal). o ▸ rest) (no_offence (judge m 0 start (lexemes m s)) q)
 
-    place-of : (o : Option ℕ) (k p : ℕ) (r : Option Refusal) → p ≡ placed o → (p ≡ 0 → ⊥) → found (some (refusal k (p - 1))) ≡ found (refuse_at k o ▸ r)
-    place-of none k p r g u = absurd (u g)
-    place-of (some x) k p r g u = let z : p - 1 ≡ x = omega (arith, g) in ap (λ (y : ℕ). found (some (refusal k y))) z
+    place-of : (o : Option ℕ) (k p : ℕ) (r : Option Refusal) → Some p ≡ placed o → found (some (refusal k p)) ≡ found (refuse_at k o ▸ r)
+    place-of none k p r g = let y : ◌≡◌ {A = ℕ} 0 1 = cc in absurd (omega arith)
+    place-of (some x) k p r g = ap (λ (y : ℕ). found (some (refusal k y))) (ap (λ (o : std.Option ℕ). unwrap_or o p) g)
 
-    no_place : (o : Option ℕ) (k p : ℕ) → p ≡ placed o → p ≡ 0 → refuse_at k o ≡ none
-    no_place none k p g u = refl
-    no_place (some x) k p g u = absurd (omega (arith, g, u))
+    no_place : (o : Option ℕ) (k : ℕ) → None ≡ placed o → refuse_at k o ≡ none
+    no_place none k g = refl
+    no_place (some x) k g = let y : ◌≡◌ {A = ℕ} 0 1 = cc in absurd (omega arith)
 
-    pub second-refuses : (p : ℕ) → p ≡ placed (second m [] (lexemes m s)) → (p ≡ 0 → ⊥) → found (some (refusal 4 (p - 1))) ≡ found (scanned m s)
+    pub second-refuses : (p : ℕ) → Some p ≡ placed (second m [] (lexemes m s)) → found (some (refusal 4 p)) ≡ found (scanned m s)
     unfolding rest
-    second-refuses p g u = place-of (second m [] (lexemes m s)) 4 p (refuse_at 5 (unruled (lefts_in (lexemes m s)) (lexemes m s))) g u ∙ ap found (sym clean)
+    second-refuses p g = place-of (second m [] (lexemes m s)) 4 p (refuse_at 5 (unruled (lefts_in (lexemes m s)) (lexemes m s))) g ∙ ap found (sym clean)
 
-    module _ (p : ℕ) (g : p ≡ placed (second m [] (lexemes m s))) (u : p ≡ 0) (x : ℕ) (v : x ≡ placed (unruled (lefts_in (lexemes m s)) (lexemes m s))) where
+    module _ (g : None ≡ placed (second m [] (lexemes m s))) where
       cleaner : scanned m s ≡ refuse_at 5 (unruled (lefts_in (lexemes m s)) (lexemes m s))
       unfolding rest
-      cleaner = clean ∙ ap (λ (o : Option Refusal). o ▸ refuse_at 5 (unruled (lefts_in (lexemes m s)) (lexemes m s))) (no_place (second m [] (lexemes m s)) 4 p g u)
+      cleaner = clean ∙ ap (λ (o : Option Refusal). o ▸ refuse_at 5 (unruled (lefts_in (lexemes m s)) (lexemes m s))) (no_place (second m [] (lexemes m s)) 4 g)
 
       or-none : (o : Option Refusal) → found (o ▸ none) ≡ found o
       or-none none = refl
       or-none (some r) = refl
 
-      pub unruled-refuses : (x ≡ 0 → ⊥) → found (some (refusal 5 (x - 1))) ≡ found (scanned m s)
-      unruled-refuses w = place-of (unruled (lefts_in (lexemes m s)) (lexemes m s)) 5 x none v w ∙ or-none (refuse_at 5 (unruled (lefts_in (lexemes m s)) (lexemes m s))) ∙ ap found (sym cleaner)
+      pub unruled-refuses : (p : ℕ) → Some p ≡ placed (unruled (lefts_in (lexemes m s)) (lexemes m s)) → found (some (refusal 5 p)) ≡ found (scanned m s)
+      unruled-refuses p v =
+          place-of (unruled (lefts_in (lexemes m s)) (lexemes m s)) 5 p none v ∙ or-none (refuse_at 5 (unruled (lefts_in (lexemes m s)) (lexemes m s))) ∙ ap found (sym cleaner)
 
-      pub none-refuses : x ≡ 0 → found none ≡ found (scanned m s)
-      none-refuses w = ap found (sym (cleaner ∙ no_place (unruled (lefts_in (lexemes m s)) (lexemes m s)) 5 x v w))
+      pub none-refuses : None ≡ placed (unruled (lefts_in (lexemes m s)) (lexemes m s)) → None ≡ found (scanned m s)
+      none-refuses v = ap found (sym (cleaner ∙ no_place (unruled (lefts_in (lexemes m s)) (lexemes m s)) 5 v))

@@ -1,4 +1,6 @@
 -- A text that refusals 1 to 5 let through is a grammar, whose counts decide on 6. Assumes nothing.
+use Rattle.std.specs.Prelude as std
+use Rattle.std.specs.Prelude.{Some, None, unwrap_or}
 use Rattle.std.specs.Prelude.{ℕ, ◌*◌, ◌≤◌, ◌<◌, ◌≡◌, refl, Bool, true, false, cond, ltb}
 use Rattle.std.proofs.Math.Path.{sym, ap, subst}
 use Rattle.std.proofs.Common.{◌∙◌, lt-ltb, le-ltb, ltb-false}
@@ -38,23 +40,23 @@ use Rattle.prepare.specs.Reads.{verdict_of}
 use Rattle.prepare.specs.Reads.{read_by}
 use Rattle.prepare.specs.steps.Loads.{read_up_to6, Loads}
 
--- ── number 0 is none ──
-if-step : (b : Bool) (k p : ℕ) (r : Option Refusal) → (k ≡ 0 → ⊥) → (found (refuse_if b k p ▸ r)).number ≡ 0 → (b ≡ false) × ((found r).number ≡ 0)
-if-step true k p r f z = absurd (f z)
-if-step false k p r f z = (refl, z)
+-- ── what refuses nothing ──
+if-step : (b : Bool) (k p : ℕ) (r : Option Refusal) → found (refuse_if b k p ▸ r) ≡ None → (b ≡ false) × (found r ≡ None)
+if-step true k p r z = let y : ◌≡◌ {A = ℕ} 0 1 = cc in absurd (omega arith)
+if-step false k p r z = (refl, z)
 
-judge-step : (n : ℕ) (xs : List Lexeme) (j : Judged) (r : Option Refusal) → (found (offence n xs j ▸ r)).number ≡ 0 → (j ≡ fine) × ((found r).number ≡ 0)
+judge-step : (n : ℕ) (xs : List Lexeme) (j : Judged) (r : Option Refusal) → found (offence n xs j ▸ r) ≡ None → (j ≡ fine) × (found r ≡ None)
 judge-step n xs fine r z = (refl, z)
-judge-step n xs (syntax k) r z = absurd (omega arith)
-judge-step n xs (wide k) r z = absurd (omega arith)
+judge-step n xs (syntax k) r z = let y : ◌≡◌ {A = ℕ} 0 1 = cc in absurd (omega arith)
+judge-step n xs (wide k) r z = let y : ◌≡◌ {A = ℕ} 0 1 = cc in absurd (omega arith)
 
-at-step : (k : ℕ) (o : Option ℕ) (r : Option Refusal) → (k ≡ 0 → ⊥) → (found (refuse_at k o ▸ r)).number ≡ 0 → (o ≡ none) × ((found r).number ≡ 0)
-at-step k none r f z = (refl, z)
-at-step k (some p) r f z = absurd (f z)
+at-step : (k : ℕ) (o : Option ℕ) (r : Option Refusal) → found (refuse_at k o ▸ r) ≡ None → (o ≡ none) × (found r ≡ None)
+at-step k none r z = (refl, z)
+at-step k (some p) r z = let y : ◌≡◌ {A = ℕ} 0 1 = cc in absurd (omega arith)
 
-at_last : (k : ℕ) (o : Option ℕ) → (k ≡ 0 → ⊥) → (found (refuse_at k o)).number ≡ 0 → o ≡ none
-at_last k none f z = refl
-at_last k (some p) f z = absurd (f z)
+at_last : (k : ℕ) (o : Option ℕ) → found (refuse_at k o) ≡ None → o ≡ none
+at_last k none z = refl
+at_last k (some p) z = let y : ◌≡◌ {A = ℕ} 0 1 = cc in absurd (omega arith)
 
 -- what 1 to 5 let through
 pub record Clean (m : Mode) (s : List ℕ) : Type 0 where
@@ -73,12 +75,12 @@ module _ (m : Mode) (s : List ℕ) where
   abbrev r4 : Option Refusal
   r4 = refuse_at 4 (second m [] xs) ▸ r5
 
-  pub clean : (found (scanned m s)).number ≡ 0 → Clean m s
+  pub clean : found (scanned m s) ≡ None → Clean m s
   clean z =
-      let a = if-step (ltb (text_bound m) (length s)) 1 (text_bound m) (offence (length s) xs (judge m 0 start xs) ▸ r4) (λ e. omega arith) z in
+      let a = if-step (ltb (text_bound m) (length s)) 1 (text_bound m) (offence (length s) xs (judge m 0 start xs) ▸ r4) z in
       let b = judge-step (length s) xs (judge m 0 start xs) r4 a.1 in
-      let c = at-step 4 (second m [] xs) r5 (λ e. omega arith) b.1 in
-      record { short = a.0; bounded = b.0; once = c.0; ruled = at_last 5 (unruled (lefts_in xs) xs) (λ e. omega arith) c.1 }
+      let c = at-step 4 (second m [] xs) r5 b.1 in
+      record { short = a.0; bounded = b.0; once = c.0; ruled = at_last 5 (unruled (lefts_in xs) xs) c.1 }
 
   module _ (c : Clean m s) where
     pub scanned-none : scanned m s ≡ none
@@ -181,20 +183,18 @@ refuses-by : (m : Mode) (s : List ℕ) (n p : ℕ) → refuses_text m s ≡ some
 refuses-by m s n p e = record { answer = refused-is m s n p e; not-accepted = λ z. some-none (refusal n p) (sym e ∙ z) }
 
 -- by 1 to 5
-pub early : (m : Mode) (s : List ℕ) (f : Found) → f ≡ found (scanned m s) → (f.number ≡ 0 → ⊥) → Refuses m s f.number f.place
-early m s f e n = go (scanned m s) refl
+pub early : (m : Mode) (s : List ℕ) (f : Found) → Some f ≡ found (scanned m s) → Refuses m s f.number f.place
+early m s f e = go (scanned m s) refl
   where
     go : (o : Option Refusal) → scanned m s ≡ o → Refuses m s f.number f.place
-    go none q = absurd (n (ap (λ (x : Found). x.number) (e ∙ ap found q)))
+    go none q = let y : ◌≡◌ {A = ℕ} 0 1 = (let z = e ∙ ap found q in cc) in absurd (omega arith)
     go (some x) q =
         let d : refuses_text m s ≡ some x = text-by-scan m s ∙ ap (λ (o : Option Refusal). o ▸ too_many m (rules_of m s)) q in
-        subst (λ (y : Found). Refuses m s y.number y.place) (sym (e ∙ ap found q)) (refuses-by m s x.number x.place d)
+        let g : f ≡ record { number = x.number; place = x.place } = ap (λ (o : std.Option Found). unwrap_or o f) (e ∙ ap found q) in
+        subst (λ (y : Found). Refuses m s y.number y.place) (sym g) (refuses-by m s x.number x.place d)
 
 pub loads-refused : {m : Mode} {s t : List ℕ} {r : Counted} {n p : ℕ} → r ≡ refused n p → Refuses m s n p → Loads m s t r
 loads-refused q f = record { answer = q ∙ f.answer; table = λ e. absurd (f.not-accepted e) }
-
-pub clean-by : (m : Mode) (s : List ℕ) (f : Found) → f ≡ found (scanned m s) → f.number ≡ 0 → Clean m s
-clean-by m s f e z = clean m s (sym (ap (λ (x : Found). x.number) e) ∙ z)
 
 -- by 6, or accepted
 module _ (m : Mode) (s old new : List ℕ) (cl : Clean m s) (k : Counts) (b : Built m s old new k) (long : length old ≡ table_words) where

@@ -1,4 +1,5 @@
 -- Refusals 1 to 6, then 7, then 8: the answer of `read`. Assumes nothing.
+use Rattle.std.specs.Prelude.{None}
 use Rattle.std.specs.Prelude.{ℕ, ◌≤◌, ◌<◌, ◌≡◌, Bool, true, false, List, map, length}
 use Rattle.std.proofs.Math.Path.{refl, ap}
 use Rattle.std.proofs.Common.{sym, ◌∙◌, subst, true≢false, arith}
@@ -47,7 +48,7 @@ split (some r) b e = absurd (some-none r e)
 -- a text that 1 to 6 let through, with its concrete syntax
 pub grammar-read : (m : Mode) (s : List ℕ) → refuses_text m s ≡ none → (g : Rules) × Sound m s g × (trees g ≡ rules_of m s)
 grammar-read m s ok =
-    grammar-of m s (clean m s (ap (λ (o : Option Refusal). (found o).number) (split (scanned m s) (too_many m (rules_of m s)) (sym (text-by-scan m s) ∙ ok)).0))
+    grammar-of m s (clean m s (ap found (split (scanned m s) (too_many m (rules_of m s)) (sym (text-by-scan m s) ∙ ok)).0))
 
 at_none : (o : Option ℕ) → refuse_at 8 o ≡ none → o ≡ none
 at_none none e = refl
@@ -183,8 +184,8 @@ module _ (m : Mode) (s : List ℕ) (e : refuses m s ≡ none) where
   unfolding rest
   none-by-text = (split (refuses_text m s) (too_large (bodies m s) ▸ looping (bodies m s)) (sym (as-rest m s) ∙ e)).0
 
-  pub none-by-scan : (found (scanned m s)).number ≡ 0
-  none-by-scan = ap (λ (o : Option Refusal). (found o).number) (split (scanned m s) (too_many m (rules_of m s)) (sym (text-by-scan m s) ∙ none-by-text)).0
+  pub none-by-scan : found (scanned m s) ≡ None
+  none-by-scan = ap found (split (scanned m s) (too_many m (rules_of m s)) (sym (text-by-scan m s) ∙ none-by-text)).0
 
 pub with-own : {m : Mode} {s t out : List ℕ} {r : Counted} → PlainOnly m s out r → Holds t (numbered (rules_of m s)) → Plainly m s t out r
 with-own p h = record { answer = p.answer; clear = p.clear; table = λ _. h; plain = p.plain }

@@ -6,7 +6,6 @@ use Rattle.grammar.specs.Syntax.{Rules}
 use Rattle.grammar.specs.Trees.{trees}
 use Rattle.grammar.specs.Numbers.{Grammar, numbered}
 use Rattle.grammar_table.specs.Holds.{Holds}
-use Rattle.grammar.specs.Refusal.{refusal}
 use Rattle.read_grammar.specs.steps.Promises.{Sound}
 use Rattle.lake_rules.specs.Analysis.{analysis}
 use Rattle.lake_step_one.specs.Proper.{middle}

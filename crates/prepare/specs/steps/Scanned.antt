@@ -2,7 +2,6 @@
 use Rattle.std.specs.Prelude.{ℕ, List, [], length}
 use Rattle.std.proofs.Math.Option.{Option}
 use Rattle.read_tokens.specs.declared.Mode.{Mode}
-use Rattle.read_tokens.specs.Token.{Lexeme}
 use Rattle.read_tokens.specs.Tokens.{lexemes}
 use Rattle.grammar.specs.Refusal.{Refusal, refuse_at, ◌▸◌}
 use Rattle.read_syntax.specs.Machine.{judge, start}

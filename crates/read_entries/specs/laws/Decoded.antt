@@ -1,13 +1,14 @@
 -- The words that are compared and stored one by one are those of the terminal's record (02, par. 3). Assumes nothing.
-use Rattle.std.specs.Prelude.{ℕ, zero, suc, ◌+◌, ◌-◌, ◌≤◌, ◌≡◌, refl, Bool, cond, eqb, drop}
+use Rattle.std.specs.Prelude.{ℕ, zero, suc, ◌+◌, ◌-◌, ◌≤◌, ◌≡◌, refl, Bool, drop}
 use Rattle.std.proofs.Math.Path.{sym, ap}
-use Rattle.std.proofs.Common.{◌∙◌, arith, add-one, length-append, eq-eqb, ne_eqb}
-use Rattle.std.proofs.Math.Bool.{true, false}
+use Rattle.std.proofs.Common.{Bor, ◌∙◌, arith, add-one, length-append}
 use mathlib.Core.List.{List, ◌∷◌, ◌++◌, map, append-nil}
 use Rattle.std.proofs.Math.ListN.{length, replicate}
 use Rattle.std.proofs.lemmas.List.{length-map, length-replicate}
 use Rattle.std.proofs.lemmas.List.Edits.{sets-eq}
 use Rattle.read_tokens.specs.declared.Mode.{Mode}
+use Rattle.read_tokens.specs.declared.Kind.{Kind}
+use Rattle.read_tokens.specs.declared.Kind.TheVariants as kinds
 use Rattle.read_tokens.specs.Chars.{char}
 use Rattle.read_tokens.specs.steps.Code.{literal_from, class_at}
 use Rattle.read_tokens.specs.laws.Classes.{at-256}
@@ -15,7 +16,9 @@ use Rattle.grammar_table.specs.Table.{terminal_words}
 use Rattle.grammar_table.specs.steps.Rows.{cap}
 use Rattle.grammar_table.specs.laws.Caps.{cap-le}
 use Rattle.read_entries.specs.steps.Entries.{leaf_row, bit_of, leaf_at}
-use Rattle.read_entries.specs.steps.Leaves.{zeros, spelled, content_words, leaf_words}
+use Rattle.read_entries.specs.declared.leaves.Leaf.{Leaf}
+use Rattle.read_entries.specs.declared.leaves.Leaf.TheVariants.{Any, Literal, Class}
+use Rattle.read_entries.specs.steps.Leaves.{zeros, spelled, Stands, content_of, words_of}
 
 -- ── rows ──
 drop-zeros : (n m : ℕ) → n ≤ m → drop n (zeros m) ≡ zeros (m - n)
@@ -37,53 +40,59 @@ literal-length zero s p = refl
 literal-length (suc n) s p = ap suc (literal-length n s (p + (char (drop p s)).width))
 
 -- ── which record ──
-module _ (m : Mode) (s : List ℕ) (kind start size : ℕ) where
-  pub decoded-literal : kind ≡ 4 → (none : List Bool) → leaf_words s 1 (cap 256 size) (start + 1) none ≡ leaf_at m s kind start size
-  unfolding leaf_at leaf_words content_words spelled
-  decoded-literal e none =
-      ap (λ (x : ℕ). 1 ∷ cap 256 size ∷ (literal_from (cap 256 size) s x ++ zeros (256 - cap 256 size))) (add-one start)
+module _ (m : Mode) (s : List ℕ) (kind : Kind) (start size : ℕ) where
+  pub decoded-literal : kind ≡ kinds.Literal → (text : Bor (List ℕ)) → text.now ≡ s → words_of (Literal text (start + 1) (cap 256 size)) ≡ leaf_at m s kind start size
+  unfolding leaf_at words_of spelled
+  decoded-literal e text f =
+      ap (λ (l : List ℕ). 1 ∷ cap 256 size ∷ (literal_from (cap 256 size) l (start + 1) ++ zeros (256 - cap 256 size))) f
+      ∙ ap (λ (x : ℕ). 1 ∷ cap 256 size ∷ (literal_from (cap 256 size) s x ++ zeros (256 - cap 256 size))) (add-one start)
       ∙ ap (λ (x : ℕ). 1 ∷ cap 256 size ∷ (literal_from (cap 256 size) s (suc start) ++ zeros (256 - x))) (sym (literal-length (cap 256 size) s (suc start)))
       ∙ sym (decoded-row 1 (cap 256 size) (literal_from (cap 256 size) s (suc start)) (omega (arith, literal-length (cap 256 size) s (suc start), cap-le size 256)))
-      ∙ ap (λ (b : Bool). elim b [
-        | true ↦ leaf_row 1 (cap 256 size) (literal_from (cap 256 size) s (suc start))
-        | false ↦ elim (eqb kind 5) [ true ↦ leaf_row 2 256 (map bit_of (class_at m s start).marks) | false ↦ replicate terminal_words 0 ]
-      ]) (sym (eq-eqb kind 4 e))
-
-  not-literal : (kind ≡ 4 → ⊥) → elim (eqb kind 5) [ true ↦ leaf_row 2 256 (map bit_of (class_at m s start).marks) | false ↦ replicate terminal_words 0 ] ≡ leaf_at m s kind start size
-  unfolding leaf_at
-  not-literal e =
-      ap (λ (b : Bool). elim b [
-        | true ↦ leaf_row 1 (cap 256 size) (literal_from (cap 256 size) s (suc start))
-        | false ↦ elim (eqb kind 5) [ true ↦ leaf_row 2 256 (map bit_of (class_at m s start).marks) | false ↦ replicate terminal_words 0 ]
-      ]) (sym (ne_eqb kind 4 e))
+      ∙ ap (λ (k : Kind). leaf_at m s k start size) (sym e)
 
   marks-long : length (map bit_of (class_at m s start).marks) ≡ 256
   marks-long = length-map (class_at m s start).marks bit_of ∙ at-256 m s start
 
-  pub decoded-class : kind ≡ 5 → (from : ℕ) (marks : List Bool) → marks ≡ (class_at m s start).marks → leaf_words s 2 256 from marks ≡ leaf_at m s kind start size
-  unfolding leaf_words content_words
-  decoded-class e from marks f =
+  pub decoded-class : kind ≡ kinds.Class → (marks : Bor (List Bool)) → marks.now ≡ (class_at m s start).marks → words_of (Class marks) ≡ leaf_at m s kind start size
+  unfolding leaf_at words_of
+  decoded-class e marks f =
       ap (λ (l : List Bool). 2 ∷ 256 ∷ map bit_of l) f
       ∙ ap (λ (l : List ℕ). 2 ∷ 256 ∷ l) (sym (append-nil (map bit_of (class_at m s start).marks)))
       ∙ ap (λ (x : ℕ). 2 ∷ 256 ∷ (map bit_of (class_at m s start).marks ++ zeros x)) (let g : 0 ≡ 256 - length (map bit_of (class_at m s start).marks) = omega (arith, marks-long) in g)
       ∙ sym (decoded-row 2 256 (map bit_of (class_at m s start).marks) (omega (arith, marks-long)))
-      ∙ ap (λ (b : Bool). elim b [ true ↦ leaf_row 2 256 (map bit_of (class_at m s start).marks) | false ↦ replicate terminal_words 0 ]) (sym (eq-eqb kind 5 e))
-      ∙ not-literal (λ g. omega arith)
+      ∙ ap (λ (k : Kind). leaf_at m s k start size) (sym e)
 
-  pub decoded-other : (kind ≡ 4 → ⊥) → (kind ≡ 5 → ⊥) → (from : ℕ) (none : List Bool) → leaf_words s 0 0 from none ≡ leaf_at m s kind start size
-  unfolding leaf_words content_words spelled literal_from
-  decoded-other a e from none =
-      ap (λ (b : Bool). elim b [ true ↦ leaf_row 2 256 (map bit_of (class_at m s start).marks) | false ↦ replicate terminal_words 0 ]) (sym (ne_eqb kind 5 e)) ∙ not-literal a
+pub decoded-other : (m : Mode) (s : List ℕ) (kind : Kind) (start size : ℕ) → (kind ≡ kinds.Literal → ⊥) → (kind ≡ kinds.Class → ⊥) → words_of Any ≡ leaf_at m s kind start size
+unfolding leaf_at words_of
+decoded-other m s kinds.Literal start size a e = absurd (a refl)
+decoded-other m s kinds.Class start size a e = absurd (e refl)
+decoded-other m s kinds.End start size a e = refl
+decoded-other m s kinds.Name start size a e = refl
+decoded-other m s kinds.Lake start size a e = refl
+decoded-other m s kinds.Any start size a e = refl
+decoded-other m s kinds.Amp start size a e = refl
+decoded-other m s kinds.Bang start size a e = refl
+decoded-other m s kinds.Query start size a e = refl
+decoded-other m s kinds.Asterisk start size a e = refl
+decoded-other m s kinds.Cross start size a e = refl
+decoded-other m s kinds.Arrow start size a e = refl
+decoded-other m s kinds.Slash start size a e = refl
+decoded-other m s kinds.Opens start size a e = refl
+decoded-other m s kinds.Closes start size a e = refl
+decoded-other m s kinds.Bad start size a e = refl
 
-pub decoded-any : (s : List ℕ) (from : ℕ) (none : List Bool) → leaf_words s 0 0 from none ≡ replicate terminal_words 0
-unfolding leaf_words content_words spelled literal_from
-decoded-any s from none = refl
+pub decoded-any : words_of Any ≡ replicate terminal_words 0
+unfolding words_of
+decoded-any = refl
 
 -- a record has 258 words
-pub words_long : (s : List ℕ) (kind n from : ℕ) (marks : List Bool) → n ≤ 256 → length marks ≡ 256 → length (leaf_words s kind n from marks) ≡ 258
-unfolding leaf_words content_words spelled
-words_long s kind n from marks h e = by (eqb kind 2)
-  where
-    by : (b : Bool) → length (kind ∷ n ∷ cond b (map bit_of marks) (literal_from n s from ++ zeros (256 - n))) ≡ 258
-    by true = ap (λ (x : ℕ). suc (suc x)) (length-map marks bit_of ∙ e)
-    by false = omega (arith, length-append (literal_from n s from) (zeros (256 - n)), literal-length n s from, length-replicate {A = ℕ} (256 - n) 0)
+pub content_long : (l : Leaf) → Stands l → length (content_of l) ≡ 256
+unfolding spelled
+content_long Any h = length-replicate {A = ℕ} 256 0
+content_long (Literal text from n) h =
+    omega (arith, length-append (literal_from n text.now from) (zeros (256 - n)), literal-length n text.now from, length-replicate {A = ℕ} (256 - n) 0, h.2)
+content_long (Class marks) h = length-map marks.now bit_of ∙ h
+
+pub words_long : (l : Leaf) → Stands l → length (words_of l) ≡ 258
+unfolding words_of
+words_long l h = ap (λ (x : ℕ). suc (suc x)) (content_long l h)

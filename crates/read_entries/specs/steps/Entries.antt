@@ -1,8 +1,10 @@
 -- A symbol and a terminal as the words of a record of the table (grammar, Table.antt), and what is added to the table by one store.
 -- Assumes nothing: these are definitions.
-use Rattle.std.specs.Prelude.{ℕ, zero, suc, ◌+◌, ◌-◌, ◌*◌, ◌≤◌, ◌≡◌, Bool, true, false, cond, List, [], ◌∷◌, map, eqb, ltb, length, get_or, set, replicate}
+use Rattle.std.specs.Prelude.{Option, Some, None, ℕ, zero, suc, ◌+◌, ◌*◌, ◌≤◌, ◌≡◌, Bool, true, false, List, [], ◌∷◌, map, ltb, length, get_or, set, replicate}
 use Rattle.std.proofs.lemmas.List.Edits.{sets}
 use Rattle.read_tokens.specs.declared.Mode.{Mode}
+use Rattle.read_tokens.specs.declared.Kind.{Kind}
+use Rattle.read_tokens.specs.declared.Kind.TheVariants.{Lake, Literal, Class, Amp, Bang, Query, Asterisk, Cross}
 use Rattle.read_tokens.specs.Token.{Symbol, name, lake, Leaf, any, literal, class}
 use Rattle.read_tokens.specs.steps.Code.{literal_from, class_at}
 use Rattle.grammar_table.specs.Table.{expressions_at, expression_words, terminal_words, symbol_words, body_at, words_from, marks_from, symbol_by}
@@ -27,10 +29,11 @@ unfoldable pub symbol_from : List ℕ → ℕ → Symbol
 symbol_from t b = symbol_by (get_or t (b + 0) 0) (words_from t (b + 4) (get_or t (b + 3) 0))
 
 -- the record of the symbol token that starts at a place: a lake's name stands behind its `<`
-abbrev pub lake_of : ℕ → ℕ
-lake_of kind = cond (eqb kind 2) 1 0
+abbrev pub lake_of : Kind → ℕ
+lake_of Lake = 1
+lake_of _ = 0
 
-abbrev pub symbol_at : List ℕ → ℕ → ℕ → ℕ → List ℕ
+abbrev pub symbol_at : List ℕ → Kind → ℕ → ℕ → List ℕ
 symbol_at s kind start size = symbol_row (lake_of kind) (words_from s (start + lake_of kind) size)
 
 -- ── terminals ──
@@ -60,12 +63,10 @@ unfoldable pub leaf_from : List ℕ → ℕ → Leaf
 leaf_from t b = leaf_kind (get_or t (b + 0) 0) t b
 
 -- the record of the terminal's token of this kind that starts at a place
-unfoldable pub leaf_at : Mode → List ℕ → ℕ → ℕ → ℕ → List ℕ
-leaf_at m s kind start size =
-    elim (eqb kind 4) [
-      | true ↦ leaf_row 1 (cap 256 size) (literal_from (cap 256 size) s (suc start))
-      | false ↦ elim (eqb kind 5) [ true ↦ leaf_row 2 256 (map bit_of (class_at m s start).marks) | false ↦ replicate terminal_words 0 ]
-    ]
+unfoldable pub leaf_at : Mode → List ℕ → Kind → ℕ → ℕ → List ℕ
+leaf_at m s Literal start size = leaf_row 1 (cap 256 size) (literal_from (cap 256 size) s (suc start))
+leaf_at m s Class start size = leaf_row 2 256 (map bit_of (class_at m s start).marks)
+leaf_at m s _ start size = replicate terminal_words 0
 
 -- ── expressions ──
 abbrev pub push_by : Bool → ℕ → ℕ → ℕ → ℕ → List ℕ → List ℕ
@@ -84,9 +85,14 @@ bodied_by false k t = t
 unfoldable pub bodied : ℕ → List ℕ → List ℕ
 bodied k t = bodied_by (ltb k 64) k t
 
--- kinds of expressions by the kind of their token; 0: no such token
-unfoldable pub prefix_op : ℕ → ℕ
-prefix_op kind = cond (eqb kind 6) 7 (cond (eqb kind 7) 8 0)
+-- kinds of expressions by the kind of their token
+abbrev pub prefix_op : Kind → Option ℕ
+prefix_op Amp = Some 7
+prefix_op Bang = Some 8
+prefix_op _ = None
 
-unfoldable pub suffix_op : ℕ → ℕ
-suffix_op kind = cond (eqb kind 8) 4 (cond (eqb kind 9) 5 (cond (eqb kind 10) 6 0))
+abbrev pub suffix_op : Kind → Option ℕ
+suffix_op Query = Some 4
+suffix_op Asterisk = Some 5
+suffix_op Cross = Some 6
+suffix_op _ = None

@@ -1,17 +1,15 @@
 -- A symbol and a terminal are read again from the words of their records; equal ones by their bytes are equal. Assumes nothing.
-use Rattle.std.specs.Prelude.{ℕ, zero, suc, ◌+◌, ◌-◌, ◌*◌, ◌≤◌, ◌<◌, ◌≡◌, refl, Bool, true, false, not, ◌&&◌, List, [], ◌∷◌, map, ◌⊎◌, eqb, set, replicate}
-use Rattle.std.proofs.Common.{sym, ◌∙◌, subst, inl, inr, length-set, get_or-set_same, get_or-set_other}
+use Rattle.std.specs.Prelude.{ℕ, suc, ◌+◌, ◌≤◌, ◌<◌, ◌≡◌, refl, Bool, true, false, not, List, [], ◌∷◌, map, eqb, set, replicate}
+use Rattle.std.proofs.Common.{sym, ◌∙◌, inl}
 use Rattle.std.proofs.Math.Path.{ap}
 use Rattle.std.proofs.lemmas.Bool.{false≢true}
 use native.Mathlib.Omega.{arith}
-use Rattle.std.proofs.Math.ListN.{length, get_or, get_or-map}
+use Rattle.std.proofs.Math.ListN.{length, get_or}
 use Rattle.std.proofs.lemmas.List.{length-map}
-use Rattle.std.proofs.lemmas.List.Edits.{sets}
-use Rattle.base_facts.specs.laws.Bools.{and_both, and_left, and_right}
 use Rattle.read_tokens.specs.Token.{Symbol, name, lake, Leaf, any, literal, class}
-use Rattle.grammar.specs.Same.{same_bytes, same_mark, same_marks, same_symbol, same_leaf}
+use Rattle.grammar.specs.Same.{same_symbol}
 use Rattle.grammar_table.specs.Table.{terminal_words, symbol_words, symbol_key, terminal_key, words_from, marks_from, symbol_by}
-use Rattle.grammar_table.specs.laws.Words.{words-ext, sets-out, sets-in, no_more}
+use Rattle.grammar_table.specs.laws.Words.{sets-out, sets-in, no_more}
 use Rattle.grammar.specs.laws.Same.{bytes-sound, bytes-refl}
 use Rattle.grammar_table.specs.laws.Rows.{At}
 use Rattle.read_entries.specs.steps.Entries.{symbol_row, symbol_record, FitSymbol, symbol_from, leaf_row, bit_of, leaf_record, FitLeaf, leaf_kind, leaf_from}

@@ -1,27 +1,30 @@
 -- The reading functions' promises, put together: one law for each way through the code. Assumes nothing.
-use Rattle.std.specs.Prelude.{ℕ, zero, suc, ◌+◌, ◌-◌, ◌*◌, ◌≤◌, ◌<◌, ◌≡◌, refl, Bool, true, false, not, ◌⊎◌, eqb, length, get_or}
-use Rattle.std.proofs.Common.{sym, ◌∙◌, ⊎_elim, arith, eq-or-lt_of_le}
+use Rattle.std.specs.Prelude.{ℕ, ◌+◌, ◌-◌, ◌≤◌, ◌<◌, ◌≡◌, refl, true, false, length, get_or}
+use Rattle.std.proofs.Common.{sym, ◌∙◌, arith}
 use Rattle.std.proofs.Math.Path.{ap, subst}
 use mathlib.Core.List.{List, [], ◌∷◌}
-use Rattle.std.proofs.Math.Option.{Option, none, some}
+use Rattle.std.proofs.Math.Option.{some}
 use Rattle.read_tokens.specs.declared.Mode.{Mode}
+use Rattle.std.specs.Prelude.{Some, None}
+use Rattle.read_tokens.specs.declared.Kind.{Kind}
+use Rattle.read_tokens.specs.declared.Kind.TheVariants.{End, Slash, Opens}
 use Rattle.read_tokens.specs.declared.Token.{Token}
-use Rattle.read_tokens.specs.Token.{Symbol, Leaf, Prefix, amp, bang, Suffix, query, asterisk, cross, Tok, symbol, leaf, pre, suf, arrow, slash, opens, closes, bad}
+use Rattle.read_tokens.specs.Token.{Symbol, Prefix, amp, bang, Suffix, query, asterisk, cross, Tok, symbol, leaf, pre, suf, slash, opens, closes}
 use Rattle.read_tokens.specs.Tokens.{token_at}
-use Rattle.read_tokens.specs.steps.Code.{kind_of, size_of, coded}
-use Rattle.grammar.specs.Exp.{Exp, sym as symb, ter}
-use Rattle.grammar.specs.Parts.{Part, sequence, choice, option, repeat, repeat1, affirms, denies}
+use Rattle.read_tokens.specs.steps.Code.{kind_of, kind_number, symbolic, coded}
+use Rattle.grammar.specs.Exp.{Exp}
+use Rattle.grammar.specs.Parts.{sequence, choice, option, repeat, repeat1, affirms, denies}
 use Rattle.grammar_table.specs.Table.{part_by}
-use Rattle.grammar.specs.Syntax.{Choice, Sequence, Prefixed, Suffixed, Primary, one, or, first, next, bare, with, only, then, psym, term, group}
+use Rattle.grammar.specs.Syntax.{Choice, Sequence, Prefixed, Suffixed, Primary, one, or, first, next, only, then}
 use Rattle.grammar.specs.Trees.{prefixed, suffixed, tree_c, tree_s, tree_p, tree_f, tree_q}
-use Rattle.read_syntax.specs.Reader.{Res, ok, is_arrow, begins, suf_by, choice_p, choice_r, seq_p, seq_r, pref_p, prim_p}
+use Rattle.read_syntax.specs.Reader.{ok, begins, suf_by, choice_p, choice_r, seq_p, seq_r, pref_p, prim_p}
 use Rattle.read_entries.specs.steps.Entries.{pushed, prefix_op, suffix_op}
-use Rattle.read_grammar.specs.steps.Lay.{St, st, joined, under, lay, Rel}
+use Rattle.read_grammar.specs.steps.Lay.{St, joined, under, lay, Rel}
 use Rattle.read_grammar.specs.steps.Promises.{toks_at, Over, Occurs, Matches, Grown, Suffixes}
-use Rattle.read_grammar.specs.laws.Grows.{Grows, lay-grows}
+use Rattle.read_grammar.specs.laws.Grows.{lay-grows}
 use Rattle.read_grammar.specs.laws.Stores.{rel-under, rel_join}
-use Rattle.read_grammar.specs.laws.Places.{kind_l, kind-is, the-token, token-is, toks_more, next-over, next-long, start-within, end-over, no-toks, is-symbol, is_leaf, symbol-room}
-use Rattle.read_grammar.specs.laws.Reads.{same_ok, choice-begins, choice-turn, choice-halt, seq-begins, seq-turn, seq-halt, pre_op, suf_op, pre-inv, suf-inv, suf_by-no, pref-pre, pref-bare, prim-open, prim-symbol, prim-leaf, prim-none, prim-other, is-slash, is-opens}
+use Rattle.read_grammar.specs.laws.Places.{kind_l, kind-is, the-token, toks_more, next-over, next-long, start-within, end-over, no-toks, is-symbol, leafy, is_leaf, symbol-room}
+use Rattle.read_grammar.specs.laws.Reads.{same_ok, choice-begins, choice-turn, choice-halt, seq-begins, seq-turn, seq-halt, pre_op, suf_op, pre-inv, suf-inv, suf_by-no, pref-pre, pref-bare, prim-open, prim-symbol, prim-leaf, prim-none, prim-other, NoPart, is-slash, is-opens, none-some}
 
 -- ── choices ──
 pub record LoopC (m : Mode) (s : List ℕ) (i₀ : ℕ) (t₁ : List ℕ) (i : ℕ) (t : List ℕ) : Type 0 where
@@ -39,7 +42,7 @@ rel-sequence : (t t₂ t₃ : List ℕ) (a : ℕ) (e g : Exp Symbol) (w : St) �
 unfolding part_by
 rel-sequence t t₂ t₃ a e g w h p q r = subst (λ (x : List ℕ). Rel x (joined sequence (lay e w) (lay g (lay e w)))) (sym p) (rel_join 2 sequence (λ x y. refl) t t₂ a (lay e w) (lay g (lay e w)) h q r (lay-grows g (lay e w)))
 
-pub more-c : {m : Mode} {s : List ℕ} {i₀ i nx to a : ℕ} {t₁ t t₂ t₃ : List ℕ} → LoopC m s i₀ t₁ i t → kind_l (toks_at m s i) ≡ 12 → Over m s i nx → a ≡ get_or t 2 0
+pub more-c : {m : Mode} {s : List ℕ} {i₀ i nx to a : ℕ} {t₁ t t₂ t₃ : List ℕ} → LoopC m s i₀ t₁ i t → kind_l (toks_at m s i) ≡ Slash → Over m s i nx → a ≡ get_or t 2 0
     → Grown seq_p tree_s m s nx to t t₂ → t₃ ≡ pushed 3 (a - 1) (get_or t₂ 2 0 - 1) t₂ → LoopC m s i₀ t₁ to t₃
 unfolding lay tree_c
 more-c {m} {s} {i₀} {i} {nx} {to} {a} {t₁} {t} {t₂} {t₃} l k o h q p = record {
@@ -56,7 +59,7 @@ more-c {m} {s} {i₀} {i} {nx} {to} {a} {t₁} {t} {t₂} {t₃} l k o h q p = r
       );
 }
 
-pub end-c : {m : Mode} {s : List ℕ} {at i₀ i : ℕ} {old t₁ t : List ℕ} → Grown seq_p tree_s m s at i₀ old t₁ → LoopC m s i₀ t₁ i t → i₀ ≤ i → i ≤ length s → (kind_l (toks_at m s i) ≡ 12 → ⊥)
+pub end-c : {m : Mode} {s : List ℕ} {at i₀ i : ℕ} {old t₁ t : List ℕ} → Grown seq_p tree_s m s at i₀ old t₁ → LoopC m s i₀ t₁ i t → i₀ ≤ i → i ≤ length s → (kind_l (toks_at m s i) ≡ Slash → ⊥)
     → Grown choice_p tree_c m s at i old t
 unfolding tree_c
 end-c {m} {s} {at} {i₀} {i} {old} {t₁} {t} q l a b k = record {
@@ -121,34 +124,34 @@ unfolding lay part_by
 rel-prefix amp p h old new e u q r = subst (λ (x : List ℕ). Rel x (under affirms (lay e u))) (sym (q ∙ ap (λ (k : ℕ). pushed k (get_or old 2 0 - 1) 0 old) h)) (rel-under 7 affirms (λ x. refl) old (lay e u) r)
 rel-prefix bang p h old new e u q r = subst (λ (x : List ℕ). Rel x (under denies (lay e u))) (sym (q ∙ ap (λ (k : ℕ). pushed k (get_or old 2 0 - 1) 0 old) h)) (rel-under 8 denies (λ x. refl) old (lay e u) r)
 
-pub suf-yes : {m : Mode} {s : List ℕ} {at nx p : ℕ} {old new : List ℕ} → p ≡ suffix_op (kind_l (toks_at m s at)) → (p ≡ 0 → ⊥) → Over m s at nx → new ≡ pushed p (get_or old 2 0 - 1) 0 old → Suffixes m s at nx old new
+pub suf-yes : {m : Mode} {s : List ℕ} {at nx p : ℕ} {old new : List ℕ} → suffix_op (kind_l (toks_at m s at)) ≡ Some p → Over m s at nx → new ≡ pushed p (get_or old 2 0 - 1) 0 old → Suffixes m s at nx old new
 unfolding tree_c suf_by
-suf-yes {m} {s} {at} {nx} {p} {old} {new} k z o q =
-    let v = suf-inv (toks_at m s at) (λ e. z (k ∙ e)) in
+suf-yes {m} {s} {at} {nx} {p} {old} {new} k o q =
+    let v = suf-inv (toks_at m s at) p k in
     record {
       low = o.low;
       high = o.high;
       same = λ x e r h.
           let w = same_ok (then x v.0) e v.1 r (sym (ap (λ (l : List Tok). suf_by x l) v.2) ∙ h) in
-          ((o.behind (suf v.0) v.1 v.2).1 ∙ w.1, λ u j. subst (λ (y : Suffixed). Rel new (lay (tree_f y) u)) w.0 (rel-suffix v.0 p (k ∙ v.3) old new (tree_q x) u q j));
+          ((o.behind (suf v.0) v.1 v.2).1 ∙ w.1, λ u j. subst (λ (y : Suffixed). Rel new (lay (tree_f y) u)) w.0 (rel-suffix v.0 p v.3 old new (tree_q x) u q j));
     }
 
-pub suf-no : {m : Mode} {s : List ℕ} {at p : ℕ} {old : List ℕ} → p ≡ suffix_op (kind_l (toks_at m s at)) → p ≡ 0 → at ≤ length s → Suffixes m s at at old old
+pub suf-no : {m : Mode} {s : List ℕ} {at : ℕ} {old : List ℕ} → suffix_op (kind_l (toks_at m s at)) ≡ None → at ≤ length s → Suffixes m s at at old old
 unfolding tree_c
-suf-no {m} {s} {at} {p} {old} k z b = record {
+suf-no {m} {s} {at} {old} k b = record {
   low = omega arith;
   high = b;
   same = λ x e r h.
-      let w = same_ok (only x) e (toks_at m s at) r (sym (suf_by-no x (toks_at m s at) (sym k ∙ z)) ∙ h) in
+      let w = same_ok (only x) e (toks_at m s at) r (sym (suf_by-no x (toks_at m s at) k) ∙ h) in
       (w.1, λ u j. subst (λ (y : Suffixed). Rel old (lay (tree_f y) u)) w.0 j);
 }
 
 -- ── prefixes ──
-pub with-pre : {m : Mode} {s : List ℕ} {at nx a b p : ℕ} {old t₁ t₂ new : List ℕ} → p ≡ prefix_op (kind_l (toks_at m s at)) → (p ≡ 0 → ⊥) → Over m s at nx → Grown prim_p tree_q m s nx a old t₁ → Suffixes m s a b t₁ t₂
+pub with-pre : {m : Mode} {s : List ℕ} {at nx a b p : ℕ} {old t₁ t₂ new : List ℕ} → prefix_op (kind_l (toks_at m s at)) ≡ Some p → Over m s at nx → Grown prim_p tree_q m s nx a old t₁ → Suffixes m s a b t₁ t₂
     → new ≡ pushed p (get_or t₂ 2 0 - 1) 0 t₂ → Grown pref_p tree_p m s at b old new
 unfolding tree_c
-with-pre {m} {s} {at} {nx} {a} {b} {p} {old} {t₁} {t₂} {new} k z o g x q =
-    let v = pre-inv (toks_at m s at) (λ e. z (k ∙ e)) in
+with-pre {m} {s} {at} {nx} {a} {b} {p} {old} {t₁} {t₂} {new} k o g x q =
+    let v = pre-inv (toks_at m s at) p k in
     let j = o.behind (pre v.0) v.1 v.2 in
     record {
       low = omega (arith, o.low, g.low, x.low);
@@ -158,24 +161,24 @@ with-pre {m} {s} {at} {nx} {a} {b} {p} {old} {t₁} {t₂} {new} k z o g x q =
           let u = pref-pre f v.0 v.1 e r (ap (λ (l : List Tok). pref_p f l) (sym v.2) ∙ h) in
           let w = g.same u.0 u.1 u.2 (ap (λ (l : List Tok). prim_p u.0 l) j.1 ∙ u.4) in
           let y = x.same u.1 u.3 r (ap (λ (l : List Tok). suf_by u.1 l) w.0 ∙ u.5) in
-          (y.0, λ n i. subst (λ (d : Prefixed). Rel new (lay (tree_p d) n)) u.6 (rel-prefix v.0 p (k ∙ v.3) t₂ new (tree_f u.3) n q (y.1 n (w.1 n i))));
+          (y.0, λ n i. subst (λ (d : Prefixed). Rel new (lay (tree_p d) n)) u.6 (rel-prefix v.0 p v.3 t₂ new (tree_f u.3) n q (y.1 n (w.1 n i))));
     }
 
-pub without-pre : {m : Mode} {s : List ℕ} {at a b p : ℕ} {old t₁ new : List ℕ} → p ≡ prefix_op (kind_l (toks_at m s at)) → p ≡ 0 → Grown prim_p tree_q m s at a old t₁ → Suffixes m s a b t₁ new → Grown pref_p tree_p m s at b old new
+pub without-pre : {m : Mode} {s : List ℕ} {at a b : ℕ} {old t₁ new : List ℕ} → prefix_op (kind_l (toks_at m s at)) ≡ None → Grown prim_p tree_q m s at a old t₁ → Suffixes m s a b t₁ new → Grown pref_p tree_p m s at b old new
 unfolding tree_c
-without-pre {m} {s} {at} {a} {b} {p} {old} {t₁} {new} k z g x = record {
+without-pre {m} {s} {at} {a} {b} {old} {t₁} {new} k g x = record {
   low = omega (arith, g.low, x.low);
   high = x.high;
   forth = λ h. omega (arith, g.forth h, x.low);
   same = λ f e r h.
-      let u = pref-bare f (toks_at m s at) e r (sym k ∙ z) h in
+      let u = pref-bare f (toks_at m s at) e r k h in
       let w = g.same u.0 u.1 u.2 u.4 in
       let y = x.same u.1 u.3 r (ap (λ (l : List Tok). suf_by u.1 l) w.0 ∙ u.5) in
       (y.0, λ n i. subst (λ (d : Prefixed). Rel new (lay (tree_p d) n)) u.6 (y.1 n (w.1 n i)));
 }
 
 -- ── primaries ──
-pub grouped : {m : Mode} {s : List ℕ} {at nx a to : ℕ} {old new : List ℕ} → kind_l (toks_at m s at) ≡ 13 → Over m s at nx → Grown choice_p tree_c m s nx a old new → Over m s a to → Grown prim_p tree_q m s at to old new
+pub grouped : {m : Mode} {s : List ℕ} {at nx a to : ℕ} {old new : List ℕ} → kind_l (toks_at m s at) ≡ Opens → Over m s at nx → Grown choice_p tree_c m s nx a old new → Over m s a to → Grown prim_p tree_q m s at to old new
 unfolding tree_c
 grouped {m} {s} {at} {nx} {a} {to} {old} {new} k o g x =
     let v = is-opens (toks_at m s at) k in
@@ -197,25 +200,25 @@ module _ (m : Mode) (s : List ℕ) (at : ℕ) (k : Token) (e : k ≡ coded (toke
   pub kind-there : k.kind ≡ kind_l (toks_at m s at)
   kind-there = kind-here ∙ kind-is m s at
 
-  pub over-next : (k.kind ≡ 0 → ⊥) → Over m s at k.next
+  pub over-next : (k.kind ≡ End → ⊥) → Over m s at k.next
   over-next z = subst (λ (x : ℕ). Over m s at x) (sym (ap (λ (x : Token). x.next) e)) (next-over m s at (λ h. z (kind-here ∙ h)))
 
-  pub over-end : k.kind ≡ 0 → at ≤ length s → Over m s at at
+  pub over-end : k.kind ≡ End → at ≤ length s → Over m s at at
   over-end z b = end-over m s at (sym kind-here ∙ z) b
 
-  pub long-next : (k.kind ≡ 0 → ⊥) → at < k.next
+  pub long-next : (k.kind ≡ End → ⊥) → at < k.next
   long-next z = omega (arith, next-long m s at (λ h. z (kind-here ∙ h)), ap (λ (x : Token). x.next) e)
 
-  pub start-in : (k.kind ≡ 0 → ⊥) → k.start < length s
+  pub start-in : (k.kind ≡ End → ⊥) → k.start < length s
   start-in z = omega (arith, start-within m s at (λ h. z (kind-here ∙ h)), ap (λ (x : Token). x.start) e)
 
-  pub room : (k.kind ≡ 0 → ⊥) → k.kind < 3 → k.start + k.size ≤ length s
-  room z b = omega (arith, symbol-room m s at (λ h. z (kind-here ∙ h)) (omega (arith, kind-here)), ap (λ (x : Token). x.start) e, ap (λ (x : Token). x.size) e)
+  pub room : (k.kind ≡ End → ⊥) → symbolic k.kind ≡ true → k.start + k.size ≤ length s
+  room z b = omega (arith, symbol-room m s at (λ h. z (kind-here ∙ h)) (sym (ap symbolic kind-here) ∙ b), ap (λ (x : Token). x.start) e, ap (λ (x : Token). x.size) e)
 
-  pub no-token : k.kind ≡ 0 → toks_at m s at ≡ []
+  pub no-token : k.kind ≡ End → toks_at m s at ≡ []
   no-token z = no-toks m s at (sym kind-here ∙ z)
 
-  pub prim-end : {old : List ℕ} → k.kind ≡ 0 → at ≤ length s → Grown prim_p tree_q m s at at old old
+  pub prim-end : {old : List ℕ} → k.kind ≡ End → at ≤ length s → Grown prim_p tree_q m s at at old old
   prim-end z b = record {
     low = omega arith;
     high = b;
@@ -223,19 +226,19 @@ module _ (m : Mode) (s : List ℕ) (at : ℕ) (k : Token) (e : k ≡ coded (toke
     same = λ f q r h. absurd (prim-none f (toks_at m s at) q r (sym kind-there ∙ z) h);
   }
 
-  pub prim-bad : {old : List ℕ} → (k.kind ≡ 0 → ⊥) → 6 ≤ k.kind → (k.kind ≡ 13 → ⊥) → Grown prim_p tree_q m s at k.next old old
-  prim-bad z b c = record {
-    low = (over-next z).low;
-    high = (over-next z).high;
-    forth = λ h. long-next z;
-    same = λ f q r h. absurd (prim-other f (toks_at m s at) q r (omega (arith, kind-there)) (λ x. c (kind-there ∙ x)) h);
+  pub prim-bad : {old : List ℕ} → NoPart k.kind → Grown prim_p tree_q m s at k.next old old
+  prim-bad z = record {
+    low = (over-next z.0).low;
+    high = (over-next z.0).high;
+    forth = λ h. long-next z.0;
+    same = λ f q r h. absurd (prim-other f (toks_at m s at) q r (subst NoPart kind-there z) h);
   }
 
-  pub prim-name : {old new : List ℕ} → (k.kind ≡ 0 → ⊥) → k.kind < 3 → Occurs s k.kind k.start k.size old new → Grown prim_p tree_q m s at k.next old new
+  pub prim-name : {old new : List ℕ} → (k.kind ≡ End → ⊥) → symbolic k.kind ≡ true → Occurs s k.kind k.start k.size old new → Grown prim_p tree_q m s at k.next old new
   unfolding tree_c
   prim-name {old} {new} z b o =
       let w = the-token m s at (λ h. z (kind-here ∙ h)) in
-      let v = is-symbol w.0 (subst (λ (x : Option Tok). kind_of x < 3) w.1 (omega (arith, kind-here))) in
+      let v = is-symbol w.0 (sym (ap symbolic (kind-here ∙ ap kind_of w.1)) ∙ b) in
       let here : (token_at m s at).is ≡ some (symbol v.0) = w.1 ∙ ap some v.1 in
       record {
         low = (over-next z).low;
@@ -248,11 +251,11 @@ module _ (m : Mode) (s : List ℕ) (at : ℕ) (k : Token) (e : k ≡ coded (toke
             );
       }
 
-  pub prim-terminal : {old new : List ℕ} → (k.kind ≡ 0 → ⊥) → 3 ≤ k.kind → k.kind < 6 → Matches m s k.kind k.start k.size old new → Grown prim_p tree_q m s at k.next old new
+  pub prim-terminal : {old new : List ℕ} → (k.kind ≡ End → ⊥) → leafy k.kind ≡ true → Matches m s k.kind k.start k.size old new → Grown prim_p tree_q m s at k.next old new
   unfolding tree_c
-  prim-terminal {old} {new} z a b o =
+  prim-terminal {old} {new} z b o =
       let w = the-token m s at (λ h. z (kind-here ∙ h)) in
-      let v = is_leaf w.0 (subst (λ (x : Option Tok). 3 ≤ kind_of x) w.1 (omega (arith, kind-here))) (subst (λ (x : Option Tok). kind_of x < 6) w.1 (omega (arith, kind-here))) in
+      let v = is_leaf w.0 (sym (ap leafy (kind-here ∙ ap kind_of w.1)) ∙ b) in
       let here : (token_at m s at).is ≡ some (leaf v.0) = w.1 ∙ ap some v.1 in
       record {
         low = (over-next z).low;
@@ -265,17 +268,12 @@ module _ (m : Mode) (s : List ℕ) (at : ℕ) (k : Token) (e : k ≡ coded (toke
             );
       }
 
--- ── numbers that the code asks for ──
-pub suffix-some : (p k : ℕ) → p ≡ suffix_op k → (p ≡ 0 → ⊥) → k ≡ 0 → ⊥
-unfolding suffix_op
-suffix-some p k e z h = z (e ∙ ap suffix_op h)
+-- ── what the kinds say that the code asks for ──
+pub suffix-some : (p : ℕ) (k : Kind) → suffix_op k ≡ Some p → k ≡ End → ⊥
+suffix-some p k e h = none-some (sym (ap suffix_op h) ∙ e)
 
-pub prefix-some : (p k : ℕ) → p ≡ prefix_op k → (p ≡ 0 → ⊥) → k ≡ 0 → ⊥
-unfolding prefix_op
-prefix-some p k e z h = z (e ∙ ap prefix_op h)
+pub prefix-some : (p : ℕ) (k : Kind) → prefix_op k ≡ Some p → k ≡ End → ⊥
+prefix-some p k e h = none-some (sym (ap prefix_op h) ∙ e)
 
-pub not-zero : (k n : ℕ) → k ≡ suc n → k ≡ 0 → ⊥
-not-zero k n e z = omega arith
-
-pub strict : (i j : ℕ) → i ≤ j → (j ≡ i → ⊥) → i < j
-strict i j h n = ⊎_elim (λ (e : i ≡ j). absurd (n (sym e))) (λ (p : i < j). p) (eq-or-lt_of_le h)
+pub slash-some : (k : Kind) → k ≡ Slash → k ≡ End → ⊥
+slash-some k e z = omega (arith, ap kind_number (sym e ∙ z))

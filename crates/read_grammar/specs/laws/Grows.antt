@@ -1,5 +1,5 @@
 -- What is laid stays in front of what is laid later. Assumes nothing.
-use Rattle.std.specs.Prelude.{ℕ, zero, suc, ◌+◌, ◌≤◌, ◌<◌, ◌≡◌, refl, Bool, true, false, List, [], ◌∷◌, ◌++◌, length}
+use Rattle.std.specs.Prelude.{◌≤◌, ◌≡◌, refl, Bool, true, false, List, [], ◌∷◌, ◌++◌, length}
 use Rattle.std.proofs.Common.{sym, ap, ◌∙◌, subst, append_assoc, append-nil, arith, length-append}
 use Rattle.read_tokens.specs.Token.{Symbol, Leaf}
 use Rattle.grammar.specs.Exp.{Exp, sym as symb, ter, seq, alt, opt, star, plus, ahead, never}
@@ -7,7 +7,7 @@ use Rattle.grammar.specs.Parts.{Part}
 use Rattle.grammar.specs.Same.{same_leaf, is_in}
 use Rattle.grammar_table.specs.laws.Rows.{also, also-in, also-new, All, all_left}
 use Rattle.read_entries.specs.steps.Entries.{FitSymbol, FitLeaf}
-use Rattle.read_grammar.specs.steps.Lay.{St, st, push, leafed, lay, Fits}
+use Rattle.read_grammar.specs.steps.Lay.{St, push, leafed, lay, Fits}
 
 pub record Grows (u v : St) : Type 0 where
   pub names : v.names ≡ u.names

@@ -1,10 +1,10 @@
 -- What is laid of rules: terminals by first appearance, expressions by number, bodies. Assumes nothing.
-use Prim.Native.Nat.{ℕ, zero, suc, ◌+◌, ◌-◌, ◌≤◌, ◌<◌}
-use Rattle.std.specs.Prelude.{◌≡◌, Bool, true, false, ◌||◌, get_or}
+use Prim.Native.Nat.{ℕ, zero, suc, ◌+◌, ◌-◌, ◌≤◌}
+use Rattle.std.specs.Prelude.{◌≡◌, Bool, true, false, ◌||◌}
 use Rattle.std.proofs.Math.Path.{refl, sym, ap}
-use Rattle.std.proofs.Common.{◌∙◌, subst, arith, length-append}
+use Rattle.std.proofs.Common.{◌∙◌, arith, length-append}
 use mathlib.Core.List.{List, [], ◌∷◌, ◌++◌, map, append_assoc, append-nil}
-use Rattle.std.proofs.Math.Option.{Option, none, some}
+use Rattle.std.proofs.Math.Option.{none}
 use Rattle.std.proofs.Math.ListN.{length, replicate}
 use Rattle.base_facts.specs.laws.Bools.{or-true}
 use Rattle.read_tokens.specs.Token.{Symbol, Leaf}
@@ -15,7 +15,7 @@ use Rattle.grammar.specs.Numbers.{leaves_of, expressions_of, right_by}
 use Rattle.grammar_table.specs.Holds.{present, roots_from}
 use Rattle.grammar_table.specs.laws.Rows.{also, adds, also-in, also-new, index_stays, in-append}
 use Rattle.grammar_table.specs.laws.Firsts.{adds-front}
-use Rattle.read_grammar.specs.steps.Lay.{St, st, last_of, push, leafed, lay, headed, lay_rules}
+use Rattle.read_grammar.specs.steps.Lay.{St, last_of, lay, headed, lay_rules}
 use Rattle.grammar.specs.laws.Same.{leaf-refl}
 use Rattle.read_grammar.specs.laws.Grows.{Grows, lay-grows}
 

@@ -1,32 +1,33 @@
 -- The symbols of a text, noted one after the other. Assumes nothing.
-use Rattle.std.specs.Prelude.{ℕ, zero, suc, ◌+◌, ◌≤◌, ◌<◌, ◌≡◌, refl, Bool, false, ◌||◌, length}
-use Rattle.std.proofs.Common.{sym, ◌∙◌, subst, arith}
+use Rattle.std.specs.Prelude.{ℕ, ◌≡◌, refl, Bool, false, ◌||◌}
+use Rattle.std.proofs.Common.{sym, ◌∙◌, subst, true≢false}
 use Rattle.std.proofs.Math.Path.{ap}
 use Rattle.std.proofs.Math.Bool.{true}
 use mathlib.Core.List.{List, [], ◌∷◌}
-use Rattle.std.proofs.Math.Option.{Option, none, some}
+use Rattle.std.proofs.Math.Option.{some}
 use Rattle.grammar_table.specs.Table.{symbols_at, symbol_words, symbol_key, symbol_count}
 use Rattle.read_tokens.specs.declared.Mode.{Mode}
+use Rattle.read_tokens.specs.declared.Kind.TheVariants.{End}
 use Rattle.read_tokens.specs.declared.Token.{Token}
-use Rattle.read_tokens.specs.Token.{Symbol, name, lake, Leaf, any, literal, class, Tok, symbol, leaf, pre, suf, arrow, slash, opens, closes, bad}
+use Rattle.read_tokens.specs.Token.{Symbol, Tok, symbol, leaf, pre, suf, arrow, slash, opens, closes, bad}
 use Rattle.read_tokens.specs.Tokens.{token_at}
-use Rattle.read_tokens.specs.steps.Code.{kind_of, size_of, coded}
+use Rattle.read_tokens.specs.steps.Code.{kind_of, symbolic, coded}
 use Rattle.grammar.specs.Same.{same_symbol}
 use Rattle.read_syntax.specs.Reader.{is_arrow}
 use Rattle.grammar_table.specs.steps.Rows.{seek, kept, Noted}
 use Rattle.grammar_table.specs.laws.Seeks.{noted-full}
 use Rattle.grammar_table.specs.laws.Rows.{also, adds}
-use Rattle.read_entries.specs.steps.Entries.{symbol_record, symbol_at}
-use Rattle.read_grammar.specs.steps.Lay.{St, st, gather_by, gathered, Rel}
-use Rattle.read_grammar.specs.steps.Promises.{toks_at, Over, Marked, Named}
-use Rattle.read_grammar.specs.laws.Places.{kind_l, the-token, toks_more, is-symbol, symbol_low}
-use Rattle.read_grammar.specs.laws.Glue.{kind-here, kind-there, over-next, over-end, long-next, no-token}
+use Rattle.read_entries.specs.steps.Entries.{symbol_at}
+use Rattle.read_grammar.specs.steps.Lay.{st, gather_by, gathered, Rel}
+use Rattle.read_grammar.specs.steps.Promises.{toks_at, Ended, Marked, Named}
+use Rattle.read_grammar.specs.laws.Places.{the-token, toks_more, is-symbol, symbol_low}
+use Rattle.read_grammar.specs.laws.Glue.{kind-here, over-next, long-next, no-token}
 use Rattle.read_grammar.specs.laws.Notes.{rel-named}
 use Rattle.read_grammar.specs.laws.Found.{symbol-found}
 
-other-token : (every : Bool) (t : Tok) (l : List Tok) → 3 ≤ kind_of (some t) → gathered every (t ∷ l) ≡ gathered every l
+other-token : (every : Bool) (t : Tok) (l : List Tok) → symbolic (kind_of (some t)) ≡ false → gathered every (t ∷ l) ≡ gathered every l
 unfolding gathered
-other-token every (symbol h) l k = absurd (omega (arith, symbol_low h))
+other-token every (symbol h) l k = absurd (true≢false (sym (symbol_low h) ∙ k))
 other-token every (leaf x) l k = refl
 other-token every (pre x) l k = refl
 other-token every (suf x) l k = refl
@@ -41,33 +42,32 @@ unfolding gathered
 taken-symbol every h l b e = ap (λ (x : Bool). gather_by x h (gathered every l)) e
 
 module _ (every : Bool) (m : Mode) (s : List ℕ) (at : ℕ) (k : Token) (e : k ≡ coded (token_at m s at)) where
-  pub mark-end : (t : List ℕ) → k.kind ≡ 0 → at ≤ length s → Marked every m s at at t t
-  mark-end t z b = record { low = omega arith; high = b; end = λ _. no-token m s at k e z; same = λ ns r. (ns, r, refl) }
+  pub mark-end : (t : List ℕ) → k.kind ≡ End → Ended m s at t t
+  mark-end t z = record { end = no-token m s at k e z; same = refl }
 
   next-is : k.next ≡ (token_at m s at).next
   next-is = ap (λ (x : Token). x.next) e
 
-  pub mark-other : (t : List ℕ) → (k.kind ≡ 0 → ⊥) → 2 < k.kind → Marked every m s at k.next t t
+  pub mark-other : (t : List ℕ) → (k.kind ≡ End → ⊥) → symbolic k.kind ≡ false → Marked every m s at k.next t t
   mark-other t z b =
       let w = the-token m s at (λ h. z (kind-here m s at k e ∙ h)) in
       record {
-        low = (over-next m s at k e z).low;
+        forth = long-next m s at k e z;
         high = (over-next m s at k e z).high;
-        end = λ f. absurd (omega (arith, long-next m s at k e z));
         same = λ ns r. (
           ns,
           r,
           ap (adds same_symbol ns)
-              (ap (gathered every) (toks_more m s at w.0 w.1) ∙ other-token every w.0 (toks_at m s (token_at m s at).next) (omega (arith, kind-here m s at k e, ap kind_of w.1))
+              (ap (gathered every) (toks_more m s at w.0 w.1) ∙ other-token every w.0 (toks_at m s (token_at m s at).next) (sym (ap symbolic (kind-here m s at k e ∙ ap kind_of w.1)) ∙ b)
               ∙ ap (λ (i : ℕ). gathered every (toks_at m s i)) (sym next-is)),
         );
       }
 
-  module _ (z : k.kind ≡ 0 → ⊥) (b : k.kind < 3) where
+  module _ (z : k.kind ≡ End → ⊥) (b : symbolic k.kind ≡ true) where
     here : (h : Symbol) × ((token_at m s at).is ≡ some (symbol h))
     here =
         let w = the-token m s at (λ h. z (kind-here m s at k e ∙ h)) in
-        let v = is-symbol w.0 (subst (λ (x : Option Tok). kind_of x < 3) w.1 (omega (arith, kind-here m s at k e))) in
+        let v = is-symbol w.0 (sym (ap symbolic (kind-here m s at k e ∙ ap kind_of w.1)) ∙ b) in
         (v.0, w.1 ∙ ap some v.1)
 
     gathers : (x : Bool) → (every || is_arrow (toks_at m s k.next)) ≡ x → gathered every (toks_at m s at) ≡ gather_by x here.0 (gathered every (toks_at m s k.next))
@@ -79,9 +79,8 @@ module _ (every : Bool) (m : Mode) (s : List ℕ) (at : ℕ) (k : Token) (e : k 
         → Noted old new (symbol_at s k.kind k.start k.size) 0 symbol_key symbol_words symbols_at r → Marked every m s at k.next old new
     unfolding adds
     mark-yes old new r f n = record {
-      low = (over-next m s at k e z).low;
+      forth = long-next m s at k e z;
       high = (over-next m s at k e z).high;
-      end = λ g. absurd (omega (arith, long-next m s at k e z));
       same = λ ns i. (
         also same_symbol here.0 ns,
         rel-named old new r here.0 ns i (subst (λ (w : List ℕ). Noted old new w 0 symbol_key symbol_words symbols_at r)
@@ -92,9 +91,8 @@ module _ (every : Bool) (m : Mode) (s : List ℕ) (at : ℕ) (k : Token) (e : k 
 
     pub mark-no : (t : List ℕ) → (every || is_arrow (toks_at m s k.next)) ≡ false → Marked every m s at k.next t t
     mark-no t f = record {
-      low = (over-next m s at k e z).low;
+      forth = long-next m s at k e z;
       high = (over-next m s at k e z).high;
-      end = λ g. absurd (omega (arith, long-next m s at k e z));
       same = λ ns i. (ns, i, ap (adds same_symbol ns) (gathers false f));
     }
 
@@ -119,12 +117,11 @@ loop-n every m s t = record { on = λ ns r. (ns, r, refl) }
 pub more-n : {every : Bool} {m : Mode} {s : List ℕ} {i j : ℕ} {t₁ t t₂ : List ℕ} → LoopN every m s t₁ i t → Marked every m s i j t t₂ → LoopN every m s t₁ j t₂
 more-n l k = record { on = λ ns r. let u = l.on ns r in let v = k.same u.0 u.1 in (v.0, v.1, u.2 ∙ v.2) }
 
-pub end-n : {every : Bool} {m : Mode} {s : List ℕ} {i j : ℕ} {t₁ t t₂ : List ℕ} → LoopN every m s t₁ i t → Marked every m s i j t t₂ → j ≡ i → Named every m s t₁ t₂
+pub end-n : {every : Bool} {m : Mode} {s : List ℕ} {i : ℕ} {t₁ t t₂ : List ℕ} → LoopN every m s t₁ i t → Ended m s i t t₂ → Named every m s t₁ t₂
 unfolding gathered adds
-end-n {every} {m} {s} {i} {j} {t₁} {t} {t₂} l k e = record {
+end-n {every} {m} {s} {i} {t₁} {t} {t₂} l k = record {
   same = λ ns r.
       let u = l.on ns r in
-      let v = k.same u.0 u.1 in
-      let nothing : toks_at m s j ≡ [] = ap (toks_at m s) e ∙ k.end (sym e) in
-      subst (λ (x : List Symbol). Rel t₂ (st x [] [] [])) (sym (u.2 ∙ v.2 ∙ ap (λ (x : List Tok). adds same_symbol v.0 (gathered every x)) nothing)) v.1;
+      subst (λ (x : List ℕ). Rel x (st (adds same_symbol ns (gathered every (toks_at m s 0))) [] [] [])) (sym k.same)
+      (subst (λ (x : List Symbol). Rel t (st x [] [] [])) (sym (u.2 ∙ ap (λ (x : List Tok). adds same_symbol u.0 (gathered every x)) k.end)) u.1);
 }

@@ -1,26 +1,26 @@
 -- Symbols and terminals: noted, and looked up. Assumes nothing.
-use Rattle.std.specs.Prelude.{ℕ, zero, suc, ◌+◌, ◌-◌, ◌*◌, ◌≤◌, ◌<◌, ◌≡◌, refl, Bool, true, false, ◌⊎◌, ltb, length, get_or, set, replicate}
+use Rattle.std.specs.Prelude.{ℕ, ◌+◌, ◌*◌, ◌≤◌, ◌<◌, ◌≡◌, refl, Bool, true, false, ltb, length, get_or, set, replicate}
 use Rattle.std.proofs.Math.Path.{sym, ap, subst}
-use Rattle.std.proofs.Common.{◌∙◌, inl, inr, ⊎_elim, arith, length-set, get_or-set_same, get_or-set_other, ltb-true, ltb-false}
-use mathlib.Core.List.{List, [], ◌∷◌, ◌++◌}
+use Rattle.std.proofs.Common.{◌∙◌, inl, inr, arith, length-set, get_or-set_same, get_or-set_other, ltb-true, ltb-false}
+use mathlib.Core.List.{List, [], ◌∷◌}
 use Rattle.std.proofs.lemmas.List.Edits.{sets}
 use Rattle.std.proofs.Math.Seq.{length-sets}
 use Rattle.read_tokens.specs.Token.{Symbol, name, lake, Leaf, any}
-use Rattle.grammar.specs.Parts.{Part, terminal, occurs}
+use Rattle.grammar.specs.Parts.{terminal, occurs}
 use Rattle.grammar.specs.Exp.{sym as symb, ter}
 use Rattle.grammar.specs.Same.{same_symbol, same_leaf, is_in, index_of}
-use Rattle.grammar_table.specs.Table.{expressions_at, terminals_at, terminal_words, symbols_at, symbol_words, body_at, symbol_key, terminal_key, table_words, words_from, part_by, part_in}
-use Rattle.grammar_table.specs.steps.Rows.{cap, seek, kept, Noted}
+use Rattle.grammar_table.specs.Table.{expressions_at, terminals_at, terminal_words, symbols_at, symbol_words, body_at, symbol_key, terminal_key, table_words, words_from, part_by}
+use Rattle.grammar_table.specs.steps.Rows.{seek, kept, Noted}
 use Rattle.grammar_table.specs.laws.Caps.{cap-low}
 use Rattle.grammar_table.specs.laws.Words.{sets-out}
-use Rattle.grammar_table.specs.laws.Rows.{At, also, also-in, All, all_left}
+use Rattle.grammar_table.specs.laws.Rows.{also, also-in, All, all_left}
 use Rattle.grammar_table.specs.laws.Seeks.{noted-full}
 use Rattle.grammar_table.specs.laws.Kept.{Kept, With, kept-all, kept-moved, seek-index, fits-also, noted}
 use Rattle.read_entries.specs.steps.Entries.{symbol_row, symbol_record, FitSymbol, symbol_from, leaf_record, FitLeaf, leaf_from, leaf_kind, pushed}
-use Rattle.read_grammar.specs.steps.Lay.{St, st, push, leafed, used, lay, Fits, Told, Rel}
+use Rattle.read_grammar.specs.steps.Lay.{St, st, leafed, lay, Fits, Told, Rel}
 use Rattle.read_grammar.specs.laws.Entries.{symbol-read, symbol-sound, symbol-refl, symbol-alike, leaf-read}
 use Rattle.grammar.specs.laws.Same.{leaf-sound, leaf-refl}
-use Rattle.read_grammar.specs.laws.Grows.{Grows, also-front, grows-leaf, fits-back, terms-back}
+use Rattle.read_grammar.specs.laws.Grows.{also-front, grows-leaf, fits-back, terms-back}
 use Rattle.read_grammar.specs.laws.Stores.{part_moved, rel-push}
 
 -- ── nothing is read yet ──

@@ -1,9 +1,13 @@
 -- One law for each way through the reader. Assumes nothing.
-use Rattle.std.specs.Prelude.{ℕ, zero, suc, ◌+◌, ◌≤◌, ◌<◌, ◌≡◌, refl, Bool, true, false, List, [], ◌∷◌, length}
-use Rattle.std.proofs.Common.{sym, ap, ◌∙◌, subst, true≢false, arith}
+use Rattle.std.specs.Prelude.{ℕ, zero, suc, ◌<◌, ◌≡◌, refl, Bool, true, false, List, [], ◌∷◌, length}
+use Rattle.std.proofs.Common.{sym, ap, ◌∙◌, arith}
 use Rattle.std.proofs.lemmas.Bool.{false≢true}
+use Rattle.std.specs.Prelude.{Option, Some, None, unwrap_or}
+use Rattle.read_tokens.specs.declared.Kind.{Kind}
+use Rattle.read_tokens.specs.declared.Kind.TheVariants as kinds
+use Rattle.read_tokens.specs.steps.Code.{kind_number}
 use Rattle.read_tokens.specs.Token.{Symbol, name, lake, Leaf, any, literal, class, Prefix, amp, bang, Suffix, query, asterisk, cross, Tok, symbol, leaf, pre, suf, arrow, slash, opens, closes, bad}
-use Rattle.grammar.specs.Syntax.{Choice, Sequence, Prefixed, Suffixed, Primary, Rules, one, or, first, next, bare, with, only, then, psym, term, group, rule, more}
+use Rattle.grammar.specs.Syntax.{Choice, Sequence, Prefixed, Suffixed, Primary, Rules, one, or, first, next, bare, with, only, psym, term, group, rule, more}
 use Rattle.read_syntax.specs.Reader.{Res, ok, no as refused, out, bind, is_arrow, begins, sym_by, close_by, prim_by, suf_by, suf_p, pref_by, choice_by, seq_by, choice_p, choice_r, seq_p, seq_r, pref_p, prim_p, arrow_by, rule_by, end_by, rules_r, rules_p}
 use Rattle.read_entries.specs.steps.Entries.{prefix_op, suffix_op}
 use Rattle.read_grammar.specs.laws.Places.{kind_l, kind-some}
@@ -38,7 +42,7 @@ choice-turn (suc f) b l c r e = let u = bind_inv (seq_p f l) (λ s m. choice_r f
 pub same_ok : {A : Type 0} (a b : A) (l r : List Tok) → ok a l ≡ ok b r → (a ≡ b) × (l ≡ r)
 same_ok a b l r e = (cc, cc)
 
-choice_by-halt : (b : Choice) (l : List Tok) (k : List Tok → Res Choice) → (kind_l l ≡ 12 → ⊥) → choice_by b l k ≡ ok b l
+choice_by-halt : (b : Choice) (l : List Tok) (k : List Tok → Res Choice) → (kind_l l ≡ kinds.Slash → ⊥) → choice_by b l k ≡ ok b l
 unfolding choice_by
 choice_by-halt b [] k z = refl
 choice_by-halt b (symbol h ∷ l) k z = refl
@@ -51,7 +55,7 @@ choice_by-halt b (opens ∷ l) k z = refl
 choice_by-halt b (closes ∷ l) k z = refl
 choice_by-halt b (bad ∷ l) k z = refl
 
-pub choice-halt : (f : ℕ) (b : Choice) (l : List Tok) (c : Choice) (r : List Tok) → (kind_l l ≡ 12 → ⊥) → choice_r f b l ≡ ok c r → (b ≡ c) × (l ≡ r)
+pub choice-halt : (f : ℕ) (b : Choice) (l : List Tok) (c : Choice) (r : List Tok) → (kind_l l ≡ kinds.Slash → ⊥) → choice_r f b l ≡ ok c r → (b ≡ c) × (l ≡ r)
 unfolding choice_p
 choice-halt zero b l c r h e = absurd (out-ok e)
 choice-halt (suc f) b l c r h e = same_ok b c l r (sym (choice_by-halt b l _ h) ∙ e)
@@ -83,56 +87,59 @@ suf_op query = 4
 suf_op asterisk = 5
 suf_op cross = 6
 
-pub pre-inv : (l : List Tok) → (prefix_op (kind_l l) ≡ 0 → ⊥) → (y : Prefix) × (r : List Tok) × (l ≡ pre y ∷ r) × (prefix_op (kind_l l) ≡ pre_op y)
-unfolding prefix_op
-pre-inv [] h = absurd (h refl)
-pre-inv (symbol (name w) ∷ l) h = absurd (h refl)
-pre-inv (symbol (lake w) ∷ l) h = absurd (h refl)
-pre-inv (leaf any ∷ l) h = absurd (h refl)
-pre-inv (leaf (literal w) ∷ l) h = absurd (h refl)
-pre-inv (leaf (class w) ∷ l) h = absurd (h refl)
-pre-inv (pre amp ∷ l) h = (amp, l, refl, refl)
-pre-inv (pre bang ∷ l) h = (bang, l, refl, refl)
-pre-inv (suf query ∷ l) h = absurd (h refl)
-pre-inv (suf asterisk ∷ l) h = absurd (h refl)
-pre-inv (suf cross ∷ l) h = absurd (h refl)
-pre-inv (arrow ∷ l) h = absurd (h refl)
-pre-inv (slash ∷ l) h = absurd (h refl)
-pre-inv (opens ∷ l) h = absurd (h refl)
-pre-inv (closes ∷ l) h = absurd (h refl)
-pre-inv (bad ∷ l) h = absurd (h refl)
+-- an option that is there
+pub none-some : {p : ℕ} → None ≡ Some p → ⊥
+none-some e = let z : ◌≡◌ {A = ℕ} 0 1 = cc in omega arith
 
-pub pre-op : (y : Prefix) (r : List Tok) → prefix_op (kind_l (pre y ∷ r)) ≡ 0 → ⊥
-unfolding prefix_op
-pre-op amp r e = omega arith
-pre-op bang r e = omega arith
+some-is : {n p : ℕ} → Some n ≡ Some p → p ≡ n
+some-is {n} {p} e = ap (λ (o : Option ℕ). unwrap_or o n) (sym e)
 
-pub suf-inv : (l : List Tok) → (suffix_op (kind_l l) ≡ 0 → ⊥) → (y : Suffix) × (r : List Tok) × (l ≡ suf y ∷ r) × (suffix_op (kind_l l) ≡ suf_op y)
-unfolding suffix_op
-suf-inv [] h = absurd (h refl)
-suf-inv (symbol (name w) ∷ l) h = absurd (h refl)
-suf-inv (symbol (lake w) ∷ l) h = absurd (h refl)
-suf-inv (leaf any ∷ l) h = absurd (h refl)
-suf-inv (leaf (literal w) ∷ l) h = absurd (h refl)
-suf-inv (leaf (class w) ∷ l) h = absurd (h refl)
-suf-inv (pre amp ∷ l) h = absurd (h refl)
-suf-inv (pre bang ∷ l) h = absurd (h refl)
-suf-inv (suf query ∷ l) h = (query, l, refl, refl)
-suf-inv (suf asterisk ∷ l) h = (asterisk, l, refl, refl)
-suf-inv (suf cross ∷ l) h = (cross, l, refl, refl)
-suf-inv (arrow ∷ l) h = absurd (h refl)
-suf-inv (slash ∷ l) h = absurd (h refl)
-suf-inv (opens ∷ l) h = absurd (h refl)
-suf-inv (closes ∷ l) h = absurd (h refl)
-suf-inv (bad ∷ l) h = absurd (h refl)
+pub pre-inv : (l : List Tok) (p : ℕ) → prefix_op (kind_l l) ≡ Some p → (y : Prefix) × (r : List Tok) × (l ≡ pre y ∷ r) × (p ≡ pre_op y)
+pre-inv [] p h = absurd (none-some h)
+pre-inv (symbol (name w) ∷ l) p h = absurd (none-some h)
+pre-inv (symbol (lake w) ∷ l) p h = absurd (none-some h)
+pre-inv (leaf any ∷ l) p h = absurd (none-some h)
+pre-inv (leaf (literal w) ∷ l) p h = absurd (none-some h)
+pre-inv (leaf (class w) ∷ l) p h = absurd (none-some h)
+pre-inv (pre amp ∷ l) p h = (amp, l, refl, some-is h)
+pre-inv (pre bang ∷ l) p h = (bang, l, refl, some-is h)
+pre-inv (suf query ∷ l) p h = absurd (none-some h)
+pre-inv (suf asterisk ∷ l) p h = absurd (none-some h)
+pre-inv (suf cross ∷ l) p h = absurd (none-some h)
+pre-inv (arrow ∷ l) p h = absurd (none-some h)
+pre-inv (slash ∷ l) p h = absurd (none-some h)
+pre-inv (opens ∷ l) p h = absurd (none-some h)
+pre-inv (closes ∷ l) p h = absurd (none-some h)
+pre-inv (bad ∷ l) p h = absurd (none-some h)
 
-suf-op : (y : Suffix) (r : List Tok) → suffix_op (kind_l (suf y ∷ r)) ≡ 0 → ⊥
-unfolding suffix_op
-suf-op query r e = omega arith
-suf-op asterisk r e = omega arith
-suf-op cross r e = omega arith
+pub pre-op : (y : Prefix) (r : List Tok) → prefix_op (kind_l (pre y ∷ r)) ≡ None → ⊥
+pre-op amp r e = none-some (sym e)
+pre-op bang r e = none-some (sym e)
 
-pub suf_by-no : (q : Primary) (l : List Tok) → suffix_op (kind_l l) ≡ 0 → suf_by q l ≡ ok (only q) l
+pub suf-inv : (l : List Tok) (p : ℕ) → suffix_op (kind_l l) ≡ Some p → (y : Suffix) × (r : List Tok) × (l ≡ suf y ∷ r) × (p ≡ suf_op y)
+suf-inv [] p h = absurd (none-some h)
+suf-inv (symbol (name w) ∷ l) p h = absurd (none-some h)
+suf-inv (symbol (lake w) ∷ l) p h = absurd (none-some h)
+suf-inv (leaf any ∷ l) p h = absurd (none-some h)
+suf-inv (leaf (literal w) ∷ l) p h = absurd (none-some h)
+suf-inv (leaf (class w) ∷ l) p h = absurd (none-some h)
+suf-inv (pre amp ∷ l) p h = absurd (none-some h)
+suf-inv (pre bang ∷ l) p h = absurd (none-some h)
+suf-inv (suf query ∷ l) p h = (query, l, refl, some-is h)
+suf-inv (suf asterisk ∷ l) p h = (asterisk, l, refl, some-is h)
+suf-inv (suf cross ∷ l) p h = (cross, l, refl, some-is h)
+suf-inv (arrow ∷ l) p h = absurd (none-some h)
+suf-inv (slash ∷ l) p h = absurd (none-some h)
+suf-inv (opens ∷ l) p h = absurd (none-some h)
+suf-inv (closes ∷ l) p h = absurd (none-some h)
+suf-inv (bad ∷ l) p h = absurd (none-some h)
+
+suf-op : (y : Suffix) (r : List Tok) → suffix_op (kind_l (suf y ∷ r)) ≡ None → ⊥
+suf-op query r e = none-some (sym e)
+suf-op asterisk r e = none-some (sym e)
+suf-op cross r e = none-some (sym e)
+
+pub suf_by-no : (q : Primary) (l : List Tok) → suffix_op (kind_l l) ≡ None → suf_by q l ≡ ok (only q) l
 unfolding suf_by
 suf_by-no q [] z = refl
 suf_by-no q (symbol h ∷ l) z = refl
@@ -154,7 +161,7 @@ pref-pre (suc f) y l p r e =
     let v = bind_inv (prim_p f l) (λ q m. suf_by q m) u.2 in
     (f, v.0, v.1, u.0, v.2, v.3 ∙ ap (ok u.0) z.1, z.0)
 
-pref_by-no : (l : List Tok) (k : List Tok → Res Primary) (p : Prefixed) (r : List Tok) → prefix_op (kind_l l) ≡ 0 → pref_by l k ≡ ok p r → bind (suf_p (k l)) (λ e m. ok (bare e) m) ≡ ok p r
+pref_by-no : (l : List Tok) (k : List Tok → Res Primary) (p : Prefixed) (r : List Tok) → prefix_op (kind_l l) ≡ None → pref_by l k ≡ ok p r → bind (suf_p (k l)) (λ e m. ok (bare e) m) ≡ ok p r
 unfolding pref_by
 pref_by-no [] k p r z e = absurd (not-ok e)
 pref_by-no (symbol h ∷ l) k p r z e = e
@@ -167,7 +174,7 @@ pref_by-no (opens ∷ l) k p r z e = e
 pref_by-no (closes ∷ l) k p r z e = e
 pref_by-no (bad ∷ l) k p r z e = e
 
-pub pref-bare : (f : ℕ) (l : List Tok) (p : Prefixed) (r : List Tok) → prefix_op (kind_l l) ≡ 0 → pref_p f l ≡ ok p r → (g : ℕ) × (q : Primary) × (m : List Tok) × (e : Suffixed) × (prim_p g l ≡ ok q m) × (suf_by q m ≡ ok e r) × (bare e ≡ p)
+pub pref-bare : (f : ℕ) (l : List Tok) (p : Prefixed) (r : List Tok) → prefix_op (kind_l l) ≡ None → pref_p f l ≡ ok p r → (g : ℕ) × (q : Primary) × (m : List Tok) × (e : Suffixed) × (prim_p g l ≡ ok q m) × (suf_by q m ≡ ok e r) × (bare e ≡ p)
 unfolding choice_p
 pref-bare zero l p r h e = absurd (out-ok e)
 pref-bare (suc f) l p r h e =
@@ -212,76 +219,77 @@ unfolding choice_p prim_by
 prim-leaf zero x l q r e = absurd (out-ok e)
 prim-leaf (suc f) x l q r e = same_ok (term x) q l r e
 
-prim_by-not : (l : List Tok) (k : List Tok → Res Choice) (q : Primary) (r : List Tok) → (kind_l l ≡ 0) → prim_by l k ≡ ok q r → ⊥
+prim_by-not : (l : List Tok) (k : List Tok → Res Choice) (q : Primary) (r : List Tok) → (kind_l l ≡ kinds.End) → prim_by l k ≡ ok q r → ⊥
 unfolding prim_by
 prim_by-not [] k q r h e = not-ok e
 prim_by-not (t ∷ l) k q r h e = absurd (kind-some t h)
 
-pub prim-none : (f : ℕ) (l : List Tok) (q : Primary) (r : List Tok) → kind_l l ≡ 0 → prim_p f l ≡ ok q r → ⊥
+pub prim-none : (f : ℕ) (l : List Tok) (q : Primary) (r : List Tok) → kind_l l ≡ kinds.End → prim_p f l ≡ ok q r → ⊥
 unfolding choice_p
 prim-none zero l q r h e = out-ok e
 prim-none (suc f) l q r h e = prim_by-not l (λ m. choice_p f m) q r h e
 
-prim_by-other : (l : List Tok) (k : List Tok → Res Choice) (q : Primary) (r : List Tok) → 6 ≤ kind_l l → (kind_l l ≡ 13 → ⊥) → prim_by l k ≡ ok q r → ⊥
+-- no primary begins with a token of the kind
+abbrev pub NoPart : Kind → Type 0
+NoPart k = (k ≡ kinds.End → ⊥) × (k ≡ kinds.Name → ⊥) × (k ≡ kinds.Lake → ⊥) × (k ≡ kinds.Any → ⊥) × (k ≡ kinds.Literal → ⊥) × (k ≡ kinds.Class → ⊥) × (k ≡ kinds.Opens → ⊥)
+
+prim_by-other : (l : List Tok) (k : List Tok → Res Choice) (q : Primary) (r : List Tok) → NoPart (kind_l l) → prim_by l k ≡ ok q r → ⊥
 unfolding prim_by
-prim_by-other [] k q r a h e = omega arith
-prim_by-other (symbol (name w) ∷ l) k q r a h e = omega arith
-prim_by-other (symbol (lake w) ∷ l) k q r a h e = omega arith
-prim_by-other (leaf any ∷ l) k q r a h e = omega arith
-prim_by-other (leaf (literal w) ∷ l) k q r a h e = omega arith
-prim_by-other (leaf (class w) ∷ l) k q r a h e = omega arith
-prim_by-other (pre amp ∷ l) k q r a h e = not-ok e
-prim_by-other (pre bang ∷ l) k q r a h e = not-ok e
-prim_by-other (suf query ∷ l) k q r a h e = not-ok e
-prim_by-other (suf asterisk ∷ l) k q r a h e = not-ok e
-prim_by-other (suf cross ∷ l) k q r a h e = not-ok e
-prim_by-other (arrow ∷ l) k q r a h e = not-ok e
-prim_by-other (slash ∷ l) k q r a h e = not-ok e
-prim_by-other (opens ∷ l) k q r a h e = h refl
-prim_by-other (closes ∷ l) k q r a h e = not-ok e
-prim_by-other (bad ∷ l) k q r a h e = not-ok e
+prim_by-other [] k q r z e = z.0 refl
+prim_by-other (symbol (name w) ∷ l) k q r z e = z.1 refl
+prim_by-other (symbol (lake w) ∷ l) k q r z e = z.2 refl
+prim_by-other (leaf any ∷ l) k q r z e = z.3 refl
+prim_by-other (leaf (literal w) ∷ l) k q r z e = z.4 refl
+prim_by-other (leaf (class w) ∷ l) k q r z e = z.5 refl
+prim_by-other (pre y ∷ l) k q r z e = not-ok e
+prim_by-other (suf y ∷ l) k q r z e = not-ok e
+prim_by-other (arrow ∷ l) k q r z e = not-ok e
+prim_by-other (slash ∷ l) k q r z e = not-ok e
+prim_by-other (opens ∷ l) k q r z e = z.6 refl
+prim_by-other (closes ∷ l) k q r z e = not-ok e
+prim_by-other (bad ∷ l) k q r z e = not-ok e
 
-pub prim-other : (f : ℕ) (l : List Tok) (q : Primary) (r : List Tok) → 6 ≤ kind_l l → (kind_l l ≡ 13 → ⊥) → prim_p f l ≡ ok q r → ⊥
+pub prim-other : (f : ℕ) (l : List Tok) (q : Primary) (r : List Tok) → NoPart (kind_l l) → prim_p f l ≡ ok q r → ⊥
 unfolding choice_p
-prim-other zero l q r a h e = out-ok e
-prim-other (suc f) l q r a h e = prim_by-other l (λ m. choice_p f m) q r a h e
+prim-other zero l q r z e = out-ok e
+prim-other (suc f) l q r z e = prim_by-other l (λ m. choice_p f m) q r z e
 
--- ── one token by its number ──
-pub is-slash : (l : List Tok) → kind_l l ≡ 12 → (r : List Tok) × (l ≡ slash ∷ r)
-is-slash [] e = absurd (omega arith)
-is-slash (symbol (name w) ∷ l) e = absurd (omega arith)
-is-slash (symbol (lake w) ∷ l) e = absurd (omega arith)
-is-slash (leaf any ∷ l) e = absurd (omega arith)
-is-slash (leaf (literal w) ∷ l) e = absurd (omega arith)
-is-slash (leaf (class w) ∷ l) e = absurd (omega arith)
-is-slash (pre amp ∷ l) e = absurd (omega arith)
-is-slash (pre bang ∷ l) e = absurd (omega arith)
-is-slash (suf query ∷ l) e = absurd (omega arith)
-is-slash (suf asterisk ∷ l) e = absurd (omega arith)
-is-slash (suf cross ∷ l) e = absurd (omega arith)
-is-slash (arrow ∷ l) e = absurd (omega arith)
+-- ── one token by its kind ──
+pub is-slash : (l : List Tok) → kind_l l ≡ kinds.Slash → (r : List Tok) × (l ≡ slash ∷ r)
+is-slash [] e = absurd (omega (arith, ap kind_number e))
+is-slash (symbol (name w) ∷ l) e = absurd (omega (arith, ap kind_number e))
+is-slash (symbol (lake w) ∷ l) e = absurd (omega (arith, ap kind_number e))
+is-slash (leaf any ∷ l) e = absurd (omega (arith, ap kind_number e))
+is-slash (leaf (literal w) ∷ l) e = absurd (omega (arith, ap kind_number e))
+is-slash (leaf (class w) ∷ l) e = absurd (omega (arith, ap kind_number e))
+is-slash (pre amp ∷ l) e = absurd (omega (arith, ap kind_number e))
+is-slash (pre bang ∷ l) e = absurd (omega (arith, ap kind_number e))
+is-slash (suf query ∷ l) e = absurd (omega (arith, ap kind_number e))
+is-slash (suf asterisk ∷ l) e = absurd (omega (arith, ap kind_number e))
+is-slash (suf cross ∷ l) e = absurd (omega (arith, ap kind_number e))
+is-slash (arrow ∷ l) e = absurd (omega (arith, ap kind_number e))
 is-slash (slash ∷ l) e = (l, refl)
-is-slash (opens ∷ l) e = absurd (omega arith)
-is-slash (closes ∷ l) e = absurd (omega arith)
-is-slash (bad ∷ l) e = absurd (omega arith)
+is-slash (opens ∷ l) e = absurd (omega (arith, ap kind_number e))
+is-slash (closes ∷ l) e = absurd (omega (arith, ap kind_number e))
+is-slash (bad ∷ l) e = absurd (omega (arith, ap kind_number e))
 
-pub is-opens : (l : List Tok) → kind_l l ≡ 13 → (r : List Tok) × (l ≡ opens ∷ r)
-is-opens [] e = absurd (omega arith)
-is-opens (symbol (name w) ∷ l) e = absurd (omega arith)
-is-opens (symbol (lake w) ∷ l) e = absurd (omega arith)
-is-opens (leaf any ∷ l) e = absurd (omega arith)
-is-opens (leaf (literal w) ∷ l) e = absurd (omega arith)
-is-opens (leaf (class w) ∷ l) e = absurd (omega arith)
-is-opens (pre amp ∷ l) e = absurd (omega arith)
-is-opens (pre bang ∷ l) e = absurd (omega arith)
-is-opens (suf query ∷ l) e = absurd (omega arith)
-is-opens (suf asterisk ∷ l) e = absurd (omega arith)
-is-opens (suf cross ∷ l) e = absurd (omega arith)
-is-opens (arrow ∷ l) e = absurd (omega arith)
-is-opens (slash ∷ l) e = absurd (omega arith)
+pub is-opens : (l : List Tok) → kind_l l ≡ kinds.Opens → (r : List Tok) × (l ≡ opens ∷ r)
+is-opens [] e = absurd (omega (arith, ap kind_number e))
+is-opens (symbol (name w) ∷ l) e = absurd (omega (arith, ap kind_number e))
+is-opens (symbol (lake w) ∷ l) e = absurd (omega (arith, ap kind_number e))
+is-opens (leaf any ∷ l) e = absurd (omega (arith, ap kind_number e))
+is-opens (leaf (literal w) ∷ l) e = absurd (omega (arith, ap kind_number e))
+is-opens (leaf (class w) ∷ l) e = absurd (omega (arith, ap kind_number e))
+is-opens (pre amp ∷ l) e = absurd (omega (arith, ap kind_number e))
+is-opens (pre bang ∷ l) e = absurd (omega (arith, ap kind_number e))
+is-opens (suf query ∷ l) e = absurd (omega (arith, ap kind_number e))
+is-opens (suf asterisk ∷ l) e = absurd (omega (arith, ap kind_number e))
+is-opens (suf cross ∷ l) e = absurd (omega (arith, ap kind_number e))
+is-opens (arrow ∷ l) e = absurd (omega (arith, ap kind_number e))
+is-opens (slash ∷ l) e = absurd (omega (arith, ap kind_number e))
 is-opens (opens ∷ l) e = (l, refl)
-is-opens (closes ∷ l) e = absurd (omega arith)
-is-opens (bad ∷ l) e = absurd (omega arith)
+is-opens (closes ∷ l) e = absurd (omega (arith, ap kind_number e))
+is-opens (bad ∷ l) e = absurd (omega (arith, ap kind_number e))
 
 -- ── rules ──
 arrow-inv : (l : List Tok) (k : List Tok → Res Rules) (g : Rules) (r : List Tok) → arrow_by l k ≡ ok g r → (m : List Tok) × (l ≡ arrow ∷ m) × (k m ≡ ok g r)

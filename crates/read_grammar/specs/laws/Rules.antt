@@ -1,12 +1,12 @@
 -- Rule after rule. Assumes nothing.
-use Rattle.std.specs.Prelude.{ℕ, zero, suc, ◌+◌, ◌≤◌, ◌<◌, ◌≡◌, refl, List, [], ◌∷◌, ◌++◌, ◌⊎◌, length}
+use Rattle.std.specs.Prelude.{ℕ, ◌+◌, ◌<◌, ◌≡◌, refl, List, [], ◌∷◌, ◌++◌, ◌⊎◌, length}
 use Rattle.std.proofs.Common.{sym, ap, ◌∙◌, subst, inl, inr, arith, length-append}
 use Rattle.read_tokens.specs.declared.Mode.{Mode}
 use Rattle.read_tokens.specs.Token.{Symbol, Tok, symbol, arrow}
 use Rattle.grammar.specs.Exp.{Rule}
 use Rattle.grammar.specs.Syntax.{Choice, Rules, rule, more}
 use Rattle.grammar.specs.Trees.{tree_c, ruled, trees}
-use Rattle.read_syntax.specs.Reader.{Res, ok, choice_p, rule_by, rules_r, rules_p}
+use Rattle.read_syntax.specs.Reader.{ok, choice_p, rule_by, rules_r, rules_p}
 use Rattle.read_entries.specs.steps.Entries.{bodied}
 use Rattle.read_grammar.specs.steps.Lay.{St, lay, headed, lay_rules, Rel}
 use Rattle.read_grammar.specs.steps.Promises.{toks_at, Over, Grown, Ruled, Laid}

@@ -1,7 +1,7 @@
 -- One store after the other: the table holds what is read, also afterwards. Assumes nothing.
-use Rattle.std.specs.Prelude.{ℕ, zero, suc, ◌+◌, ◌-◌, ◌*◌, ◌≤◌, ◌<◌, ◌≡◌, Bool, ◌⊎◌}
+use Rattle.std.specs.Prelude.{ℕ, ◌+◌, ◌-◌, ◌*◌, ◌≤◌, ◌<◌, ◌≡◌, Bool}
 use Rattle.std.proofs.Math.Path.{refl, sym, ap}
-use Rattle.std.proofs.Common.{◌∙◌, subst, inl, inr, arith, eq-or-lt_of_le, length-append, ltb-true, ltb-false, lt-ltb, le-ltb}
+use Rattle.std.proofs.Common.{◌∙◌, subst, inl, arith, eq-or-lt_of_le, length-append, ltb-true, ltb-false, lt-ltb, le-ltb}
 use Rattle.std.proofs.Math.Bool.{true, false}
 use mathlib.Core.List.{List, [], ◌∷◌, ◌++◌}
 use Rattle.std.proofs.Math.Logic.{⊎_elim}
@@ -9,21 +9,15 @@ use Rattle.std.proofs.Math.Dec.{ltb}
 use Rattle.std.proofs.Math.ListN.{length, get_or, set, length-set, get_or-append, get_or-eq_default}
 use Rattle.std.proofs.lemmas.List.Edits.{sets}
 use Rattle.std.proofs.Math.Seq.{get_or-set_same, get_or-set_other, get_or-append_seam, length-sets}
-use Rattle.read_tokens.specs.Token.{Symbol, name, Leaf, any}
-use Rattle.grammar.specs.Exp.{Exp, sym as symb, ter}
-use Rattle.grammar.specs.Parts.{Part, terminal, occurs}
-use Rattle.grammar.specs.Same.{same_symbol, same_leaf, index_of}
+use Rattle.read_tokens.specs.Token.{name, any}
+use Rattle.grammar.specs.Parts.{Part, terminal}
 use Rattle.grammar_table.specs.Table.{expressions_at, expression_words, terminals_at, terminal_words, symbols_at, symbol_words, body_at, symbol_key, terminal_key, table_words, part_by, part_in}
-use Rattle.grammar_table.specs.steps.Rows.{cap, seek, kept, Noted}
 use Rattle.grammar_table.specs.laws.Caps.{cap-low, cap-high}
 use Rattle.grammar_table.specs.laws.Words.{sets-out, sets-in}
-use Rattle.grammar_table.specs.laws.Rows.{At, also, All}
-use Rattle.grammar_table.specs.laws.Kept.{Kept, With, at_moved, kept-all, kept-moved, seek-index, fits-also, noted}
-use Rattle.read_entries.specs.steps.Entries.{symbol_row, symbol_record, FitSymbol, symbol_from, leaf_record, FitLeaf, leaf_from, push_by, pushed, bodied_by, bodied}
-use Rattle.read_grammar.specs.steps.Lay.{St, st, last_of, push, under, joined, leafed, used, headed, lay, Fits, Told, Rel}
-use Rattle.read_grammar.specs.laws.Entries.{symbol-read, symbol-sound, symbol-refl, symbol-alike, leaf-read}
-use Rattle.grammar.specs.laws.Same.{leaf-sound, leaf-refl}
-use Rattle.read_grammar.specs.laws.Grows.{Grows, fits-back, names-back, terms-back}
+use Rattle.grammar_table.specs.laws.Kept.{kept-moved}
+use Rattle.read_entries.specs.steps.Entries.{symbol_record, leaf_record, push_by, pushed, bodied_by, bodied}
+use Rattle.read_grammar.specs.steps.Lay.{St, last_of, push, under, joined, headed, Fits, Told, Rel}
+use Rattle.read_grammar.specs.laws.Grows.{Grows, fits-back}
 
 -- ── expressions ──
 pub part_moved : (t t' : List ℕ) (i : ℕ) → ((j : ℕ) → expressions_at + expression_words * i ≤ j → j < expressions_at + expression_words * i + 3 → get_or t' j 0 ≡ get_or t j 0) → part_in t' i ≡ part_in t i

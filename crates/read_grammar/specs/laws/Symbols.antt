@@ -1,6 +1,6 @@
 -- The symbols that are gathered from the tokens of a grammar are those of its rules: the left sides, and the lakes without a rule. Assumes nothing.
-use Rattle.std.specs.Prelude.{ℕ, ◌≡◌, refl, Bool, true, false, not, ◌&&◌, ◌||◌, List, [], ◌∷◌, ◌++◌}
-use Rattle.std.proofs.Common.{sym, ap, ◌∙◌, subst, true≢false, append_assoc, append-nil, arith}
+use Rattle.std.specs.Prelude.{ℕ, ◌≡◌, refl, Bool, true, false, ◌||◌, List, [], ◌∷◌, ◌++◌}
+use Rattle.std.proofs.Common.{sym, ap, ◌∙◌, true≢false, append_assoc, append-nil}
 use Rattle.std.proofs.lemmas.Bool.{false≢true}
 use Rattle.std.proofs.Math.Option.{Option, none, some}
 use Rattle.base_facts.specs.laws.Options.{some-none}
@@ -11,13 +11,10 @@ use Rattle.grammar.specs.Exp.{Exp, Rule, symbols_in, leaves_in}
 use Rattle.grammar.specs.Same.{same_symbol, is_in, new_in}
 use Rattle.grammar.specs.Syntax.{Choice, Sequence, Prefixed, Suffixed, Primary, Rules, one, or, first, next, bare, with, only, then, psym, term, group, rule, more, choice_toks, seq_toks, pref_toks, suf_toks, prim_toks, tokens}
 use Rattle.grammar.specs.Trees.{prefixed, suffixed, tree_c, tree_s, tree_p, tree_f, tree_q, ruled, trees}
-use Rattle.grammar.specs.Numbers.{is_lake, left_sides, uses_of, only_lakes, loose_lakes, symbols_of, leaves_of}
+use Rattle.grammar.specs.Numbers.{left_sides, uses_of, only_lakes, leaves_of}
 use Rattle.read_syntax.specs.Reader.{is_arrow}
-use Rattle.read_syntax.specs.Reading.{reserved, second, second_by, unruled, lacks, lefts_in, left_by, before}
-use Rattle.grammar_table.specs.laws.Rows.{also, adds}
-use Rattle.grammar_table.specs.laws.Firsts.{adds-new, adds-front}
+use Rattle.read_syntax.specs.Reading.{reserved, second, second_by, lefts_in, left_by, before}
 use Rattle.read_grammar.specs.steps.Lay.{gather_by, gathered}
-use Rattle.read_grammar.specs.laws.Entries.{symbol-refl}
 use Rattle.read_tokens.specs.Token.{Prefix, amp, bang, Suffix, query, asterisk, cross}
 
 -- the symbols that no arrow follows, and the terminals

@@ -1,45 +1,43 @@
 -- The whole: the table that is built holds the grammar by numbers. Assumes nothing.
-use Prim.Native.Nat.{ℕ, zero, suc, ◌+◌, ◌-◌, ◌*◌, ◌≤◌, ◌<◌}
-use Rattle.std.specs.Prelude.{◌≡◌, Bool, false, not, ◌&&◌, ◌||◌, ltb, set, replicate}
+use Prim.Native.Nat.{ℕ, zero, suc, ◌+◌, ◌*◌, ◌≤◌, ◌<◌}
+use Rattle.std.specs.Prelude.{◌≡◌, Bool, false, ◌||◌, set, replicate}
 use Rattle.std.proofs.Math.Path.{refl, sym, ap, subst}
-use Rattle.std.proofs.Common.{◌∙◌, true≢false, le_refl}
+use Rattle.std.proofs.Common.{◌∙◌, le_refl}
 use Rattle.std.proofs.Math.Bool.{true}
-use Rattle.std.proofs.lemmas.Bool.{false≢true}
-use mathlib.Core.List.{List, [], ◌∷◌, ◌++◌, map, append-nil, append_assoc}
+use mathlib.Core.List.{List, [], ◌∷◌, ◌++◌, append-nil, append_assoc}
 use Rattle.std.proofs.Math.Option.{Option, none, some}
 use native.Mathlib.Omega.{arith}
-use Rattle.std.proofs.Math.ListN.{length, get_or, length-append, length-replicate, get_or-append}
+use Rattle.std.proofs.Math.ListN.{length, get_or, length-append, length-replicate}
 use Rattle.base_facts.specs.laws.Options.{some-none}
 use Rattle.base_facts.specs.laws.Bools.{not-false, or-holds}
 use Rattle.read_tokens.specs.declared.Mode.{Mode}
 use Rattle.read_tokens.specs.Token.{Symbol, name, lake, Leaf, any, Tok, symbol, leaf, pre, suf, arrow, slash, opens, closes, bad, Lexeme}
 use Rattle.read_tokens.specs.Tokens.{toks_of, toks, lexemes}
-use Rattle.grammar.specs.Exp.{Exp, Rule}
-use Rattle.grammar.specs.Parts.{Part, terminal, parts_all}
+use Rattle.grammar.specs.Exp.{Rule}
+use Rattle.grammar.specs.Parts.{terminal, parts_all}
 use Rattle.grammar.specs.Same.{same_symbol, same_leaf, is_in, index_of, new_in}
 use Rattle.grammar.specs.Syntax.{Rules, tokens}
 use Rattle.grammar.specs.Trees.{trees}
-use Rattle.grammar.specs.Numbers.{left_sides, uses_of, only_lakes, loose_lakes, symbols_of, leaves_of, terminals_of, expressions_of, right_by, numbered}
-use Rattle.grammar_table.specs.Holds.{Holds, present, roots_from}
-use Rattle.grammar_table.specs.Table.{terminals_at, terminal_words, symbols_at, symbol_words, body_at, terminal_key, table_words, name_in, leaf_by, leaf_in, part_in, parts_in, roots_in, up_to}
+use Rattle.grammar.specs.Numbers.{left_sides, only_lakes, loose_lakes, symbols_of, leaves_of, terminals_of, expressions_of, numbered}
+use Rattle.grammar_table.specs.Holds.{Holds}
+use Rattle.grammar_table.specs.Table.{terminals_at, terminal_words, symbols_at, symbol_words, body_at, terminal_key, table_words, name_in, leaf_by, leaf_in, part_in, parts_in, roots_in}
 use Rattle.grammar_table.specs.laws.Lists.{is_up}
 use Rattle.read_syntax.specs.Machine.{start}
-use Rattle.read_syntax.specs.Reader.{is_arrow, ok, rules_p}
-use Rattle.read_syntax.specs.Reading.{second, unruled, lacks, lefts_in, left_by, before}
+use Rattle.read_syntax.specs.Reader.{rules_p}
+use Rattle.read_syntax.specs.Reading.{unruled, lacks, lefts_in, left_by, before}
 use Rattle.read_syntax.proofs.laws.Reads.{cost_r, reads-back}
 use Rattle.grammar_table.specs.steps.Rows.{cap, Noted}
-use Rattle.grammar_table.specs.laws.Caps.{cap-low, cap-high}
+use Rattle.grammar_table.specs.laws.Caps.{cap-low}
 use Rattle.grammar_table.specs.laws.Rows.{also, adds, All, all-at, in-append}
 use Rattle.grammar_table.specs.laws.Firsts.{adds-front}
-use Rattle.grammar_table.specs.laws.Kept.{Kept}
 use Rattle.read_grammar.specs.declared.Counts.{Counts}
-use Rattle.read_entries.specs.steps.Entries.{symbol_record, FitSymbol, symbol_from, leaf_record, FitLeaf, leaf_kind, leaf_from}
-use Rattle.read_grammar.specs.steps.Lay.{St, st, leafed, gathered, lay_rules, Fits, Told, Rel}
+use Rattle.read_entries.specs.steps.Entries.{FitSymbol, symbol_from, leaf_record, FitLeaf, leaf_kind, leaf_from}
+use Rattle.read_grammar.specs.steps.Lay.{St, st, gathered, lay_rules, Fits, Told, Rel}
 use Rattle.read_grammar.specs.steps.Promises.{toks_at, Laid, Named, Sound, Built}
 use Rattle.read_grammar.specs.laws.Entries.{symbol-read, symbol-refl, leaf-read}
 use Rattle.read_grammar.specs.laws.Notes.{rel-start, rel-leaf}
-use Rattle.read_grammar.specs.laws.Symbols.{uses, tells-lefts, tells-uses, tells-leaves, leaves, lefts-gathered, once-new, CoverBy, Covered, only-lakes}
-use Rattle.read_grammar.specs.laws.Laid.{rules-terms, rules-names, rules-length, rules-parts, rules-bodies, present-is, roots-are, heads-length, bodies, heads_from, num}
+use Rattle.read_grammar.specs.laws.Symbols.{tells-lefts, tells-uses, tells-leaves, leaves, lefts-gathered, once-new, CoverBy, Covered, only-lakes}
+use Rattle.read_grammar.specs.laws.Laid.{rules-terms, rules-names, rules-length, rules-parts, rules-bodies, present-is, roots-are, heads-length, bodies, heads_from}
 use Rattle.read_grammar.specs.laws.Within.{FitTok, all_fit, fit-gathered, fit-leaves, all-adds}
 
 -- ── every symbol but a lake's use is a left side ──

@@ -1,19 +1,19 @@
 -- What a text holds that refusals 3 lets through fits into its records. Assumes nothing.
-use Rattle.std.specs.Prelude.{ℕ, zero, suc, ◌+◌, ◌≤◌, ◌<◌, ◌≡◌, refl, Bool, true, false, cond, ltb, length, ◌||◌}
-use Rattle.std.proofs.Common.{sym, ap, ◌∙◌, subst, true≢false, arith, ltb-false}
+use Rattle.std.specs.Prelude.{ℕ, zero, suc, ◌≤◌, ◌≡◌, refl, Bool, true, false, ltb, length, ◌||◌}
+use Rattle.std.proofs.Common.{sym, ap, ◌∙◌, subst, arith, ltb-false}
 use Rattle.std.proofs.lemmas.Bool.{false≢true}
 use mathlib.Core.List.{List, [], ◌∷◌, ◌++◌}
 use Rattle.std.proofs.Math.Option.{Option, none, some}
 use Rattle.read_tokens.specs.declared.Mode.{Mode}
 use Rattle.read_tokens.specs.declared.Mode.TheVariants.{Lake, Plain}
-use Rattle.read_tokens.specs.Token.{Symbol, name, lake, Leaf, any, literal, class, Tok, symbol, leaf, pre, suf, arrow, slash, opens, closes, bad, Lexeme}
+use Rattle.read_tokens.specs.Token.{Symbol, name, lake, any, literal, class, Tok, symbol, leaf, pre, suf, arrow, slash, opens, closes, bad, Lexeme}
 use Rattle.read_tokens.specs.Bounds.{name_bound, literal_bound}
 use Rattle.read_tokens.specs.Tokens.{token_at, toks_of, toks, lexemes, lexemes_from, by_end}
 use Rattle.read_tokens.specs.steps.Code.{Class}
 use Rattle.read_tokens.specs.laws.Again.{class-again}
 use Rattle.read_tokens.specs.laws.Classes.{at-256}
 use Rattle.grammar.specs.Same.{is_in}
-use Rattle.read_syntax.specs.Machine.{State, Judged, fine, syntax, wide, step, over, long_leaf, open_in, judge_by, judge}
+use Rattle.read_syntax.specs.Machine.{State, Judged, fine, syntax, wide, step, over, open_in, judge_by, judge}
 use Rattle.grammar_table.specs.laws.Rows.{also, adds, also-in, also-new, All}
 use Rattle.read_entries.specs.steps.Entries.{FitSymbol, FitLeaf}
 use Rattle.read_grammar.specs.steps.Lay.{gather_by, gathered}

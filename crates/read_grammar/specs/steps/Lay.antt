@@ -1,7 +1,7 @@
 -- What is read, one expression after the other: symbols, the bodies of those whose rules are read, terminals by first appearance, expressions parts before
 -- wholes (01, Notation: "Symbols are numbered from 0"; 01, Lakes made plain: "parts before wholes, rule after rule"). And what it means that a table
 -- holds what is read so far. Assumes nothing: these are definitions.
-use Rattle.std.specs.Prelude.{ℕ, zero, suc, ◌+◌, ◌-◌, ◌*◌, ◌≤◌, ◌<◌, ◌≡◌, Bool, true, false, ◌||◌, List, [], ◌∷◌, ◌++◌, length, get_or}
+use Rattle.std.specs.Prelude.{ℕ, ◌-◌, ◌≤◌, ◌<◌, ◌≡◌, Bool, true, false, ◌||◌, List, [], ◌∷◌, ◌++◌, length, get_or}
 use Rattle.read_tokens.specs.Token.{Symbol, name, Leaf, any, Tok, symbol, leaf, pre, suf, arrow, slash, opens, closes, bad}
 use Rattle.grammar.specs.Exp.{Exp, Rule, sym, ter, seq, alt, opt, star, plus, ahead, never}
 use Rattle.grammar.specs.Parts.{Part, terminal, occurs, sequence, choice, option, repeat, repeat1, affirms, denies}

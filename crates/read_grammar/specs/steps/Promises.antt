@@ -1,15 +1,16 @@
 -- What the reading functions promise: where the definition reads, the code stands behind what is read and has laid it. Nothing is said of other texts.
 -- Assumes nothing: these are definitions.
-use Rattle.std.specs.Prelude.{ℕ, suc, ◌+◌, ◌-◌, ◌*◌, ◌≤◌, ◌<◌, ◌≡◌, Bool, List, [], ◌∷◌, ◌++◌, length}
-use Rattle.std.proofs.Math.Option.{Option, none, some}
+use Rattle.std.specs.Prelude.{ℕ, ◌≤◌, ◌<◌, ◌≡◌, Bool, true, false, List, [], ◌∷◌, length}
+use Rattle.std.proofs.Math.Option.{none, some}
 use Rattle.grammar_table.specs.Table.{table_words}
 use Rattle.read_tokens.specs.declared.Mode.{Mode}
-use Rattle.read_tokens.specs.declared.Token.{Token}
-use Rattle.read_tokens.specs.Token.{Symbol, Leaf, Tok, symbol, leaf, arrow, Lexeme}
+use Rattle.read_tokens.specs.declared.Kind.{Kind}
+use Rattle.read_tokens.specs.declared.Kind.TheVariants as kinds
+use Rattle.read_tokens.specs.Token.{Symbol, Leaf, Tok, symbol, leaf, arrow}
 use Rattle.read_tokens.specs.Tokens.{token_at, toks_of, toks, lexemes}
 use Rattle.read_tokens.specs.steps.Code.{coded}
 use Rattle.read_tokens.specs.laws.Forward.{lexemes_at}
-use Rattle.grammar.specs.Exp.{Exp, Rule, sym, ter}
+use Rattle.grammar.specs.Exp.{Exp, sym, ter}
 use Rattle.grammar.specs.Same.{same_symbol}
 use Rattle.grammar.specs.Syntax.{Choice, Primary, Suffixed, Rules, tokens}
 use Rattle.grammar.specs.Trees.{tree_c, tree_f, tree_q, trees}
@@ -20,12 +21,24 @@ use Rattle.read_syntax.specs.Reader.{Res, ok, suf_by, choice_p, rules_p}
 use Rattle.read_syntax.specs.Reading.{second, unruled, lefts_in}
 use Rattle.grammar_table.specs.steps.Rows.{cap}
 use Rattle.grammar_table.specs.laws.Rows.{adds}
+use Rattle.read_grammar.specs.declared.Asked.{Asked}
+use Rattle.read_grammar.specs.declared.Asked.TheVariants.{Lefts, Every}
 use Rattle.read_grammar.specs.declared.Counts.{Counts}
 use Rattle.read_grammar.specs.steps.Lay.{St, st, lay, headed, lay_rules, gathered, Rel}
 
 -- the tokens from a place on
 abbrev pub toks_at : Mode → List ℕ → ℕ → List Tok
 toks_at m s at = toks_of (lexemes_at m s at)
+
+-- whether a part of a sequence that is no symbol begins with a token of a kind
+abbrev pub begins_part : Kind → Bool
+begins_part kinds.Any = true
+begins_part kinds.Literal = true
+begins_part kinds.Class = true
+begins_part kinds.Amp = true
+begins_part kinds.Bang = true
+begins_part kinds.Opens = true
+begins_part _ = false
 
 -- the place behind the token at a place; at the text's end the place itself
 pub record Over (m : Mode) (s : List ℕ) (at to : ℕ) : Type 0 where
@@ -34,12 +47,12 @@ pub record Over (m : Mode) (s : List ℕ) (at to : ℕ) : Type 0 where
   pub behind : (t : Tok) (l : List Tok) → toks_at m s at ≡ t ∷ l → (at < to) × (toks_at m s to ≡ l)
 
 -- a symbol's use, and a terminal's
-pub record Occurs (s : List ℕ) (kind start size : ℕ) (old new : List ℕ) : Type 0 where
+pub record Occurs (s : List ℕ) (kind : Kind) (start size : ℕ) (old new : List ℕ) : Type 0 where
   pub same : (m : Mode) (at : ℕ) (h : Symbol) → (token_at m s at).is ≡ some (symbol h) → (coded (token_at m s at)).kind ≡ kind
       → (token_at m s at).start ≡ start → (coded (token_at m s at)).size ≡ size
       → (u : St) → Rel old u → Rel new (lay (sym h) u)
 
-pub record Matches (m : Mode) (s : List ℕ) (kind start size : ℕ) (old new : List ℕ) : Type 0 where
+pub record Matches (m : Mode) (s : List ℕ) (kind : Kind) (start size : ℕ) (old new : List ℕ) : Type 0 where
   pub same : (at : ℕ) (x : Leaf) → (token_at m s at).is ≡ some (leaf x) → (coded (token_at m s at)).kind ≡ kind → (token_at m s at).start ≡ start
       → (coded (token_at m s at)).size ≡ size
       → (u : St) → Rel old u → Rel new (lay (ter x) u)
@@ -68,11 +81,20 @@ pub record Ruled (m : Mode) (s : List ℕ) (at k to : ℕ) (old new : List ℕ) 
 pub record Laid (m : Mode) (s old new : List ℕ) : Type 0 where
   pub same : (f : ℕ) (g : Rules) → rules_p f (toks_at m s 0) ≡ ok g [] → (u : St) → u.heads ≡ [] → Rel old u → Rel new (lay_rules (trees g) u)
 
+-- the symbols that are asked for: those that an arrow follows, or every one
+abbrev pub every_of : Asked → Bool
+every_of Lefts = false
+every_of Every = true
+
+-- there is no token, and nothing changes
+pub record Ended (m : Mode) (s : List ℕ) (at : ℕ) (old new : List ℕ) : Type 0 where
+  pub end : toks_at m s at ≡ []
+  pub same : new ≡ old
+
 -- one token passed: its symbol is noted, if it is asked for
 pub record Marked (every : Bool) (m : Mode) (s : List ℕ) (at to : ℕ) (old new : List ℕ) : Type 0 where
-  pub low : at ≤ to
+  pub forth : at < to
   pub high : to ≤ length s
-  pub end : at ≡ to → toks_at m s at ≡ []
   pub same : (ns : List Symbol) → Rel old (st ns [] [] [])
       → (ms : List Symbol) × Rel new (st ms [] [] [])
       × (adds same_symbol ns (gathered every (toks_at m s at)) ≡ adds same_symbol ms (gathered every (toks_at m s to)))

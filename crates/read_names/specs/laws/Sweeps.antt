@@ -1,13 +1,16 @@
 -- A walk over the tokens for one range of names, and what all ranges say together. Assumes nothing.
 use Prim.Native.Nat.{ℕ, zero, suc, ◌+◌, ◌-◌, ◌≤◌, ◌<◌}
-use Rattle.std.specs.Prelude.{◌≡◌, true, not, ◌&&◌, ◌||◌, ◌⊎◌, length, ltb}
+use Rattle.std.specs.Prelude as std
+use Rattle.std.specs.Prelude.{◌≡◌, true, not, ◌&&◌, ◌||◌, ◌⊎◌, length, ltb, Some, None}
+use Rattle.std.specs.Option.{is_some}
 use Rattle.std.proofs.Math.Path.{refl, sym, ap, subst}
 use Rattle.std.proofs.Common.{ap₂, ◌∙◌, inl, inr, ⊎_elim, arith, eq-or-lt_of_le, ltb-true, ltb-false}
 use Rattle.std.proofs.Math.Bool.{Bool, false}
-use Rattle.std.proofs.lemmas.Bool.{false≢true, not-true}
-use mathlib.Core.List.{List, [], ◌∷◌}
+use Rattle.std.proofs.lemmas.Bool.{false≢true}
+use mathlib.Core.List.{List, []}
 use Rattle.std.proofs.Math.Option.{Option, none, some}
 use Rattle.read_tokens.specs.declared.Mode.{Mode}
+use Rattle.read_tokens.specs.declared.Kind.TheVariants.{End}
 use Rattle.read_tokens.specs.declared.Token.{Token}
 use Rattle.read_tokens.specs.Token.{Symbol, Tok, symbol, leaf, pre, suf, arrow, slash, opens, closes, bad}
 use Rattle.read_tokens.specs.Tokens.{token_at, lexemes}
@@ -20,9 +23,8 @@ use Rattle.read_walks.specs.laws.Walks.{in_left, next-none, next-some, moves, st
 use Rattle.read_tokens.specs.laws.Here.{is-end, is-token}
 use Rattle.read_walks.specs.laws.Hits.{all_none, all-next}
 use Rattle.read_walks.specs.laws.Offences.{walked, at-token, walked-into, none-lacks, this-lacks, later-lacks}
-use Rattle.read_order.specs.steps.Order.{above, not_above, within}
+use Rattle.read_order.specs.steps.Order.{Bound, above, not_above, within}
 use Rattle.read_names.specs.steps.Lefts.{Finds, left_at, Met, MetAll, UsedAll, place_by, second4, lacks5, Clear, Struck, Swept, Upto, Whole, Answer}
-use Rattle.read_order.specs.laws.Order.{above-none, above-or, up_none}
 
 -- ── all left sides ──
 module _ (m : Mode) (s : List ℕ) where
@@ -117,13 +119,13 @@ module _ (m : Mode) (s : List ℕ) where
       is-here : (token_at m s (walk_to m s g.k).at).is ≡ (token_at m s at).is
       is-here = ap (λ (i : ℕ). (token_at m s i).is) g.place
 
-      ended : t.kind ≡ 0 → (token_at m s (walk_to m s g.k).at).is ≡ none
+      ended : t.kind ≡ End → (token_at m s (walk_to m s g.k).at).is ≡ none
       ended z = is-here ∙ is-end (token_at m s at).is (sym (ap (λ (x : Token). x.kind) e) ∙ z)
 
-      there : (t.kind ≡ 0 → ⊥) → (u : Tok) × ((token_at m s at).is ≡ some u)
+      there : (t.kind ≡ End → ⊥) → (u : Tok) × ((token_at m s at).is ≡ some u)
       there f = is-token (token_at m s at).is (λ y. f (ap (λ (x : Token). x.kind) e ∙ y))
 
-      pub swept-end : (limit : ℕ) → t.kind ≡ 0 → Swept m s bad names limit limit
+      pub swept-end : (limit : ℕ) → t.kind ≡ End → Swept m s bad names limit limit
       swept-end limit z = record { less = omega arith; clear = clear-end g.k limit g.clear (ended z); why = inl refl }
 
       pub swept-bad : (limit : ℕ) → at < limit → (u : Tok) → (token_at m s at).is ≡ some u → bad g.k u ≡ true → Swept m s bad names limit at
@@ -154,20 +156,20 @@ module _ (m : Mode) (s : List ℕ) where
     swept-sooner limit n l g = record { less = omega arith; clear = λ j h p q w. g.clear j h (omega (arith, p, l)) q w; why = inl refl }
 
 -- ── the walk for 4 in a range ──
-module _ (m : Mode) (s a : List ℕ) (low high n : ℕ) where
+module _ (m : Mode) (s a : List ℕ) (low high : Bound) where
   abbrev names : Symbol → Bool
   names = within s low high
 
   -- the marks are those of the left sides that are passed
   pub record Sweeping (at : ℕ) (marks : List Bool) : Type 0 where
     pub walk : Going m s (second4 m s) names at
-    pub knows : Finds s a low high n (walk_to m s walk.k).seen marks
+    pub knows : Finds s a low high (walk_to m s walk.k).seen marks
 
-  pub sweeping : (marks : List Bool) → Finds s a low high n [] marks → Sweeping 0 marks
+  pub sweeping : (marks : List Bool) → Finds s a low high [] marks → Sweeping 0 marks
   unfolding walk_to going
   sweeping marks k = record { walk = going m s (second4 m s) names; knows = k }
 
-  whole : {at : ℕ} {marks : List Bool} (g : Sweeping at marks) → (token_at m s at).is ≡ none → Whole m s a low high n marks
+  whole : {at : ℕ} {marks : List Bool} (g : Sweeping at marks) → (token_at m s at).is ≡ none → Whole m s a low high marks
   whole {at} {marks} g e x h = sym (seen_all m s g.walk.k (ap (λ (i : ℕ). (token_at m s i).is) g.walk.place ∙ e) x) ∙ g.knows x h
 
   -- from the text's end on there is no token
@@ -178,64 +180,68 @@ module _ (m : Mode) (s a : List ℕ) (low high n : ℕ) where
       go none e = e
       go (some u) e = let f = forward m s at u e in absurd (omega (arith, f.behind, f.long, f.within))
 
-  pub sweep-limit : {at : ℕ} {marks : List Bool} (g : Sweeping at marks) (limit : ℕ) → limit ≤ at → Answer m s a low high n limit limit marks
+  pub sweep-limit : {at : ℕ} {marks : List Bool} (g : Sweeping at marks) (limit : ℕ) → limit ≤ at → Answer m s a low high limit limit marks
   sweep-limit {at} g limit l = (swept-limit m s (second4 m s) names g.walk limit l, λ z. whole g (beyond at (omega (arith, z, l))))
 
   module _ {at : ℕ} {marks : List Bool} (g : Sweeping at marks) (t : Token) (e : t ≡ coded (token_at m s at)) where
-    pub sweep-end : (limit : ℕ) → t.kind ≡ 0 → Answer m s a low high n limit limit marks
+    pub sweep-end : (limit : ℕ) → t.kind ≡ End → Answer m s a low high limit limit marks
     sweep-end limit z = (swept-end m s (second4 m s) names g.walk t e limit z, λ y. whole g (is-end (token_at m s at).is (sym (ap (λ (x : Token). x.kind) e) ∙ z)))
 
-    module _ (f : t.kind ≡ 0 → ⊥) (r : ℕ) (marks' : List Bool) (p : MetAll m s at a low high n r marks marks') where
+    module _ (f : t.kind ≡ End → ⊥) (r : Bool) (marks' : List Bool) (p : MetAll m s at a low high r marks marks') where
       here : (u : Tok) × ((token_at m s at).is ≡ some u)
       here = is-token (token_at m s at).is (λ y. f (ap (λ (x : Token). x.kind) e ∙ y))
 
-      met : Met m s at a low high n r marks' here.0 (walk_to m s g.walk.k).seen
+      met : Met m s at a low high r marks' here.0 (walk_to m s g.walk.k).seen
       met = p here.0 here.1 (walk_to m s g.walk.k).seen g.knows
 
       left_here : left_at m s (walk_to m s g.walk.k).at ≡ left_at m s at
       left_here = ap (left_at m s) g.walk.place
 
-      pub sweep-bad : (limit : ℕ) → at < limit → limit ≤ length s → r ≡ 1 → Answer m s a low high n limit at marks'
+      pub sweep-bad : (limit : ℕ) → at < limit → limit ≤ length s → r ≡ true → Answer m s a low high limit at marks'
       sweep-bad limit l i z = (
         swept-bad m s (second4 m s) names g.walk t e limit l here.0 here.1 (ap (bad4 m (walk_to m s g.walk.k).seen here.0) left_here ∙ met.bad z),
         λ y. absurd (omega (arith, y, l, i)),
       )
 
-      pub sweep-next : r ≡ 0 → Sweeping t.next marks'
+      pub sweep-next : r ≡ false → Sweeping t.next marks'
       unfolding goes
       sweep-next z =
           let w = goes m s (second4 m s) names g.walk t e here.0 here.1 (λ h i j. ap (bad4 m (walk_to m s g.walk.k).seen here.0) left_here ∙ met.fine z h i j) in
           record {
             walk = w;
-            knows = subst (λ (l : List Symbol). Finds s a low high n l marks')
+            knows = subst (λ (l : List Symbol). Finds s a low high l marks')
                 (sym (ap (λ (x : Walk). x.seen) (next-some m s g.walk.k here.0 (ap (λ (i : ℕ). (token_at m s i).is) g.walk.place ∙ here.1))
                 ∙ ap (λ (b : Bool). left_by here.0 b (walk_to m s g.walk.k).seen) left_here)) (met.more z);
           }
 
-  -- ── the walk for 5 in a range ──
-  module _ {at : ℕ} (g : Going m s (lacks5 m s) names at) (t : Token) (e : t ≡ coded (token_at m s at)) (f : t.kind ≡ 0 → ⊥) (r : ℕ) (p : UsedAll m s at low high r) where
+-- ── the walk for 5 in a range ──
+module _ (m : Mode) (s : List ℕ) (low high : Bound) where
+  abbrev names5 : Symbol → Bool
+  names5 = within s low high
+
+  module _ {at : ℕ} (g : Going m s (lacks5 m s) names5 at) (t : Token) (e : t ≡ coded (token_at m s at)) (f : t.kind ≡ End → ⊥) (r : Bool) (p : UsedAll m s at low high r) where
     here-5 : (u : Tok) × ((token_at m s at).is ≡ some u)
     here-5 = is-token (token_at m s at).is (λ y. f (ap (λ (x : Token). x.kind) e ∙ y))
 
     told : (u : Tok) → lacks5 m s g.k u ≡ lacks (lefts_in (lexemes m s)) u (left_at m s at)
     told u = ap (λ (i : ℕ). lacks (lefts_in (lexemes m s)) u (left_at m s i)) g.place
 
-    pub uses-bad : (limit : ℕ) → at < limit → r ≡ 1 → Swept m s (lacks5 m s) names limit at
-    uses-bad limit l z = swept-bad m s (lacks5 m s) names g t e limit l here-5.0 here-5.1 (told here-5.0 ∙ (p here-5.0 here-5.1).bad z)
+    pub uses-bad : (limit : ℕ) → at < limit → r ≡ true → Swept m s (lacks5 m s) names5 limit at
+    uses-bad limit l z = swept-bad m s (lacks5 m s) names5 g t e limit l here-5.0 here-5.1 (told here-5.0 ∙ (p here-5.0 here-5.1).bad z)
 
-    pub uses-next : r ≡ 0 → Going m s (lacks5 m s) names t.next
-    uses-next z = goes m s (lacks5 m s) names g t e here-5.0 here-5.1 (λ h i j. told here-5.0 ∙ (p here-5.0 here-5.1).fine z h i j)
+    pub uses-next : r ≡ false → Going m s (lacks5 m s) names5 t.next
+    uses-next z = goes m s (lacks5 m s) names5 g t e here-5.0 here-5.1 (λ h i j. told here-5.0 ∙ (p here-5.0 here-5.1).fine z h i j)
 
 -- ── all ranges ──
 module _ (m : Mode) (s : List ℕ) (bad : ℕ → Tok → Bool) where
-  pub upto-none : Upto m s bad 0 (length s)
-  upto-none = record { less = omega arith; clear = λ j h l q w. absurd (false≢true (ap not (above-none s 0 h refl) ∙ w)); why = inl refl }
+  pub upto-none : Upto m s bad None (length s)
+  upto-none = record { less = omega arith; clear = λ j h l q w. absurd (false≢true w); why = inl refl }
 
   -- the range of the names above a bound
-  pub swept-low : (b low high limit r : ℕ) → b ≡ low → Swept m s bad (within s b high) limit r → Swept m s bad (within s low high) limit r
-  swept-low b low high limit r e p = subst (λ (x : ℕ). Swept m s bad (within s x high) limit r) e p
+  pub swept-low : (b low high : Bound) (limit r : ℕ) → b ≡ low → Swept m s bad (within s b high) limit r → Swept m s bad (within s low high) limit r
+  swept-low b low high limit r e p = subst (λ (x : Bound). Swept m s bad (within s x high) limit r) e p
 
-  module _ {low limit : ℕ} (g : Upto m s bad low limit) (high r : ℕ) (p : Swept m s bad (within s low high) limit r) where
+  module _ {low : Bound} {limit : ℕ} (g : Upto m s bad low limit) (high : Bound) (r : ℕ) (p : Swept m s bad (within s low high) limit r) where
     within-limit : r ≤ length s
     within-limit = omega (arith, p.less, g.less)
 
@@ -252,16 +258,12 @@ module _ (m : Mode) (s : List ℕ) (bad : ℕ → Tok → Bool) where
         go true e = p.clear j h l q (ap₂ (λ (x y : Bool). x && y) e (f h w))
         go false e = g.clear j h (omega (arith, l, p.less)) q (ap not e)
 
-    pub upto_next : (high ≡ 0 → ⊥) → Upto m s bad high r
-    upto_next f =
-        record {
-          less = within-limit;
-          clear = either (λ x. not (above s high x)) (λ x w. above-or s high x f (not-true (above s high x) w));
-          why = reason;
-        }
-
-    pub upto_all : high ≡ 0 → Clear m s bad (λ x. true) r × ((r ≡ length s) ⊎ Struck m s bad r)
-    upto_all e = (either (λ x. true) (λ x w. sym (up_none s high x e)), reason)
+    pub upto_all : is_some high ≡ false → Clear m s bad (λ x. true) r × ((r ≡ length s) ⊎ Struck m s bad r)
+    upto_all e = (either (λ x. true) (λ x w. up x high e), reason)
+      where
+        up : (x : Symbol) (b : Bound) → is_some b ≡ false → not_above s b x ≡ true
+        up x None e = refl
+        up x (Some v) e = absurd (false≢true (sym e))
 
 -- ── the answers ──
 module _ (m : Mode) (s : List ℕ) where
@@ -363,7 +365,7 @@ module _ (m : Mode) (s : List ℕ) where
           let z : (walk_to m s (suc j)).at < (walk_to m s k).at = subst (λ (i : ℕ). (walk_to m s (suc j)).at < (walk_to m s i).at) d y in omega (arith, z, ap (λ (w : Walk). w.at) p, n, f.behind, f.long))
           (moves m s (suc j) (k - suc j))
 
-  placed_by : (at r : ℕ) (o : Option Tok) → (token_at m s at).is ≡ o → r ≡ place_by (token_at m s at).is (token_at m s at).start → r ≡ place_by o (token_at m s at).start
+  placed_by : (at : ℕ) (r : std.Option ℕ) (o : Option Tok) → (token_at m s at).is ≡ o → r ≡ place_by (token_at m s at).is (token_at m s at).start → r ≡ place_by o (token_at m s at).start
   placed_by at r o e h = h ∙ ap (λ (x : Option Tok). place_by x (token_at m s at).start) e
 
   at_length : (token_at m s (length s)).is ≡ none
@@ -373,7 +375,7 @@ module _ (m : Mode) (s : List ℕ) where
       go none e = e
       go (some u) e = let f = forward m s (length s) u e in absurd (omega (arith, f.behind, f.long, f.within))
 
-  pub second-says : (limit r : ℕ) → Clear m s (second4 m s) (λ x. true) limit × ((limit ≡ length s) ⊎ Struck m s (second4 m s) limit)
+  pub second-says : (limit : ℕ) (r : std.Option ℕ) → Clear m s (second4 m s) (λ x. true) limit × ((limit ≡ length s) ⊎ Struck m s (second4 m s) limit)
       → r ≡ place_by (token_at m s limit).is (token_at m s limit).start → r ≡ placed (second m [] (lexemes m s))
   second-says limit r c h =
       ⊎_elim
@@ -383,16 +385,16 @@ module _ (m : Mode) (s : List ℕ) where
       (λ (k : Struck m s (second4 m s) limit).
       let q : (token_at m s limit).is ≡ some k.tok = ap (λ (i : ℕ). (token_at m s i).is) (sym k.place) ∙ k.there in
       placed_by limit r (some k.tok) q h
-      ∙ ap (λ (i : ℕ). (token_at m s i).start + 1) (sym k.place)
+      ∙ ap (λ (i : ℕ). Some (token_at m s i).start) (sym k.place)
       ∙ walked-into m s (walk_to m s k.k).at (token_at m s (walk_to m s k.k).at).start
       (k.k, refl, second_from limit c.0 k.k (λ j l u e. omega (arith, in-front k.k k.tok k.there j l u e, k.place))) k.tok k.there refl (sym k.worse))
       c.1
 
   -- there is none in the whole text
-  pub second_none : Clear m s (second4 m s) (λ x. true) (length s) × ((length s ≡ length s) ⊎ Struck m s (second4 m s) (length s)) → 0 ≡ placed (second m [] (lexemes m s))
-  second_none c = second-says (length s) 0 c (sym (ap (λ (u : Option Tok). place_by u (token_at m s (length s)).start) at_length))
+  pub second_none : Clear m s (second4 m s) (λ x. true) (length s) × ((length s ≡ length s) ⊎ Struck m s (second4 m s) (length s)) → None ≡ placed (second m [] (lexemes m s))
+  second_none c = second-says (length s) None c (sym (ap (λ (u : Option Tok). place_by u (token_at m s (length s)).start) at_length))
 
-  pub unruled-says : (limit r : ℕ) → Clear m s (lacks5 m s) (λ x. true) limit × ((limit ≡ length s) ⊎ Struck m s (lacks5 m s) limit)
+  pub unruled-says : (limit : ℕ) (r : std.Option ℕ) → Clear m s (lacks5 m s) (λ x. true) limit × ((limit ≡ length s) ⊎ Struck m s (lacks5 m s) limit)
       → r ≡ place_by (token_at m s limit).is (token_at m s limit).start → r ≡ placed (unruled (lefts_in (lexemes m s)) (lexemes m s))
   unruled-says limit r c h =
       ⊎_elim
@@ -403,16 +405,16 @@ module _ (m : Mode) (s : List ℕ) where
       (λ (k : Struck m s (lacks5 m s) limit).
       let q : (token_at m s limit).is ≡ some k.tok = ap (λ (i : ℕ). (token_at m s i).is) (sym k.place) ∙ k.there in
       placed_by limit r (some k.tok) q h
-      ∙ ap (λ (i : ℕ). (token_at m s i).start + 1) (sym k.place)
+      ∙ ap (λ (i : ℕ). Some (token_at m s i).start) (sym k.place)
       ∙ this-lacks m s (lefts_in (lexemes m s)) (walk_to m s k.k).at (token_at m s (walk_to m s k.k).at).start k.tok k.there refl (sym k.worse)
       ∙ ap placed (lacks-from limit c.0 k.k (λ j l u e. omega (arith, in-front k.k k.tok k.there j l u e, k.place))))
       c.1
 
   module _ (at : ℕ) (t : Token) (e : t ≡ coded (token_at m s at)) where
-    pub place_none : t.kind ≡ 0 → 0 ≡ place_by (token_at m s at).is (token_at m s at).start
+    pub place_none : t.kind ≡ End → None ≡ place_by (token_at m s at).is (token_at m s at).start
     place_none z = sym (ap (λ (o : Option Tok). place_by o (token_at m s at).start) (is-end (token_at m s at).is (sym (ap (λ (x : Token). x.kind) e) ∙ z)))
 
-    pub place-some : (t.kind ≡ 0 → ⊥) → t.start + 1 ≡ place_by (token_at m s at).is (token_at m s at).start
+    pub place-some : (t.kind ≡ End → ⊥) → Some t.start ≡ place_by (token_at m s at).is (token_at m s at).start
     place-some f =
         let x = is-token (token_at m s at).is (λ y. f (ap (λ (x : Token). x.kind) e ∙ y)) in
-        ap (λ (y : Token). y.start + 1) e ∙ sym (ap (λ (o : Option Tok). place_by o (token_at m s at).start) x.1)
+        ap (λ (y : Token). Some y.start) e ∙ sym (ap (λ (o : Option Tok). place_by o (token_at m s at).start) x.1)

@@ -1,15 +1,17 @@
 -- The automaton on numbers is the automaton, and the walk with byte places is refusals 2 and 3. Assumes nothing.
-use Rattle.std.specs.Prelude.{ℕ, zero, suc, ◌+◌, ◌-◌, ◌≤◌, ◌<◌, ◌≡◌, refl, Bool, true, false, cond, List, [], ◌∷◌, ◌++◌, length, eqb, leb, ltb}
+use Rattle.std.specs.Prelude.{ℕ, zero, suc, ◌+◌, ◌-◌, ◌≤◌, ◌<◌, ◌≡◌, refl, Bool, true, false, cond, List, [], ◌∷◌, ◌++◌, length, leb}
 use Rattle.std.proofs.Math.Path.{sym, ap}
-use Rattle.std.proofs.Common.{◌∙◌, append_assoc, add-one, sub-one, arith, length-append}
+use Rattle.std.proofs.Common.{◌∙◌, append_assoc, add-one, sub-one, arith, length-append, leb-true, leb-false}
 use Rattle.std.proofs.Math.Option.{Option, none, some}
 use Rattle.read_tokens.specs.declared.Mode.{Mode}
-use Rattle.read_tokens.specs.Token.{Tok, Lexeme, Prefix, Suffix, name, lake, any, literal, class, amp, bang, query, asterisk, cross, symbol, leaf, pre, suf, arrow, slash, opens, closes, bad}
+use Rattle.read_tokens.specs.Token.{Tok, Lexeme, name, lake, any, literal, class, amp, bang, query, asterisk, cross, symbol, leaf, pre, suf, arrow, slash, opens, closes, bad}
+use Rattle.read_tokens.specs.declared.Kind.{Kind}
+use Rattle.read_tokens.specs.declared.Kind.TheVariants.{End, Name, Lake, Any, Literal, Class, Amp, Bang, Query, Asterisk, Cross, Arrow, Slash, Opens, Closes, Bad}
 use Rattle.read_tokens.specs.steps.Code.{kind_of, size_of}
-use Rattle.grammar.specs.Refusal.{Refusal, refusal}
-use Rattle.read_syntax.specs.Machine.{State, start, head, need, bound, prim, part, maybe, close, new_rule, after, step, accepting, over, open_in, Judged, fine, syntax, wide, judge_by, judge, place_of}
+use Rattle.grammar.specs.Refusal.{refusal}
+use Rattle.read_syntax.specs.Machine.{State, start, head, need, bound, prim, part, maybe, close, new_rule, after, step, accepting, over, open_in, fine, syntax, judge_by, judge, place_of}
 use Rattle.read_syntax.specs.Reading.{offence}
-use Rattle.read_syntax.specs.steps.Numbers.{tok_of, class_of, kind_class, state_of, code, next_of, deep, one_fewer, moved, decode, over_by, judged_by, judged_at}
+use Rattle.read_syntax.specs.steps.Numbers.{tok_of, class_of, kind_class, state_of, code, next_of, deep, moved, decode, over_by, judged_by, judged_at}
 
 pub law : (c d : ℕ) (t : Tok) → step (state_of c d) t ≡ decode (next_of c (deep d) (class_of t)) (moved d (class_of t))
 unfolding step after close new_rule state_of tok_of class_of code next_of moved decode
@@ -189,13 +191,40 @@ not-closed (suc (suc (suc (suc (suc zero))))) (suc d) h = refl
 not-closed (suc (suc (suc (suc (suc (suc m)))))) zero h = absurd (h refl)
 not-closed (suc (suc (suc (suc (suc (suc m)))))) (suc d) h = refl
 
+pub closed-is : (c d : ℕ) → d ≡ 0 → leb 4 c ≡ accepting (state_of c d)
+closed-is c d e = go (leb 4 c) refl
+  where
+    go : (b : Bool) → leb 4 c ≡ b → b ≡ accepting (state_of c d)
+    go true f = sym (last c d (leb-true 4 c f) e)
+    go false f = sym (not_last c d (leb-false 4 c f))
+
 pub deep_one : (d : ℕ) → (d ≡ 0 → ⊥) → 1 ≡ deep d
 deep_one zero h = absurd (h refl)
 deep_one (suc d) h = refl
 
+-- the open parentheses after a token that neither opens nor closes any
+pub moved_rest : (d : ℕ) (k : Kind) → (k ≡ Arrow → ⊥) → (k ≡ Opens → ⊥) → (k ≡ Closes → ⊥) → d ≡ moved d (kind_class k)
+unfolding moved
+moved_rest d End f g h = refl
+moved_rest d Name f g h = refl
+moved_rest d Lake f g h = refl
+moved_rest d Any f g h = refl
+moved_rest d Literal f g h = refl
+moved_rest d Class f g h = refl
+moved_rest d Amp f g h = refl
+moved_rest d Bang f g h = refl
+moved_rest d Query f g h = refl
+moved_rest d Asterisk f g h = refl
+moved_rest d Cross f g h = refl
+moved_rest d Arrow f g h = absurd (f refl)
+moved_rest d Slash f g h = refl
+moved_rest d Opens f g h = absurd (g refl)
+moved_rest d Closes f g h = absurd (h refl)
+moved_rest d Bad f g h = refl
+
 -- the class of a token is that of its kind
 pub class-is : (t : Tok) → kind_class (kind_of (some t)) ≡ class_of t
-unfolding kind_class class_of
+unfolding class_of
 class-is (symbol (name w)) = refl
 class-is (symbol (lake w)) = refl
 class-is (leaf any) = refl
@@ -212,24 +241,6 @@ class-is opens = refl
 class-is closes = refl
 class-is bad = refl
 
-pub kind-small : (o : Option Tok) → kind_of o < 16
-kind-small none = omega arith
-kind-small (some (symbol (name w))) = omega arith
-kind-small (some (symbol (lake w))) = omega arith
-kind-small (some (leaf any)) = omega arith
-kind-small (some (leaf (literal l))) = omega arith
-kind-small (some (leaf (class l))) = omega arith
-kind-small (some (pre amp)) = omega arith
-kind-small (some (pre bang)) = omega arith
-kind-small (some (suf query)) = omega arith
-kind-small (some (suf asterisk)) = omega arith
-kind-small (some (suf cross)) = omega arith
-kind-small (some arrow) = omega arith
-kind-small (some slash) = omega arith
-kind-small (some opens) = omega arith
-kind-small (some closes) = omega arith
-kind-small (some bad) = omega arith
-
 pub class-small : (t : Tok) → class_of t < 9
 unfolding class_of
 class-small (symbol h) = omega arith
@@ -244,7 +255,7 @@ class-small bad = omega arith
 
 -- a token is over its bound by its kind and size
 pub over-is : (m : Mode) (d : ℕ) (t : Tok) → over m d t ≡ over_by m d (kind_of (some t)) (size_of (some t))
-unfolding over over_by
+unfolding over
 over-is m d (symbol (name w)) = refl
 over-is m d (symbol (lake w)) = refl
 over-is m d (leaf any) = refl

@@ -1,5 +1,5 @@
 -- A grammar's tokens are accepted by the automaton. Assumes nothing.
-use Rattle.std.specs.Prelude.{ℕ, suc, ◌+◌, ◌≡◌, refl, true, List, [], ◌∷◌, ◌++◌}
+use Rattle.std.specs.Prelude.{ℕ, suc, ◌≡◌, refl, true, List, [], ◌∷◌, ◌++◌}
 use Rattle.std.proofs.Common.{sym, ap, ◌∙◌}
 use Rattle.std.proofs.Math.Option.{Option, none, some}
 use Rattle.read_tokens.specs.Token.{Symbol, Leaf, Prefix, Suffix, Tok, symbol, leaf, pre, suf, arrow, slash, opens, closes}

@@ -1,8 +1,27 @@
 -- The automaton on numbers, as code runs it: control 0 to 6 (7: dead), the open parentheses, classes of tokens 0 to 8; and what a token's kind says of
 -- its class and of its bound. Assumes nothing: these are definitions.
-use Rattle.std.specs.Prelude.{ℕ, zero, suc, ◌+◌, ◌*◌, ◌<◌, ◌≡◌, Bool, true, false, cond, List, [], ◌∷◌, eqb, leb, ltb, get_or}
+use Rattle.std.specs.Prelude.{ℕ, zero, suc, ◌+◌, ◌*◌, ◌<◌, ◌≡◌, Bool, true, false, cond, List, [], ◌∷◌, leb, ltb, get_or}
 use Rattle.std.proofs.Math.Option.{Option, none, some}
 use Rattle.read_tokens.specs.declared.Mode.{Mode}
+use Rattle.read_tokens.specs.declared.Kind.{Kind}
+use Rattle.read_tokens.specs.declared.Kind.TheVariants.{
+  End,
+  Name,
+  Lake,
+  Any,
+  Literal,
+  Class,
+  Amp,
+  Bang,
+  Query,
+  Asterisk,
+  Cross,
+  Arrow,
+  Slash,
+  Opens,
+  Closes,
+  Bad,
+}
 use Rattle.read_tokens.specs.Token.{Tok, Lexeme, name, any, amp, query, symbol, leaf, pre, suf, arrow, slash, opens, closes, bad}
 use Rattle.read_tokens.specs.Bounds.{name_bound, literal_bound, open_bound}
 use Rattle.grammar.specs.Refusal.{Refusal, refusal}
@@ -33,9 +52,23 @@ class_of closes = 7
 class_of bad = 8
 
 -- the class of a token's kind
-unfoldable pub kind_class : ℕ → ℕ
-kind_class k = cond (leb k 2) 0
-    (cond (leb k 5) 1 (cond (leb k 7) 2 (cond (leb k 10) 3 (cond (eqb k 11) 4 (cond (eqb k 12) 5 (cond (eqb k 13) 6 (cond (eqb k 14) 7 8)))))))
+abbrev pub kind_class : Kind → ℕ
+kind_class End = 0
+kind_class Name = 0
+kind_class Lake = 0
+kind_class Any = 1
+kind_class Literal = 1
+kind_class Class = 1
+kind_class Amp = 2
+kind_class Bang = 2
+kind_class Query = 3
+kind_class Asterisk = 3
+kind_class Cross = 3
+kind_class Arrow = 4
+kind_class Slash = 5
+kind_class Opens = 6
+kind_class Closes = 7
+kind_class Bad = 8
 
 unfoldable pub state_of : ℕ → ℕ → State
 state_of zero d = start
@@ -95,8 +128,23 @@ decode (suc (suc (suc (suc (suc (suc zero)))))) d = some (maybe d)
 decode (suc (suc (suc (suc (suc (suc (suc m))))))) d = none
 
 -- a token over its bound, by its kind and size, where d parentheses are open
-unfoldable pub over_by : Mode → ℕ → ℕ → ℕ → Bool
-over_by m d k z = cond (leb k 2) (ltb (name_bound m) z) (cond (eqb k 4) (ltb literal_bound z) (cond (eqb k 13) (leb (open_bound m) d) false))
+abbrev pub over_by : Mode → ℕ → Kind → ℕ → Bool
+over_by m d End z = false
+over_by m d Name z = ltb (name_bound m) z
+over_by m d Lake z = ltb (name_bound m) z
+over_by m d Any z = false
+over_by m d Literal z = ltb literal_bound z
+over_by m d Class z = false
+over_by m d Amp z = false
+over_by m d Bang z = false
+over_by m d Query z = false
+over_by m d Asterisk z = false
+over_by m d Cross z = false
+over_by m d Arrow z = false
+over_by m d Slash z = false
+over_by m d Opens z = leb (open_bound m) d
+over_by m d Closes z = false
+over_by m d Bad z = false
 
 -- the walk with byte places: n is the text's length
 abbrev pub judged_by : Option State → Bool → ℕ → (State → Option Refusal) → Option Refusal

@@ -1,74 +1,86 @@
-use mathlib.Core.Path.{◌≡◌, refl, sym, ap, ◌∙◌}
-use Prim.Native.Nat.{ℕ, suc, ◌<◌}
-use lib.ListN.{length, drop, get_or}
+use mathlib.Core.Path.{ap, ◌∙◌}
 use mathlib.Core.List.{List}
-use mathlib.Core.Bool.{false}
-use Rattle.read_tokens.specs.declared.Mode.{Mode}
-use Rattle.read_tokens.specs.steps.Code.{coded, made, named}
+use mathlib.Core.Logic.{inl, inr}
+use Prim.Native.Nat.{ℕ, suc}
 use lib.Seq.{drop-cons}
-use Rattle.read_tokens.specs.Tokens.{skip, by_kind, name_span, token_at}
-use Rattle.read_tokens.specs.Kinds.{kind_at}
+use Rattle.read_tokens.specs.declared.Kind.{Kind}
+use Rattle.read_tokens.specs.steps.Code.{coded, made, named}
+use Rattle.read_tokens.specs.Tokens.{by_kind, name_span}
 use Rattle.read_tokens.proofs.LiteralSteps.{bad-is}
-use Rattle.read_tokens.proofs.TokenSteps.{token_end, token-is, one-is, bad_kind}
+use Rattle.read_tokens.proofs.TokenSteps.{token_end, token-is, one-is}
 use Rattle.read_tokens.proofs.token_by.Goals as goal
 
--- What all arms share: the byte at the place behind the blanks has the kind k.
-here : (mode : Mode) (text : List ℕ) (at i v k : ℕ) → i ≡ skip false at (drop at text) → i < length text → v ≡ kind_at (get_or text i 0) → v ≡ k
-    → coded (by_kind k mode (get_or text i 0) i (drop (suc i) text)) ≡ coded (token_at mode text at)
-here mode text at i v k behind inside is e = token-is mode text at i k behind inside (sym is ∙ e)
-
 pub returns-then-text-i : goal.returns-then-text-i
-returns-then-text-i c = c.plain.ensures ∙ token_end c.args.mode c.args.text.now
-    c.args.at _ c.blanks-i.ensures c.if-text-i.true
+returns-then-text-i c = c.plain.ensures ∙ token_end c.args.mode c.args.text.now c.args.at _ c.blanks-i.ensures c.if-text-i.true
 
-pub returns-in-2 : goal.returns-in-2
+pub returns-in-Letter : goal.returns-in-Letter
 unfolding by_kind
-returns-in-2 c = c.name_token.ensures ∙ ap (λ (l : List ℕ). coded (named c.blanks-i.result (name_span l)))
-    (drop-cons c.args.text.now c.blanks-i.result 0 c.if-text-i.false) ∙ here c.args.mode c.args.text.now c.args.at c.blanks-i.result c.kind_of-k.result 2 c.blanks-i.ensures c.if-text-i.false
-    c.kind_of-k.ensures c.in-2.is
+returns-in-Letter c =
+    c.name_token.ensures ∙ ap (λ (l : List ℕ). coded (named c.blanks-i.result (name_span l))) (drop-cons c.args.text.now c.blanks-i.result 0 c.if-text-i.false)
+    ∙ token-is c.args.mode c.args.text.now c.args.at _ c.blanks-i.ensures c.if-text-i.false c.kind_of.ensures c.in-Letter.is
 
-pub returns-in-5 : goal.returns-in-5
+pub returns-in-Open : goal.returns-in-Open
 unfolding by_kind
-returns-in-5 c = c.plain-in-5.ensures ∙ one-is 13 _ ∙ here c.args.mode c.args.text.now c.args.at c.blanks-i.result c.kind_of-k.result 5 c.blanks-i.ensures c.if-text-i.false c.kind_of-k.ensures
-    c.in-5.is
+returns-in-Open c =
+    c.plain-in-Open.ensures ∙ one-is _ _
+    ∙ token-is c.args.mode c.args.text.now c.args.at _ c.blanks-i.ensures c.if-text-i.false c.kind_of.ensures c.in-Open.is
 
-pub returns-in-6 : goal.returns-in-6
+pub returns-in-Close : goal.returns-in-Close
 unfolding by_kind
-returns-in-6 c = c.plain-in-6.ensures ∙ one-is 14 _ ∙ here c.args.mode c.args.text.now c.args.at c.blanks-i.result c.kind_of-k.result 6 c.blanks-i.ensures c.if-text-i.false c.kind_of-k.ensures
-    c.in-6.is
+returns-in-Close c =
+    c.plain-in-Close.ensures ∙ one-is _ _
+    ∙ token-is c.args.mode c.args.text.now c.args.at _ c.blanks-i.ensures c.if-text-i.false c.kind_of.ensures c.in-Close.is
 
-pub returns-in-7 : goal.returns-in-7
+pub returns-in-Slash : goal.returns-in-Slash
 unfolding by_kind
-returns-in-7 c = c.plain-in-7.ensures ∙ one-is 12 _ ∙ here c.args.mode c.args.text.now c.args.at c.blanks-i.result c.kind_of-k.result 7 c.blanks-i.ensures c.if-text-i.false c.kind_of-k.ensures
-    c.in-7.is
+returns-in-Slash c =
+    c.plain-in-Slash.ensures ∙ one-is _ _
+    ∙ token-is c.args.mode c.args.text.now c.args.at _ c.blanks-i.ensures c.if-text-i.false c.kind_of.ensures c.in-Slash.is
 
-pub returns-in-8 : goal.returns-in-8
+pub returns-in-Prefix : goal.returns-in-Prefix
 unfolding by_kind
-returns-in-8 c = c.plain-in-8.ensures ∙ one-is _ _ ∙ ap (λ (k : ℕ). made k c.blanks-i.result (suc c.blanks-i.result) 0) c.prefix_of.ensures
-    ∙ here c.args.mode c.args.text.now c.args.at c.blanks-i.result c.kind_of-k.result 8 c.blanks-i.ensures c.if-text-i.false c.kind_of-k.ensures c.in-8.is
+returns-in-Prefix c =
+    c.plain-in-Prefix.ensures ∙ one-is _ _ ∙ ap (λ (k : Kind). made k c.blanks-i.result (suc c.blanks-i.result) 0) c.prefix_of.ensures
+    ∙ token-is c.args.mode c.args.text.now c.args.at _ c.blanks-i.ensures c.if-text-i.false c.kind_of.ensures c.in-Prefix.is
 
-pub returns-in-9 : goal.returns-in-9
+pub returns-in-Suffix : goal.returns-in-Suffix
 unfolding by_kind
-returns-in-9 c = c.plain-in-9.ensures ∙ one-is _ _ ∙ ap (λ (k : ℕ). made k c.blanks-i.result (suc c.blanks-i.result) 0) c.suffix_of.ensures
-    ∙ here c.args.mode c.args.text.now c.args.at c.blanks-i.result c.kind_of-k.result 9 c.blanks-i.ensures c.if-text-i.false c.kind_of-k.ensures c.in-9.is
+returns-in-Suffix c =
+    c.plain-in-Suffix.ensures ∙ one-is _ _ ∙ ap (λ (k : Kind). made k c.blanks-i.result (suc c.blanks-i.result) 0) c.suffix_of.ensures
+    ∙ token-is c.args.mode c.args.text.now c.args.at _ c.blanks-i.ensures c.if-text-i.false c.kind_of.ensures c.in-Suffix.is
 
-pub returns-in-10 : goal.returns-in-10
+pub returns-in-Dot : goal.returns-in-Dot
 unfolding by_kind
-returns-in-10 c = c.plain-in-10.ensures ∙ one-is 3 _ ∙ here c.args.mode c.args.text.now c.args.at c.blanks-i.result c.kind_of-k.result 10 c.blanks-i.ensures c.if-text-i.false c.kind_of-k.ensures
-    c.in-10.is
+returns-in-Dot c =
+    c.plain-in-Dot.ensures ∙ one-is _ _
+    ∙ token-is c.args.mode c.args.text.now c.args.at _ c.blanks-i.ensures c.if-text-i.false c.kind_of.ensures c.in-Dot.is
 
-pub returns-in-11 : goal.returns-in-11
+pub returns-in-Quote : goal.returns-in-Quote
 unfolding by_kind
-returns-in-11 c = c.literal_token.ensures ∙ here c.args.mode c.args.text.now c.args.at c.blanks-i.result c.kind_of-k.result 11 c.blanks-i.ensures c.if-text-i.false c.kind_of-k.ensures c.in-11.is
+returns-in-Quote c =
+    c.literal_token.ensures
+    ∙ token-is c.args.mode c.args.text.now c.args.at _ c.blanks-i.ensures c.if-text-i.false c.kind_of.ensures c.in-Quote.is
 
-pub returns-in-12 : goal.returns-in-12
+pub returns-in-Class : goal.returns-in-Class
 unfolding by_kind
-returns-in-12 c = c.class_token.ensures ∙ here c.args.mode c.args.text.now c.args.at c.blanks-i.result c.kind_of-k.result 12 c.blanks-i.ensures c.if-text-i.false c.kind_of-k.ensures c.in-12.is
+returns-in-Class c =
+    c.class_token.ensures
+    ∙ token-is c.args.mode c.args.text.now c.args.at _ c.blanks-i.ensures c.if-text-i.false c.kind_of.ensures c.in-Class.is
 
-pub returns-in-13 : goal.returns-in-13
+pub returns-in-Less : goal.returns-in-Less
 unfolding by_kind
-returns-in-13 c = c.less_token.ensures ∙ here c.args.mode c.args.text.now c.args.at c.blanks-i.result c.kind_of-k.result 13 c.blanks-i.ensures c.if-text-i.false c.kind_of-k.ensures c.in-13.is
+returns-in-Less c =
+    c.less_token.ensures
+    ∙ token-is c.args.mode c.args.text.now c.args.at _ c.blanks-i.ensures c.if-text-i.false c.kind_of.ensures c.in-Less.is
 
-pub returns-in_default : goal.returns-in_default
-returns-in_default c = c.plain-in_default.ensures ∙ bad-is _ ∙ bad_kind _ _ _ _ _ c.in_default.in_default-own.rest ∙ here c.args.mode c.args.text.now c.args.at c.blanks-i.result c.kind_of-k.result _
-    c.blanks-i.ensures c.if-text-i.false c.kind_of-k.ensures refl
+pub returns-in-Other : goal.returns-in-Other
+unfolding by_kind
+returns-in-Other c =
+    c.plain-in-Other.ensures
+    ∙ bad-is _
+    ∙ elim c.in-Other.is [
+      | inl e ↦ token-is c.args.mode c.args.text.now c.args.at _ c.blanks-i.ensures c.if-text-i.false c.kind_of.ensures e
+      | inr (inl e) ↦ token-is c.args.mode c.args.text.now c.args.at _ c.blanks-i.ensures c.if-text-i.false c.kind_of.ensures e
+      | inr (inr (inl e)) ↦ token-is c.args.mode c.args.text.now c.args.at _ c.blanks-i.ensures c.if-text-i.false c.kind_of.ensures e
+      | inr (inr (inr e)) ↦ token-is c.args.mode c.args.text.now c.args.at _ c.blanks-i.ensures c.if-text-i.false c.kind_of.ensures e
+    ]

@@ -165,7 +165,7 @@ end_none : (o : Option Tok) (i e : ℕ) (k : ℕ → List Lexeme) → ((t : Tok)
 end_none none i e k g = refl
 end_none (some t) i e k g = absurd (g t refl)
 
-none_left : (f : ℕ) (m : Mode) (s : List ℕ) (at : ℕ) → length s ≤ at → lexemes_from f m s at ≡ []
+pub none_left : (f : ℕ) (m : Mode) (s : List ℕ) (at : ℕ) → length s ≤ at → lexemes_from f m s at ≡ []
 unfolding lexemes_from
 none_left zero m s at h = refl
 none_left (suc f) m s at h =

@@ -2,15 +2,17 @@
 use Rattle.std.specs.Prelude.{ℕ, zero, suc, ◌+◌, ◌-◌, ◌≤◌, ◌<◌, ◌≡◌, Bool, true, false, ◌||◌, ◌⊎◌, length}
 use Rattle.std.proofs.Math.Path.{refl, sym, ap}
 use Rattle.std.proofs.Common.{◌∙◌, subst, inl, inr, ⊎_elim, arith, eq-or-lt_of_le}
+use mathlib.Core.Bool.{true≢false}
 use mathlib.Core.List.{List}
 use Rattle.std.proofs.Math.Option.{Option, none, some}
 use Rattle.base_facts.specs.laws.Bools.{or-true}
 use Rattle.read_tokens.specs.declared.Mode.{Mode}
+use Rattle.read_tokens.specs.declared.Kind.{Kind}
 use Rattle.read_tokens.specs.declared.Token.{Token}
 use Rattle.read_tokens.specs.Token.{Symbol, Tok, Lexeme}
 use Rattle.read_tokens.specs.Tokens.{token_at}
-use Rattle.read_tokens.specs.steps.Code.{kind_of, size_of, coded}
-use Rattle.read_tokens.specs.laws.Forward.{lexemes_at, lex-end, lex-more, forward}
+use Rattle.read_tokens.specs.steps.Code.{kind_of, symbolic, size_of, coded}
+use Rattle.read_tokens.specs.laws.Forward.{lexemes_at, none_left, lex-end, lex-more, forward}
 use Rattle.grammar.specs.Same.{same_bytes, same_symbol, is_in}
 use Rattle.read_syntax.specs.Reading.{before, lefts_in}
 use Rattle.read_walks.specs.steps.Names.{bytes_at, symbol_by, hit_by, begun, Walk, walk_to}
@@ -18,7 +20,7 @@ use Rattle.read_tokens.specs.laws.Here.{is-token}
 use Rattle.read_walks.specs.laws.Names.{bytes-long, hit-kind, hit-size, hit-use, named}
 use Rattle.read_walks.specs.laws.Walks.{in_left, next-none, next-some, moves, stuck}
 
-module _ (m : Mode) (s : List ℕ) (at : ℕ) (t : Token) (e : t ≡ coded (token_at m s at)) (k : ℕ) (low : 1 ≤ k) (high : k ≤ 2) (from size : ℕ) (fits : from + size ≤ length s) where
+module _ (m : Mode) (s : List ℕ) (at : ℕ) (t : Token) (e : t ≡ coded (token_at m s at)) (k : Kind) (sy : symbolic k ≡ true) (from size : ℕ) (fits : from + size ≤ length s) where
   abbrev w : List ℕ
   w = bytes_at s from size
 
@@ -32,14 +34,14 @@ module _ (m : Mode) (s : List ℕ) (at : ℕ) (t : Token) (e : t ≡ coded (toke
   size_is u q = sym (ap (λ (x : Token). x.size) e ∙ ap size_of q)
 
   pub other-kind : (t.kind ≡ k → ⊥) → (u : Tok) → (token_at m s at).is ≡ some u → false ≡ hit_by (symbol_by k w) u b
-  other-kind f u q = sym (hit-kind k low high w u b (λ z. f (sym (kind-is u q) ∙ z)))
+  other-kind f u q = sym (hit-kind k sy w u b (λ z. f (sym (kind-is u q) ∙ z)))
 
   pub other-size : (t.size ≡ size → ⊥) → (u : Tok) → (token_at m s at).is ≡ some u → false ≡ hit_by (symbol_by k w) u b
-  other-size f u q = sym (hit-size k low high w u b (λ z. f (sym (size_is u q) ∙ z ∙ bytes-long s from size fits)))
+  other-size f u q = sym (hit-size k sy w u b (λ z. f (sym (size_is u q) ∙ z ∙ bytes-long s from size fits)))
 
   pub not_left : before (lexemes_at m s t.next) ≡ false → (u : Tok) → (token_at m s at).is ≡ some u → false ≡ hit_by (symbol_by k w) u b
   not_left f u q =
-      sym (ap (hit_by (symbol_by k w) u) (ap (λ (i : ℕ). before (lexemes_at m s i)) (sym (ap (λ (x : Token). x.next) e)) ∙ f) ∙ hit-use k low high w u)
+      sym (ap (hit_by (symbol_by k w) u) (ap (λ (i : ℕ). before (lexemes_at m s i)) (sym (ap (λ (x : Token). x.next) e)) ∙ f) ∙ hit-use k sy w u)
 
   start_is : t.start ≡ (token_at m s at).start
   start_is = ap (λ (x : Token). x.start) e
@@ -47,7 +49,7 @@ module _ (m : Mode) (s : List ℕ) (at : ℕ) (t : Token) (e : t ≡ coded (toke
   pub by_bytes : t.kind ≡ k → t.size ≡ size → before (lexemes_at m s t.next) ≡ true → (r : Bool) → r ≡ same_bytes w (bytes_at s (begun k t.start) size)
       → (u : Tok) → (token_at m s at).is ≡ some u → r ≡ hit_by (symbol_by k w) u b
   by_bytes f g l r h u q =
-      let n = named k low high w m s at u q (kind-is u q ∙ f) in
+      let n = named k sy w m s at u q (kind-is u q ∙ f) in
       h
       ∙ ap (λ (i : ℕ). same_bytes w (bytes_at s (begun k i) size)) start_is
       ∙ ap (λ (z : ℕ). same_bytes w (bytes_at s (begun k (token_at m s at).start) z)) (sym (size_is u q ∙ g))
@@ -55,7 +57,7 @@ module _ (m : Mode) (s : List ℕ) (at : ℕ) (t : Token) (e : t ≡ coded (toke
       ∙ ap (hit_by (symbol_by k w) u) (sym (ap (λ (i : ℕ). before (lexemes_at m s i)) (sym (ap (λ (x : Token). x.next) e)) ∙ l))
 
   there : t.kind ≡ k → (u : Tok) × ((token_at m s at).is ≡ some u)
-  there f = is-token (token_at m s at).is (λ z. omega (arith, z, low, f, ap (λ (x : Token). x.kind) e))
+  there f = is-token (token_at m s at).is (λ z. absurd (true≢false (sym sy ∙ ap symbolic (sym f ∙ ap (λ (x : Token). x.kind) e ∙ z))))
 
   pub start-inside : t.kind ≡ k → t.start < length s
   start-inside f = let x = there f in let a = forward m s at x.0 x.1 in omega (arith, a.long, a.within, start_is)
@@ -64,7 +66,7 @@ module _ (m : Mode) (s : List ℕ) (at : ℕ) (t : Token) (e : t ≡ coded (toke
   name-inside f g =
       let u : Tok = (there f).0 in
       let q : (token_at m s at).is ≡ some u = (there f).1 in
-      let n = named k low high w m s at u q (kind-is u q ∙ f) in
+      let n = named k sy w m s at u q (kind-is u q ∙ f) in
       let x : begun k t.start ≡ begun k (token_at m s at).start = ap (begun k) start_is in
       omega (arith, n.1, x, size_is u q, g)
 
@@ -153,3 +155,7 @@ module _ (m : Mode) (s : List ℕ) (h : Symbol) (at : ℕ) where
   all-next u e =
       ap (λ (l : List Lexeme). is_in same_symbol h (lefts_in l)) (lex-more m s at u e)
       ∙ in_left h u (before (lexemes_at m s (token_at m s at).next)) (lefts_in (lexemes_at m s (token_at m s at).next))
+
+  pub all-past : length s ≤ at → false ≡ is_in same_symbol h (lefts_in (lexemes_at m s at))
+  unfolding is_in lefts_in
+  all-past e = sym (ap (λ (l : List Lexeme). is_in same_symbol h (lefts_in l)) (none_left (length s) m s at e))

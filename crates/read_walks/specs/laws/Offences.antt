@@ -1,85 +1,70 @@
 -- Refusals 4 and 5, token by token, as code finds them. Assumes nothing.
-use Rattle.std.specs.Prelude.{ℕ, suc, ◌+◌, ◌-◌, ◌≤◌, ◌<◌, ◌≡◌, Bool, cond, not, ◌&&◌, ◌||◌, length, get_or, eqb}
+use Rattle.std.specs.Prelude.{ℕ, suc, ◌+◌, ◌≤◌, ◌≡◌, Bool, not, ◌&&◌, ◌||◌, length, eqb}
 use Rattle.std.proofs.Math.Path.{refl, sym, ap}
-use Rattle.std.proofs.Common.{ap₂, ◌∙◌, arith}
+use Rattle.std.proofs.Common.{◌∙◌, arith}
 use Rattle.std.proofs.Math.Bool.{true, false}
+use mathlib.Core.Bool.{true≢false}
+use lib.Pointwise.{pointwise}
+use lib.ListN.{take}
 use mathlib.Core.List.{List, [], ◌∷◌}
 use Rattle.std.proofs.Math.Option.{Option, none, some}
 use Rattle.read_tokens.specs.declared.Mode.{Mode}
 use Rattle.read_tokens.specs.declared.Mode.TheVariants.{Lake, Plain}
+use Rattle.read_tokens.specs.declared.Kind.{Kind}
+use Rattle.read_tokens.specs.declared.Kind.TheVariants.{End, Name}
+use Rattle.read_tokens.specs.declared.Kind.TheVariants as kind
+use Rattle.std.specs.Prelude.{Some, None}
 use Rattle.read_tokens.specs.declared.Token.{Token}
 use Rattle.read_tokens.specs.Token.{Symbol, Tok, Lexeme, name, lake, symbol, leaf, pre, suf, arrow, slash, opens, closes, bad}
 use Rattle.read_tokens.specs.Tokens.{token_at, lexemes}
-use Rattle.read_tokens.specs.steps.Code.{kind_of, size_of, coded}
+use Rattle.read_tokens.specs.steps.Code.{kind_of, kind_number, symbolic, size_of, coded}
 use Rattle.read_tokens.specs.laws.Forward.{lexemes_at, lex-end, lex-more}
 use Rattle.grammar.specs.Same.{same_symbol, is_in}
 use Rattle.read_syntax.specs.Machine.{name_of}
 use Rattle.read_syntax.specs.Reading.{before, starts_with, reserved, left_by, second_by, second, unruled, lacks}
-use Rattle.read_walks.specs.steps.Names.{bytes_at, symbol_by, begun, placed, bad4, Walk, walk, walk_to, lake_prefix, reserved_by}
-use Rattle.read_walks.specs.laws.Names.{bytes-more, bytes-long, named}
+use Rattle.read_walks.specs.steps.Names.{bytes_at, symbol_by, begun, placed, bad4, Walk, walk_to, lake_prefix, reserved_by}
+use Rattle.read_walks.specs.laws.Names.{named}
 use Rattle.read_walks.specs.laws.Walks.{next-some}
 use Rattle.read_tokens.specs.laws.Here.{is-token}
 
 -- ── names that begin with `lake__` ──
-short : (p w : List ℕ) → length w < length p → starts_with p w ≡ false
+pub prefix-points : (p w : List ℕ) → pointwise eqb p (take (length p) w) ≡ starts_with p w
 unfolding starts_with
-short [] w h = absurd (omega arith)
-short (a ∷ p) [] h = refl
-short (a ∷ p) (b ∷ w) h = go (eqb a b) (short p w (omega arith))
-  where
-    go : (t : Bool) → starts_with p w ≡ false → (t && starts_with p w) ≡ false
-    go true e = e
-    go false e = refl
+prefix-points [] w = refl
+prefix-points (a ∷ p) [] = refl
+prefix-points (a ∷ p) (b ∷ w) = ap (λ (t : Bool). eqb a b && t) (prefix-points p w)
 
-pub too_short : (s : List ℕ) (from n : ℕ) → from + n ≤ length s → n < 6 → false ≡ starts_with lake_prefix (bytes_at s from n)
-too_short s from n h l = sym (short lake_prefix (bytes_at s from n) (omega (arith, bytes-long s from n h)))
-
--- the six bytes that are looked at
-pub six : (s : List ℕ) (from n : ℕ) → from + n ≤ length s → 6 ≤ n
-    → starts_with lake_prefix (bytes_at s from n)
-    ≡ (eqb 108 (get_or s from 0) && (eqb 97 (get_or s (from + 1) 0) && (eqb 107 (get_or s (from + 2) 0) && (eqb 101 (get_or s (from + 3) 0) && (eqb 95 (get_or s (from + 4) 0) && (eqb 95 (get_or s (from + 5) 0) && true))))))
-unfolding starts_with
-six s from n h l = ap (starts_with lake_prefix) all-six
-  where
-    more : (i k : ℕ) → suc k + (from + i) ≤ length s → bytes_at s (from + i) (suc k) ≡ get_or s (from + i) 0 ∷ bytes_at s (from + suc i) k
-    more i k p = let e : suc (from + i) ≡ from + suc i = omega arith in bytes-more s (from + i) k (omega arith) ∙ ap (λ (j : ℕ). get_or s (from + i) 0 ∷ bytes_at s j k) e
-
-    all-six : bytes_at s from n
-        ≡ get_or s from 0 ∷ get_or s (from + 1) 0 ∷ get_or s (from + 2) 0 ∷ get_or s (from + 3) 0 ∷ get_or s (from + 4) 0 ∷ get_or s (from + 5) 0 ∷ bytes_at s (from + 6) (n - 6)
-    all-six =
-        let k : ℕ = n - 6 in
-        let e : n ≡ suc (suc (suc (suc (suc (suc k))))) = omega arith in
-        let z : from + 0 ≡ from = omega arith in
-        ap (bytes_at s from) e
-        ∙ ap (λ (j : ℕ). bytes_at s j (suc (suc (suc (suc (suc (suc k))))))) (sym z)
-        ∙ more 0 (suc (suc (suc (suc (suc k))))) (omega arith)
-        ∙ ap₂ (λ (x : ℕ) (r : List ℕ). get_or s x 0 ∷ r) z
-        (more 1 (suc (suc (suc (suc k)))) (omega arith)
-        ∙ ap (λ (r : List ℕ). get_or s (from + 1) 0 ∷ r) (more 2 (suc (suc (suc k))) (omega arith)
-        ∙ ap (λ (r : List ℕ). get_or s (from + 2) 0 ∷ r) (more 3 (suc (suc k)) (omega arith)
-        ∙ ap (λ (r : List ℕ). get_or s (from + 3) 0 ∷ r) (more 4 (suc k) (omega arith)
-        ∙ ap (λ (r : List ℕ). get_or s (from + 4) 0 ∷ r) (more 5 k (omega arith))))))
-
-pub reserved-is : (m : Mode) (k : ℕ) (w : List ℕ) → reserved m (symbol_by k w) ≡ reserved_by m w
+pub reserved-is : (m : Mode) (k : Kind) (w : List ℕ) → reserved m (symbol_by k w) ≡ reserved_by m w
 unfolding reserved
-reserved-is Lake k w = ap (starts_with lake_prefix) (go (eqb k 1))
+reserved-is Lake k w = ap (starts_with lake_prefix) (go k)
   where
-    go : (b : Bool) → name_of (cond b (name w) (lake w)) ≡ w
-    go true = refl
-    go false = refl
+    go : (k : Kind) → name_of (symbol_by k w) ≡ w
+    go kind.End = refl
+    go kind.Name = refl
+    go kind.Lake = refl
+    go kind.Any = refl
+    go kind.Literal = refl
+    go kind.Class = refl
+    go kind.Amp = refl
+    go kind.Bang = refl
+    go kind.Query = refl
+    go kind.Asterisk = refl
+    go kind.Cross = refl
+    go kind.Arrow = refl
+    go kind.Slash = refl
+    go kind.Opens = refl
+    go kind.Closes = refl
+    go kind.Bad = refl
 reserved-is Plain k w = refl
 
 -- ── one token ──
-module _ (m : Mode) (s : List ℕ) (at : ℕ) (t : Token) (e : t ≡ coded (token_at m s at)) (f : t.kind ≡ 0 → ⊥) where
+module _ (m : Mode) (s : List ℕ) (at : ℕ) (t : Token) (e : t ≡ coded (token_at m s at)) (f : t.kind ≡ End → ⊥) where
   kind-is : (u : Tok) → (token_at m s at).is ≡ some u → kind_of (some u) ≡ t.kind
   kind-is u q = sym (ap (λ (x : Token). x.kind) e ∙ ap kind_of q)
 
-  low : 1 ≤ t.kind
-  low = omega (arith, f)
-
-  pub not-symbol : (seen : List Symbol) (b : Bool) → 2 < t.kind → (u : Tok) → (token_at m s at).is ≡ some u → false ≡ bad4 m seen u b
-  not-symbol seen b h (symbol (name w)) q = absurd (omega (arith, h, kind-is (symbol (name w)) q))
-  not-symbol seen b h (symbol (lake w)) q = absurd (omega (arith, h, kind-is (symbol (lake w)) q))
+  pub not-symbol : (seen : List Symbol) (b : Bool) → symbolic t.kind ≡ false → (u : Tok) → (token_at m s at).is ≡ some u → false ≡ bad4 m seen u b
+  not-symbol seen b h (symbol (name w)) q = absurd (true≢false (ap symbolic (kind-is (symbol (name w)) q) ∙ h))
+  not-symbol seen b h (symbol (lake w)) q = absurd (true≢false (ap symbolic (kind-is (symbol (lake w)) q) ∙ h))
   not-symbol seen b h (leaf x) q = refl
   not-symbol seen b h (pre x) q = refl
   not-symbol seen b h (suf x) q = refl
@@ -89,13 +74,13 @@ module _ (m : Mode) (s : List ℕ) (at : ℕ) (t : Token) (e : t ≡ coded (toke
   not-symbol seen b h closes q = refl
   not-symbol seen b h bad q = refl
 
-  module _ (h : t.kind ≤ 2) where
+  module _ (h : symbolic t.kind ≡ true) where
     abbrev w : List ℕ
     w = bytes_at s (begun t.kind t.start) t.size
 
     pub said : (u : Tok) → (token_at m s at).is ≡ some u → symbol (symbol_by t.kind w) ≡ u
     said u q =
-        let n = named t.kind low h [] m s at u q (kind-is u q) in
+        let n = named t.kind h [] m s at u q (kind-is u q) in
         ap (λ (i : ℕ). symbol (symbol_by t.kind (bytes_at s (begun t.kind i) t.size))) (ap (λ (x : Token). x.start) e)
         ∙ ap (λ (z : ℕ). symbol (symbol_by t.kind (bytes_at s (begun t.kind (token_at m s at).start) z))) (ap (λ (x : Token). x.size) e ∙ ap size_of q)
         ∙ n.2
@@ -103,7 +88,7 @@ module _ (m : Mode) (s : List ℕ) (at : ℕ) (t : Token) (e : t ≡ coded (toke
     pub inside : begun t.kind t.start + t.size ≤ length s
     inside =
         let x = is-token (token_at m s at).is (λ z. f (ap (λ (y : Token). y.kind) e ∙ z)) in
-        let n = named t.kind low h [] m s at x.0 x.1 (kind-is x.0 x.1) in
+        let n = named t.kind h [] m s at x.0 x.1 (kind-is x.0 x.1) in
         let p : begun t.kind t.start ≡ begun t.kind (token_at m s at).start = ap (λ (y : Token). begun t.kind y.start) e in
         omega (arith, n.1, p, ap (λ (y : Token). y.size) e, ap size_of x.1)
 
@@ -149,7 +134,7 @@ module _ (m : Mode) (s : List ℕ) where
   unfolding walk_to lexemes
   walking = (0, refl, refl)
 
-  pub walked : (at : ℕ) → Walking at → (token_at m s at).is ≡ none → 0 ≡ placed (second m [] (lexemes m s))
+  pub walked : (at : ℕ) → Walking at → (token_at m s at).is ≡ none → None ≡ placed (second m [] (lexemes m s))
   unfolding second
   walked at v e = sym (ap placed (sym v.2 ∙ ap (second m (walk_to m s v.0).seen) (lex-end m s at e)))
 
@@ -167,8 +152,8 @@ module _ (m : Mode) (s : List ℕ) where
       ∙ second-step m (walk_to m s v.0).seen u (token_at m s at).start (before (lexemes_at m s (token_at m s at).next)) (λ more. second m more (lexemes_at m s (token_at m s at).next)) r q
 
   pub walked-into : (at i : ℕ) (v : Walking at) (u : Tok) → (token_at m s at).is ≡ some u → i ≡ (token_at m s at).start
-      → true ≡ bad4 m (walk_to m s v.0).seen u (before (lexemes_at m s (token_at m s at).next)) → i + 1 ≡ placed (second m [] (lexemes m s))
-  walked-into at i v u e z q = let y : i + 1 ≡ suc (token_at m s at).start = omega (arith, z) in y ∙ ap placed (sym (at-token at v u e true q))
+      → true ≡ bad4 m (walk_to m s v.0).seen u (before (lexemes_at m s (token_at m s at).next)) → Some i ≡ placed (second m [] (lexemes m s))
+  walked-into at i v u e z q = ap Some z ∙ ap placed (sym (at-token at v u e true q))
 
   pub walks-past : (at : ℕ) (v : Walking at) (u : Tok) → (token_at m s at).is ≡ some u
       → false ≡ bad4 m (walk_to m s v.0).seen u (before (lexemes_at m s (token_at m s at).next)) → Walking (token_at m s at).next
@@ -183,7 +168,7 @@ module _ (m : Mode) (s : List ℕ) where
 
   -- ── the walk for 5 ──
   module _ (lefts : List Symbol) (at : ℕ) where
-    pub none-lacks : (token_at m s at).is ≡ none → 0 ≡ placed (unruled lefts (lexemes_at m s at))
+    pub none-lacks : (token_at m s at).is ≡ none → None ≡ placed (unruled lefts (lexemes_at m s at))
     unfolding unruled
     none-lacks e = sym (ap (λ (l : List Lexeme). placed (unruled lefts l)) (lex-end m s at e))
 
@@ -195,8 +180,8 @@ module _ (m : Mode) (s : List ℕ) where
         ∙ ap (λ (x : Bool). elim x as (λ y. Option ℕ) [ true ↦ some (token_at m s at).start | false ↦ unruled lefts (lexemes_at m s (token_at m s at).next) ]) (sym q)
 
     pub this-lacks : (i : ℕ) (u : Tok) → (token_at m s at).is ≡ some u → i ≡ (token_at m s at).start → true ≡ lacks lefts u (before (lexemes_at m s (token_at m s at).next))
-        → i + 1 ≡ placed (unruled lefts (lexemes_at m s at))
-    this-lacks i u e z q = let y : i + 1 ≡ suc (token_at m s at).start = omega (arith, z) in y ∙ ap placed (sym (lack-token u e true q))
+        → Some i ≡ placed (unruled lefts (lexemes_at m s at))
+    this-lacks i u e z q = ap Some z ∙ ap placed (sym (lack-token u e true q))
 
     pub later-lacks : (u : Tok) → (token_at m s at).is ≡ some u → false ≡ lacks lefts u (before (lexemes_at m s (token_at m s at).next))
         → unruled lefts (lexemes_at m s (token_at m s at).next) ≡ unruled lefts (lexemes_at m s at)
@@ -207,7 +192,7 @@ module _ (m : Mode) (s : List ℕ) (at : ℕ) (t : Token) (e : t ≡ coded (toke
   kind-of : (u : Tok) → (token_at m s at).is ≡ some u → kind_of (some u) ≡ t.kind
   kind-of u q = sym (ap (λ (x : Token). x.kind) e ∙ ap kind_of q)
 
-  pub no_name : (b : Bool) → (t.kind ≡ 1 → ⊥) → (u : Tok) → (token_at m s at).is ≡ some u → false ≡ lacks lefts u b
+  pub no_name : (b : Bool) → (t.kind ≡ Name → ⊥) → (u : Tok) → (token_at m s at).is ≡ some u → false ≡ lacks lefts u b
   no_name b f (symbol (name w)) q = absurd (f (sym (kind-of (symbol (name w)) q)))
   no_name b f (symbol (lake w)) q = refl
   no_name b f (leaf x) q = refl
@@ -231,19 +216,19 @@ module _ (m : Mode) (s : List ℕ) (at : ℕ) (t : Token) (e : t ≡ coded (toke
   no-use closes = refl
   no-use bad = refl
 
-  pub name-use : (g : t.kind ≡ 1) → (u : Tok) → (token_at m s at).is ≡ some u → not (is_in same_symbol (symbol_by t.kind (bytes_at s t.start t.size)) lefts) ≡ lacks lefts u false
+  pub name-use : (g : t.kind ≡ Name) → (u : Tok) → (token_at m s at).is ≡ some u → not (is_in same_symbol (symbol_by t.kind (bytes_at s t.start t.size)) lefts) ≡ lacks lefts u false
   name-use g u q =
-      let f : t.kind ≡ 0 → ⊥ = λ z. omega (arith, g, z) in
-      let h : t.kind ≤ 2 = omega (arith, g) in
-      let x : begun t.kind t.start ≡ t.start = ap (λ (k : ℕ). begun k t.start) g in
+      let f : t.kind ≡ End → ⊥ = λ z. omega (arith, ap kind_number (sym g ∙ z)) in
+      let h : symbolic t.kind ≡ true = ap symbolic g in
+      let x : begun t.kind t.start ≡ t.start = ap (λ (k : Kind). begun k t.start) g in
       let y : symbol (symbol_by t.kind (bytes_at s t.start t.size)) ≡ u = ap (λ (i : ℕ). symbol (symbol_by t.kind (bytes_at s i t.size))) (sym x) ∙ said m s at t e f h u q in
-      ap (λ (k : ℕ). not (is_in same_symbol (symbol_by k (bytes_at s t.start t.size)) lefts)) g
-      ∙ ap (λ (k : ℕ). lacks lefts (symbol (symbol_by k (bytes_at s t.start t.size))) false) (sym g)
+      ap (λ (k : Kind). not (is_in same_symbol (symbol_by k (bytes_at s t.start t.size)) lefts)) g
+      ∙ ap (λ (k : Kind). lacks lefts (symbol (symbol_by k (bytes_at s t.start t.size))) false) (sym g)
       ∙ ap (λ (v : Tok). lacks lefts v false) y
 
-  pub use-inside : t.kind ≡ 1 → t.start + t.size ≤ length s
+  pub use-inside : t.kind ≡ Name → t.start + t.size ≤ length s
   use-inside g =
-      let f : t.kind ≡ 0 → ⊥ = λ z. omega (arith, g, z) in
-      let h : t.kind ≤ 2 = omega (arith, g) in
-      let x : begun t.kind t.start ≡ t.start = ap (λ (k : ℕ). begun k t.start) g in
+      let f : t.kind ≡ End → ⊥ = λ z. omega (arith, ap kind_number (sym g ∙ z)) in
+      let h : symbolic t.kind ≡ true = ap symbolic g in
+      let x : begun t.kind t.start ≡ t.start = ap (λ (k : Kind). begun k t.start) g in
       omega (arith, inside m s at t e f h, x)

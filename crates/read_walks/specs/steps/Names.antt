@@ -1,6 +1,10 @@
 -- Names as code compares them, by their places in the text, and the left sides that a walk has passed. Assumes nothing: these are definitions.
-use Rattle.std.specs.Prelude.{ℕ, zero, suc, ◌+◌, Bool, true, false, cond, ◌&&◌, ◌||◌, List, [], ◌∷◌, take, drop, eqb}
+use Rattle.std.specs.Prelude.{ℕ, zero, suc, ◌+◌, Bool, true, false, ◌&&◌, ◌||◌, List, [], ◌∷◌, take, drop}
+use Rattle.std.specs.Prelude as std
+use Rattle.std.specs.Prelude.{Some, None}
 use Rattle.std.proofs.Math.Option.{Option, none, some}
+use Rattle.read_tokens.specs.declared.Kind.{Kind}
+use Rattle.read_tokens.specs.declared.Kind.TheVariants as kind
 use Rattle.read_tokens.specs.declared.Mode.{Mode}
 use Rattle.read_tokens.specs.declared.Mode.TheVariants.{Lake, Plain}
 use Rattle.read_tokens.specs.Token.{Symbol, Tok, name, lake, symbol, leaf, pre, suf, arrow, slash, opens, closes, bad}
@@ -14,9 +18,24 @@ use Rattle.read_syntax.specs.Reading.{before, left_by, reserved, starts_with}
 abbrev pub bytes_at : List ℕ → ℕ → ℕ → List ℕ
 bytes_at s i n = take n (drop i s)
 
--- the symbol of a token of kind 1 or 2 whose name has n bytes from i on
-abbrev pub symbol_by : ℕ → List ℕ → Symbol
-symbol_by k w = cond (eqb k 1) (name w) (lake w)
+-- the symbol of a token that is a name or a lake whose name is w
+abbrev pub symbol_by : Kind → List ℕ → Symbol
+symbol_by kind.End w = lake w
+symbol_by kind.Name w = name w
+symbol_by kind.Lake w = lake w
+symbol_by kind.Any w = lake w
+symbol_by kind.Literal w = lake w
+symbol_by kind.Class w = lake w
+symbol_by kind.Amp w = lake w
+symbol_by kind.Bang w = lake w
+symbol_by kind.Query w = lake w
+symbol_by kind.Asterisk w = lake w
+symbol_by kind.Cross w = lake w
+symbol_by kind.Arrow w = lake w
+symbol_by kind.Slash w = lake w
+symbol_by kind.Opens w = lake w
+symbol_by kind.Closes w = lake w
+symbol_by kind.Bad w = lake w
 
 -- a left side h
 abbrev pub hit_by : Symbol → Tok → Bool → Bool
@@ -52,13 +71,28 @@ walk_to m s (suc k) =
     pass_by t.is t.next (before (lexemes_at m s t.next)) w
 
 -- where the name of a symbol token begins: behind a lake's bracket
-abbrev pub begun : ℕ → ℕ → ℕ
-begun k i = cond (eqb k 2) (i + 1) i
+abbrev pub begun : Kind → ℕ → ℕ
+begun kind.End i = i
+begun kind.Name i = i
+begun kind.Lake i = i + 1
+begun kind.Any i = i
+begun kind.Literal i = i
+begun kind.Class i = i
+begun kind.Amp i = i
+begun kind.Bang i = i
+begun kind.Query i = i
+begun kind.Asterisk i = i
+begun kind.Cross i = i
+begun kind.Arrow i = i
+begun kind.Slash i = i
+begun kind.Opens i = i
+begun kind.Closes i = i
+begun kind.Bad i = i
 
--- a place as the code hands it on: 0 where there is none
-abbrev pub placed : Option ℕ → ℕ
-placed none = 0
-placed (some p) = suc p
+-- a place as the code hands it on
+abbrev pub placed : Option ℕ → std.Option ℕ
+placed none = None
+placed (some p) = Some p
 
 -- "second left side, or reserved name"
 abbrev pub bad4 : Mode → List Symbol → Tok → Bool → Bool

@@ -1,28 +1,20 @@
-use Prim.Native.Nat.{◌-◌}
-use mathlib.Core.Path.{refl, ◌∙◌}
-use mathlib.Core.Bool.{true, false}
-use native.Mathlib.Omega.{arith}
-use Rattle.replay_lines.specs.laws.Fields.{number_more, decimal-past, decimal-none, decimal-is}
+use Rattle.std.proofs.Common.{sym, ◌∙◌, ◌+◌, arith, drop, Some, None}
+use Rattle.replay_lines.specs.steps.Fields.{field}
+use Rattle.replay_lines.specs.laws.Fields.{number_on, number-end, number-none, decimal_from}
 use Rattle.replay_lines.proofs.decimal.Goals as goal
 
-pub returns-then-s-to : goal.returns-then-s-to
-returns-then-s-to c = decimal-past c.args.s.now c.args.from c.args.to c.if-s-to.true
+pub returns-in_err-v : goal.returns-in_err-v
+returns-in_err-v c =
+    let l = field c.args.s.now c.args.from c.args.to in
+    c.from_residual.ensures ∙ decimal_from c.args.s.now c.args.from c.args.to (omega (arith, c.if-s-to.false)) (omega (arith, c.if-to-from.false)) None
+    (sym (number-none (drop (c.loop-b.b-index + 1) l)) ∙ number_on l c.loop-b.b-index c.loop-b.v None c.loop-b-test.true c.in_err-v.ensures
+    ∙ c.loop-b.invariant)
 
-pub returns-then-to-from : goal.returns-then-to-from
-returns-then-to-from c = decimal-none c.args.s.now c.args.from c.args.to (omega (arith, c.if-s-to.false)) c.if-to-from.true
-
-pub loop-i-init : goal.loop-i-init
-loop-i-init c = (omega arith, refl)
-
-pub loop-i-preserved : goal.loop-i-preserved
-loop-i-preserved c = (
-  omega (arith, c.loop-i.invariant.0),
-  number_more c.args.s.now
-      c.loop-i.i c.args.to c.loop-i.v c.shifted-v.result
-      c.loop-i-test.true (omega (arith, c.if-s-to.false)) c.shifted-v.ensures.0 ∙ c.loop-i.invariant.1,
-)
+pub loop-b-preserved : goal.loop-b-preserved
+loop-b-preserved c =
+    number_on (field c.args.s.now c.args.from c.args.to) c.loop-b.b-index c.loop-b.v (Some c.in_ok-v.v) c.loop-b-test.true c.in_ok-v.ensures ∙ c.loop-b.invariant
 
 pub returns : goal.returns
-returns c = decimal-is c.args.s.now c.args.from
-    c.args.to (omega (arith, c.if-s-to.false)) (omega (arith, c.if-to-from.false)) c.loop-i.i
-    c.loop-i.v (omega (arith, c.loop-i-test.false)) c.loop-i.invariant.1
+returns c =
+    decimal_from c.args.s.now c.args.from c.args.to (omega (arith, c.if-s-to.false)) (omega (arith, c.if-to-from.false)) (Some c.loop-b.v)
+    (sym (number-end (field c.args.s.now c.args.from c.args.to) c.loop-b.b-index c.loop-b.v (omega (arith, c.loop-b-test.false))) ∙ c.loop-b.invariant)

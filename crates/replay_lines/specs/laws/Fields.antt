@@ -1,15 +1,18 @@
 -- One byte of a field more. Assumes nothing.
-use Prim.Native.Nat.{ℕ, zero, suc, ◌+◌, ◌-◌, ◌*◌, ◌/◌, ◌%◌, ◌≤◌, ◌<◌}
-use Rattle.std.specs.Prelude.{◌≡◌, refl, Bool, true, false, not, ◌&&◌, ◌||◌, length, get_or, take, leb, ltb}
-use Rattle.std.proofs.Common.{sym, ◌∙◌, true≢false, add-one, drop_of_length-le, length-drop, drop-cons}
+use Prim.Native.Nat.{ℕ, suc, ◌+◌, ◌-◌, ◌*◌, ◌/◌, ◌%◌, ◌≤◌, ◌<◌}
+use Rattle.std.specs.Prelude.{◌≡◌, refl, Bool, true, false, ◌&&◌, length, get_or, take, leb, max}
+use Rattle.std.specs.Prelude.{Option, Some, None}
+use Rattle.std.specs.Option.{SomeIff}
+use Rattle.std.specs.List.{starts_with}
+use Rattle.std.proofs.Common.{sym, ap₂, ◌∙◌, true≢false, add-one, drop_of_length-le, length-drop, drop-cons}
 use Rattle.std.proofs.Math.Path.{ap}
 use Rattle.std.proofs.Math.Bool.{cond}
 use mathlib.Core.List.{List, [], ◌∷◌}
 use native.Mathlib.Omega.{arith}
 use Rattle.std.proofs.Math.ListN.{drop}
+use Rattle.std.proofs.Math.Seq.{take-length}
 use Rattle.std.proofs.Math.Dec.{eqb}
 use borrow.Author.Tests.{eq-eqb, ne_eqb, lt-ltb, le-ltb, le-leb, lt-leb}
-use Rattle.base_facts.specs.laws.Bools.{not-false, not-true}
 use Rattle.replay_lines.specs.steps.Fields.{field, to_space, until_of, after_of, begins, beyond, shifted_by, number_from, decimal_of, is_digit, all_digits, bytes_of}
 
 -- ── the next space ──
@@ -39,25 +42,39 @@ field-none : (s : List ℕ) (i to : ℕ) → to ≤ i → field s i to ≡ []
 field-none s i to h = let e : to - i ≡ 0 = omega arith in ap (λ (k : ℕ). take k (drop i s)) e
 
 -- ── numbers ──
-pub number_more : (s : List ℕ) (i to v w : ℕ) → i < to → to ≤ length s → w ≡ shifted_by v (get_or s i 0) → number_from w (field s (i + 1) to) ≡ number_from v (field s i to)
+pub number_more :
+    (s : List ℕ) (i to v : ℕ) (w : Option ℕ) → i < to → to ≤ length s → w ≡ shifted_by v (get_or s i 0)
+    → number_from w (field s (i + 1) to) ≡ number_from (Some v) (field s i to)
 unfolding number_from
-number_more s i to v w h l e = ap (λ (k : ℕ). number_from k (field s (i + 1) to)) e ∙ sym (ap (number_from v) (field-cons s i to h l))
+number_more s i to v w h l e = ap (λ (o : Option ℕ). number_from o (field s (i + 1) to)) e ∙ sym (ap (number_from (Some v)) (field-cons s i to h l))
 
-pub number-done : (s : List ℕ) (i to v : ℕ) → to ≤ i → number_from v (field s i to) ≡ v
+pub number-done : (s : List ℕ) (i to v : ℕ) → to ≤ i → number_from (Some v) (field s i to) ≡ Some v
 unfolding number_from
-number-done s i to v h = ap (number_from v) (field-none s i to h)
+number-done s i to v h = ap (number_from (Some v)) (field-none s i to h)
+
+pub number_on :
+    (l : List ℕ) (k v : ℕ) (w : Option ℕ) → k < length l → w ≡ shifted_by v (get_or l k 0) → number_from w (drop (k + 1) l) ≡ number_from (Some v) (drop k l)
+unfolding number_from
+number_on l k v w h e =
+    ap (λ (o : Option ℕ). number_from o (drop (k + 1) l)) e
+    ∙ sym (ap (number_from (Some v)) (drop-cons l k 0 h) ∙ ap (λ (j : ℕ). number_from (shifted_by v (get_or l k 0)) (drop j l)) (sym (add-one k)))
+
+pub number-end : (l : List ℕ) (k v : ℕ) → length l ≤ k → number_from (Some v) (drop k l) ≡ Some v
+unfolding number_from
+number-end l k v h = ap (number_from (Some v)) (drop_of_length-le l h)
+
+pub number-none : (l : List ℕ) → number_from None l ≡ None
+unfolding number_from
+number-none l = refl
 
 -- ── digits ──
 pub digits_more : (s : List ℕ) (i to : ℕ) → i < to → to ≤ length s → is_digit (get_or s i 0) ≡ true → all_digits (field s i to) ≡ all_digits (field s (i + 1) to)
-unfolding all_digits
 digits_more s i to h l e = ap all_digits (field-cons s i to h l) ∙ ap (λ (b : Bool). b && all_digits (field s (i + 1) to)) e
 
 pub digits-fail : (s : List ℕ) (i to : ℕ) → i < to → to ≤ length s → is_digit (get_or s i 0) ≡ false → all_digits (field s i to) ≡ false
-unfolding all_digits
 digits-fail s i to h l e = ap all_digits (field-cons s i to h l) ∙ ap (λ (b : Bool). b && all_digits (field s (i + 1) to)) e
 
 pub digits-done : (s : List ℕ) (i to : ℕ) → to ≤ i → all_digits (field s i to) ≡ true
-unfolding all_digits
 digits-done s i to h = ap all_digits (field-none s i to h)
 
 -- ── words ──
@@ -93,6 +110,36 @@ begins-short (b ∷ w) (c ∷ l) h = go (eqb c b) (begins-short w l (omega arith
 pub word-short : (s word : List ℕ) (at : ℕ) → length s < at + length word → 0 < length word → begins word (drop at s) ≡ false
 word-short s word at h p = begins-short word (drop at s) (omega (arith, length-drop at s))
 
+eqb-sym : (a b : ℕ) → eqb a b ≡ eqb b a
+eqb-sym a b = grind arith
+
+pub begins_is : (w l : List ℕ) → begins w l ≡ starts_with eqb l w
+unfolding begins
+begins_is [] l = refl
+begins_is (b ∷ w) [] = refl
+begins_is (b ∷ w) (c ∷ l) = ap₂ (λ (x y : Bool). x && y) (eqb-sym c b) (begins_is w l)
+
+pub rest_is : (s : List ℕ) (at : ℕ) → take (length s - at) (drop at s) ≡ drop at s
+rest_is s at = ap (λ (k : ℕ). take k (drop at s)) (sym (length-drop at s)) ∙ take-length (drop at s)
+
+pub word-past : (s w : List ℕ) (at : ℕ) → length s ≤ at → eqb (length w) 0 ≡ begins w (drop at s)
+unfolding begins
+word-past s [] at h = refl
+word-past s (b ∷ w) at h = ne_eqb (suc (length w)) 0 (λ e. omega (arith, e)) ∙ sym (ap (begins (b ∷ w)) (drop_of_length-le s h))
+
+begins-length : (w l : List ℕ) → begins w l ≡ true → length w ≤ length l
+unfolding begins
+begins-length [] l e = omega arith
+begins-length (b ∷ w) [] e = absurd (true≢false (sym e))
+begins-length (b ∷ w) (c ∷ l) e = go (eqb c b) (begins-length w l) e
+  where
+    go : (t : Bool) → (begins w l ≡ true → length w ≤ length l) → (t && begins w l) ≡ true → suc (length w) ≤ suc (length l)
+    go true f h = omega (arith, f h)
+    go false f h = absurd (true≢false (sym h))
+
+pub word-fits : (s w : List ℕ) (at : ℕ) → begins w (drop at s) ≡ true → at + length w ≤ max at (length s)
+word-fits s w at e = omega (arith, begins-length w (drop at s) e, length-drop at s)
+
 -- ── one byte, as code tests it ──
 module _ (b : ℕ) where
   pub digit_low : b < 48 → false ≡ is_digit b
@@ -111,21 +158,28 @@ module _ (b : ℕ) where
   digit-high h = rw (lt-leb b 57 (omega arith), le-leb 48 b (omega arith), le-leb 97 b (omega arith), lt-leb b 102 (omega arith))
 
 module _ (v b : ℕ) where
-  pub shift-low : b < 48 → beyond ≡ shifted_by v b
+  pub shift-low : b < 48 → None ≡ shifted_by v b
   unfolding shifted_by
   shift-low h = rw (lt-ltb b 48 h)
 
-  pub shift-high : 48 ≤ b → 57 < b → beyond ≡ shifted_by v b
+  pub shift-high : 48 ≤ b → 57 < b → None ≡ shifted_by v b
   unfolding shifted_by
   shift-high h l = rw (le-ltb b 48 h, lt-ltb 57 b l)
 
-  pub shift-large : 48 ≤ b → b ≤ 57 → beyond ≤ v * 10 + (b - 48) → beyond ≡ shifted_by v b
+  pub shift-large : 48 ≤ b → b ≤ 57 → beyond ≤ v * 10 + (b - 48) → None ≡ shifted_by v b
   unfolding shifted_by
   shift-large h l k = rw (le-ltb b 48 h, le-ltb 57 b l, le-leb beyond (v * 10 + (b - 48)) k)
 
-  pub shift-on : 48 ≤ b → b ≤ 57 → v * 10 + (b - 48) < beyond → v * 10 + (b - 48) ≡ shifted_by v b
+  pub shift-on : 48 ≤ b → b ≤ 57 → v * 10 + (b - 48) < beyond → Some (v * 10 + (b - 48)) ≡ shifted_by v b
   unfolding shifted_by
   shift-on h l k = rw (le-ltb b 48 h, le-ltb 57 b l, lt-leb beyond (v * 10 + (b - 48)) k)
+
+  pub shift_over : 48 ≤ b → b ≤ 57 → (v * 10 < beyond → ⊥) → None ≡ shifted_by v b
+  shift_over h l k = shift-large h l (omega (arith, k))
+
+  pub shift_sum : (r : Option ℕ) (w d : ℕ) → 48 ≤ b → b ≤ 57 → w ≡ v * 10 → d ≡ b - 48 → SomeIff r (w + d < beyond) (w + d) → r ≡ shifted_by v b
+  shift_sum None w d h l p q n = shift-large h l (omega (arith, p, q, n))
+  shift_sum (Some x) w d h l p q e = ap Some (omega (arith, e.1, p, q)) ∙ shift-on h l (omega (arith, e.0, p, q))
 
 -- ── the whole field ──
 module _ (s : List ℕ) (at : ℕ) where
@@ -137,16 +191,19 @@ module _ (s : List ℕ) (at : ℕ) where
   after_last e q h = sym (ap (λ (b : Bool). cond b (until_of s at + 1) (length s)) (le-ltb (until_of s at) (length s) (omega (arith, h, q))))
 
 module _ (s : List ℕ) (from to : ℕ) where
-  pub decimal-past : length s < to → beyond ≡ decimal_of s from to
+  pub decimal-past : length s < to → None ≡ decimal_of s from to
   decimal-past h = rw (lt-ltb (length s) to h)
 
-  pub decimal-none : to ≤ length s → to ≤ from → beyond ≡ decimal_of s from to
+  pub decimal-none : to ≤ length s → to ≤ from → None ≡ decimal_of s from to
   decimal-none h l = rw (le-ltb (length s) to h, le-leb to from l)
 
-  pub decimal-is : to ≤ length s → from < to → (i v : ℕ) → to ≤ i → number_from v (field s i to) ≡ number_from 0 (field s from to) → v ≡ decimal_of s from to
-  decimal-is h l i v k e =
-      sym (number-done s i to v k) ∙ e
-      ∙ sym (ap (λ (b : Bool). cond b beyond (cond (leb to from) beyond (number_from 0 (field s from to)))) (le-ltb (length s) to h) ∙ ap (λ (b : Bool). cond b beyond (number_from 0 (field s from to))) (lt-leb to from l))
+  pub decimal_from : to ≤ length s → from < to → (o : Option ℕ) → o ≡ number_from (Some 0) (field s from to) → o ≡ decimal_of s from to
+  decimal_from h l o e = e ∙ sym (rw (le-ltb (length s) to h, lt-leb to from l))
+
+  pub decimal-is :
+      to ≤ length s → from < to → (i v : ℕ) → to ≤ i → number_from (Some v) (field s i to) ≡ number_from (Some 0) (field s from to)
+      → Some v ≡ decimal_of s from to
+  decimal-is h l i v k e = decimal_from h l (Some v) (sym (number-done s i to v k) ∙ e)
 
   module _ (most : ℕ) where
     pub bytes_past : length s < to → false ≡ bytes_of s from to most

@@ -1,4 +1,3 @@
-use native.Mathlib.Omega.{arith}
 use Rattle.read_tokens.specs.Bounds.{node_words}
 use Rattle.match_list.specs.Nodes.{room_of}
 use Rattle.tree_list.specs.laws.Handing.{step-none, step-one}
@@ -10,5 +9,5 @@ returns-then-words-at c = step-none c.args.words.now c.args.at c.if-words-at.tru
 
 pub returns : goal.returns
 unfolding room_of node_words
-returns c = step-one c.args.words.now c.args.at (omega (arith, c.if-words-at.false)) c.node_at-x.result
-    c.node_at-x.ensures.is
+returns c = step-one c.args.words.now c.args.at c.if-words-at.false c.node_at.result
+    c.node_at.ensures.is

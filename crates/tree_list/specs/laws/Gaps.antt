@@ -1,5 +1,5 @@
 -- A node that is let in, and the array of the gaps behind it. Assumes nothing.
-use Rattle.std.specs.Prelude.{ℕ, zero, suc, ◌+◌, ◌*◌, ◌≤◌, ◌<◌, ◌≡◌, Bool, ◌&&◌, ◌⊎◌, List, [], ◌∷◌, ◌++◌, eqb, leb, ltb, length, take, set}
+use Rattle.std.specs.Prelude.{ℕ, suc, ◌+◌, ◌*◌, ◌≤◌, ◌<◌, ◌≡◌, Bool, ◌&&◌, ◌⊎◌, List, [], ◌∷◌, ◌++◌, leb, ltb, length, take, set}
 use Rattle.std.proofs.Math.Path.{refl, ap}
 use Rattle.std.proofs.Common.{subst, ◌∙◌, sym as flip, inl, inr, ⊎_elim, arith, length-set, get_or-set_same, get_or-set_other}
 use Rattle.std.proofs.Math.Bool.{true, false}
@@ -13,66 +13,6 @@ use Rattle.read_tokens.specs.Bounds.{depth_bound}
 use Rattle.match_meaning.specs.Meaning.{Node}
 use Rattle.tree_list.specs.Preorder.{Gap, gap, gap_at, root_first, admits, gaps_behind}
 use Rattle.tree_list.specs.steps.Gaps.{Gapped, admits_in, opened_in, Admitted}
-
--- ── the tests one after the other ──
-pub root-at-zero : (k d : ℕ) → k ≡ 0 → eqb d 0 ≡ root_first k d
-root-at-zero zero d e = refl
-root-at-zero (suc k) d e = absurd (omega (arith, e))
-
-pub root-behind : (k d : ℕ) → (k ≡ 0 → ⊥) → leb 1 d ≡ root_first k d
-root-behind zero d f = absurd (f refl)
-root-behind (suc k) d f = refl
-
-module _ (R depths : ℕ) (g : Gap) (k : ℕ) (x : Node) where
-  pub not_first : root_first k x.depth ≡ false → false ≡ admits_in R depths g k x
-  unfolding admits_in
-  not_first h = rw h
-
-  module _ (first : root_first k x.depth ≡ true) where
-    pub too-deep : depth_bound < x.depth → false ≡ admits_in R depths g k x
-    unfolding admits_in
-    too-deep h = rw (first, lt-leb x.depth depth_bound h)
-
-    module _ (high : x.depth ≤ depth_bound) where
-      pub not-open : depths ≤ x.depth → false ≡ admits_in R depths g k x
-      unfolding admits_in
-      not-open h = rw (first, le-leb x.depth depth_bound high, le-ltb x.depth depths h)
-
-      module _ (possible : x.depth < depths) where
-        pub not_known : R ≤ x.symbol → false ≡ admits_in R depths g k x
-        unfolding admits_in
-        not_known h = rw (first, le-leb x.depth depth_bound high, lt-ltb x.depth depths possible, le-ltb x.symbol R h)
-
-        module _ (known : x.symbol < R) where
-          pub turned : x.end < x.start → false ≡ admits_in R depths g k x
-          unfolding admits_in
-          turned h =
-              rw (first, le-leb x.depth depth_bound high, lt-ltb x.depth depths possible, lt-ltb x.symbol R known, lt-leb x.start x.end h)
-
-          module _ (forward : x.start ≤ x.end) where
-            pub overlaps : x.start < g.from → false ≡ admits_in R depths g k x
-            unfolding admits_in
-            overlaps h =
-                rw (
-                  first,
-                  le-leb x.depth depth_bound high,
-                  lt-ltb x.depth depths possible,
-                  lt-ltb x.symbol R known,
-                  le-leb x.start x.end forward,
-                  lt-leb g.from x.start h,
-                )
-
-            pub admits-rest : g.from ≤ x.start → leb x.end g.to ≡ admits_in R depths g k x
-            unfolding admits_in
-            admits-rest h =
-                rw (
-                  first,
-                  le-leb x.depth depth_bound high,
-                  lt-ltb x.depth depths possible,
-                  lt-ltb x.symbol R known,
-                  le-leb x.start x.end forward,
-                  le-leb g.from x.start h,
-                )
 
 -- ── what a node that is let in has ──
 pub record Stands (R : ℕ) (gs : List Gap) (k : ℕ) (x : Node) : Type 0 where

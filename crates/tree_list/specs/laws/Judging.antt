@@ -12,7 +12,7 @@ use Rattle.tree_list.specs.declared.Node.{Node as Handed}
 use Rattle.tree_list.specs.Preorder.{gap_at, admits, gaps_behind, bad_from, whole, or_else, cut_off, bad_node}
 use Rattle.tree_list.specs.Handing.{in_fields}
 use Rattle.tree_list.specs.steps.Gaps.{Admitted}
-use Rattle.tree_list.specs.steps.Judging.{judged_by, Judging}
+use Rattle.tree_list.specs.steps.Judging.{Judging}
 use Rattle.tree_list.specs.laws.Gaps.{gaps_behind-length}
 use Rattle.tree_list.specs.laws.NodeWords.{one_more, no_more}
 use Rattle.tree_list.specs.laws.Bad.{goes_through, stops_at}
@@ -59,11 +59,11 @@ module _ (R n : ℕ) (ws : List ℕ) where
           same = unfold-one ∙ goes_through R j.gs k (node_at ws k) (nodes_at ws (suc k) (room_of ws - suc k)) t;
         })
 
-    pub judging-stops : b ≡ false → record { good = false; place = k } ≡ judged_by (bad_node R n ws)
+    pub judging-stops : b ≡ false → bad_node R n ws ≡ some k
     unfolding bad_node
     judging-stops e =
-        ap (λ (o : Option ℕ). judged_by (or_else o (cut_off ws)))
-        (flip (unfold-one ∙ stops_at R j.gs k (node_at ws k) (nodes_at ws (suc k) (room_of ws - suc k)) (flip (here.answer j.gs j.many j.held) ∙ e)))
+        ap (λ (o : Option ℕ). or_else o (cut_off ws))
+        (unfold-one ∙ stops_at R j.gs k (node_at ws k) (nodes_at ws (suc k) (room_of ws - suc k)) (flip (here.answer j.gs j.many j.held) ∙ e))
 
   -- ── behind the last node ──
   module _ (k depths : ℕ) (gaps : List ℕ) (j : Judging R n ws k depths gaps) (over : room_of ws ≤ k) where
@@ -71,16 +71,16 @@ module _ (R n : ℕ) (ws : List ℕ) where
     unfolding bad_node bad_from
     only-cut-off = ap (λ (o : Option ℕ). or_else o (cut_off ws)) (j.same ∙ ap (bad_from R j.gs k) (no_more ws k (room_of ws) over))
 
-    pub judging-empty : room_of ws ≡ 0 → record { good = false; place = 0 } ≡ judged_by (bad_node R n ws)
-    judging-empty e = flip (ap judged_by only-cut-off ∙ rw (e))
+    pub judging-empty : room_of ws ≡ 0 → bad_node R n ws ≡ some (room_of ws)
+    judging-empty e = only-cut-off ∙ rw (e)
 
-    pub judging-cut : node_words * room_of ws < length ws → record { good = false; place = room_of ws } ≡ judged_by (bad_node R n ws)
-    judging-cut h = flip (ap judged_by only-cut-off ∙ rw (ne_eqb (node_words * room_of ws) (length ws) (λ e. omega (arith, e, h))) (either (leb 1 (room_of ws))))
+    pub judging-cut : node_words * room_of ws < length ws → bad_node R n ws ≡ some (room_of ws)
+    judging-cut h = only-cut-off ∙ rw (ne_eqb (node_words * room_of ws) (length ws) (λ e. omega (arith, e, h))) (either (leb 1 (room_of ws)))
       where
-        either : (b : Bool) → judged_by (cond (b && false) none (some (room_of ws))) ≡ record { good = false; place = room_of ws }
+        either : (b : Bool) → cond (b && false) none (some (room_of ws)) ≡ some (room_of ws)
         either true = refl
         either false = refl
 
-    pub judging-good : 1 ≤ room_of ws → length ws ≤ node_words * room_of ws → record { good = true; place = 0 } ≡ judged_by (bad_node R n ws)
+    pub judging-good : 1 ≤ room_of ws → length ws ≤ node_words * room_of ws → bad_node R n ws ≡ none
     judging-good h l =
-        flip (ap judged_by only-cut-off ∙ rw (le-leb 1 (room_of ws) h, eq-eqb (node_words * room_of ws) (length ws) (omega (arith, l, room_fits ws))))
+        only-cut-off ∙ rw (le-leb 1 (room_of ws) h, eq-eqb (node_words * room_of ws) (length ws) (omega (arith, l, room_fits ws)))

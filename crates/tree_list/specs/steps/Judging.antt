@@ -1,15 +1,8 @@
 -- How the code judges words: node by node, with the gaps in an array. Assumes nothing: these are definitions.
-use Rattle.std.specs.Prelude.{ℕ, ◌-◌, ◌≤◌, ◌≡◌, true, false, List, length}
-use Rattle.std.proofs.Math.Option.{Option, none, some}
+use Rattle.std.specs.Prelude.{ℕ, ◌-◌, ◌≤◌, ◌≡◌, List, length}
 use Rattle.match_list.specs.Nodes.{room_of, nodes_at}
-use Rattle.tree_list.specs.declared.Judged.{Judged}
 use Rattle.tree_list.specs.Preorder.{Gap, bad_from, whole}
 use Rattle.tree_list.specs.steps.Gaps.{Gapped}
-
--- the first bad node, if there is one, in the code's own form
-abbrev pub judged_by : Option ℕ → Judged
-judged_by none = record { good = true; place = 0 }
-judged_by (some k) = record { good = false; place = k }
 
 -- the nodes before node k are let in: what is left to judge is what follows
 pub record Judging (R n : ℕ) (ws : List ℕ) (k depths : ℕ) (gaps : List ℕ) : Type 0 where

@@ -1,5 +1,5 @@
 -- A node's head part by part, and closing pairs, as code reads them. Assumes nothing.
-use Rattle.std.specs.Prelude.{ℕ, suc, ◌+◌, ◌-◌, ◌≤◌, ◌<◌, ◌≡◌, Bool, cond, List, [], ◌∷◌, eqb, leb, length, take, drop}
+use Rattle.std.specs.Prelude.{ℕ, suc, ◌+◌, ◌-◌, ◌≤◌, ◌<◌, ◌≡◌, Bool, cond, List, [], ◌∷◌, eqb, leb, length, take, drop, Some, None}
 use Rattle.std.proofs.Math.Path.{sym, ap}
 use Rattle.std.proofs.Common.{◌∙◌, arith, add-one, le-leb, eq-eqb, ne_eqb}
 use Rattle.std.proofs.Math.Bool.{true, false}
@@ -9,6 +9,10 @@ use Rattle.read_tokens.specs.Token.{Symbol}
 use Rattle.match_meaning.specs.Meaning.{Node}
 use Rattle.tree_json.specs.Json.{chars_json, before_name, before_start, before_end, before_text, before_children, behind_children, comma}
 use Rattle.tree_json.specs.Reading.{ate, Took, took, named_at, number_at, closes_at, cons_to, head_at, next_at}
+use Rattle.tree_read.specs.declared.heads.Then.TheVariants.{Last, More}
+use Rattle.tree_read.specs.laws.Eaten.{gone}
+use Rattle.tree_read.specs.laws.Names.{named-gone}
+use Rattle.tree_read.specs.laws.Numbers.{number-gone}
 use Rattle.tree_read.specs.steps.Walks.{Headed, behind_pairs, Onward}
 
 -- ── the head: each part is read behind the one before ──
@@ -26,6 +30,57 @@ module _ (f : ℕ → Symbol) (R : ℕ) (s js : List ℕ) (at a r b p c q e g x 
     starts = l.2;
     ends = n.2;
   }
+
+-- or one of them does not stand there
+module _ (f : ℕ → Symbol) (R : ℕ) (s js : List ℕ) (d at : ℕ) where
+  abbrev name : Took
+  name = named_at f R 0 js (ate before_name js at)
+
+  abbrev start : Took
+  start = number_at js (ate before_start js name.place)
+
+  abbrev end : Took
+  end = number_at js (ate before_end js start.place)
+
+  abbrev chars : List ℕ
+  chars = chars_json (take (end.value - start.value) (drop start.value s))
+
+  abbrev text : ℕ
+  text = ate before_text js end.place
+
+  abbrev Past : Type 0
+  Past = length js < (head_at f R s js d at).place
+
+  pub no_children : length js < ate before_children js (ate chars js text) → Past
+  unfolding head_at
+  no_children h = h
+
+  pub no_chars : length js < ate chars js text → Past
+  no_chars h = no_children (gone js before_children (ate chars js text) h)
+
+  pub no_text : length js < text → Past
+  no_text h = no_chars (gone js chars text h)
+
+  pub no_end : length js < end.place → Past
+  no_end h = no_text (gone js before_text end.place h)
+
+  pub before_no_end : length js < ate before_end js start.place → Past
+  before_no_end h = no_end (number-gone js (ate before_end js start.place) h)
+
+  pub no_start : length js < start.place → Past
+  no_start h = before_no_end (gone js before_end start.place h)
+
+  pub before_no_start : length js < ate before_start js name.place → Past
+  before_no_start h = no_start (number-gone js (ate before_start js name.place) h)
+
+  pub no_name : length js < name.place → Past
+  no_name h = before_no_start (gone js before_start name.place h)
+
+  pub before_no_name : length js < ate before_name js at → Past
+  before_no_name h = no_name (named-gone f js (ate before_name js at) R 0 h)
+
+  pub past-head : length js < at → Past
+  past-head h = before_no_name (gone js before_name at h)
 
 -- ── closing pairs, c at most: n are closed, up to place a ──
 pub record Closing (js : List ℕ) (c at n a : ℕ) : Type 0 where
@@ -111,24 +166,30 @@ module _ (js : List ℕ) (d at n a : ℕ) (v : n ≡ (closes_at (d + 1) js at).v
     sibling : (n ≡ suc d → ⊥) → (n ≡ 0 → ⊥) → behind_pairs js d (closes_at (suc d) js at) x g ≡ cons_to x (g (suc d - n) (ate comma js a))
     sibling h l = by-pairs false (ne_eqb n (suc d) h) ∙ rw (ne_eqb n 0 l)
 
-  pub on-last : n ≡ d + 1 → a ≡ length js → Onward js d at 1 0 a
-  on-last h l = record { said = λ x g. whole-read x g (h ∙ add-one d) l; low = omega arith }
+  pub on-last : n ≡ d + 1 → a ≡ length js → Onward js d at (Some Last)
+  on-last h l = record { said = λ x g z. whole-read x g (h ∙ add-one d) l; low = tt }
 
-  pub on_none : n ≡ d + 1 → (a ≡ length js → ⊥) → Onward js d at 0 0 a
-  on_none h l = record { said = λ x g. more-behind x g (h ∙ add-one d) l; low = omega arith }
+  pub on_none : n ≡ d + 1 → (a ≡ length js → ⊥) → Onward js d at None
+  on_none h l = record { said = λ x g z. more-behind x g (h ∙ add-one d) l; low = tt }
 
   module _ (h : n ≡ d + 1 → ⊥) where
     unlike : n ≡ suc d → ⊥
     unlike l = h (l ∙ sym (add-one d))
 
-    pub on-child : n ≡ 0 → Onward js d at 2 (d + 1) a
+    pub on-child : n ≡ 0 → Onward js d at (Some (More (d + 1) a))
     on-child l = let z : suc d - n ≡ d + 1 = omega arith in record {
-      said = λ x g. child x g unlike l ∙ ap (λ (m : ℕ). cons_to x (g m a)) z;
+      said = λ x g y. child x g unlike l ∙ ap (λ (m : ℕ). cons_to x (g m a)) z;
       low = omega arith;
     }
 
-    pub on-sibling : (b : ℕ) → b ≡ ate comma js a → (n ≡ 0 → ⊥) → Onward js d at 2 (d + 1 - n) b
+    pub on-sibling : (b : ℕ) → b ≡ ate comma js a → (n ≡ 0 → ⊥) → Onward js d at (Some (More (d + 1 - n) b))
     on-sibling b r l = let z : suc d - n ≡ d + 1 - n = omega arith in record {
-      said = λ x g. sibling x g unlike l ∙ ap (λ (m : ℕ). cons_to x (g m (ate comma js a))) z ∙ ap (λ (m : ℕ). cons_to x (g (d + 1 - n) m)) (sym r);
+      said = λ x g y. sibling x g unlike l ∙ ap (λ (m : ℕ). cons_to x (g m (ate comma js a))) z ∙ ap (λ (m : ℕ). cons_to x (g (d + 1 - n) m)) (sym r);
       low = omega arith;
+    }
+
+    pub no-sibling : length js < ate comma js a → (n ≡ 0 → ⊥) → Onward js d at None
+    no-sibling p l = record {
+      said = λ x g y. sibling x g unlike l ∙ ap (cons_to x) (y (suc d - n) (ate comma js a) p);
+      low = tt;
     }

@@ -8,6 +8,7 @@ use mathlib.Core.List.{List, [], ◌∷◌}
 use Rattle.std.proofs.Math.ListN.{get_or-eq_default}
 use borrow.Author.Tests.{lt-ltb, le-ltb, le-leb, lt-leb}
 use Rattle.tree_json.specs.Json.{digit_of, number_json}
+use Rattle.tree_read.specs.laws.Eaten.{gone}
 use Rattle.tree_json.specs.Reading.{ate, is_digit, digits_at, number_at}
 
 -- ── the digits ──
@@ -102,11 +103,15 @@ module _ (v e : ℕ) (ones : e ≡ digit_of 1 v) where
         five-places a g h = ap₂ ◌∷◌ g four ∙ sym (rw (le-ltb v 10 l₂, le-ltb v 100 l₃, le-ltb v 1000 l₄, le-ltb v 10000 h))
 
 -- the number, and the place behind it
-module _ (js : List ℕ) (at v a : ℕ) (e : v ≡ digits_at 5 0 js at) (f : a ≡ ate (number_json v) js at) where
+module _ (js : List ℕ) (at v : ℕ) (e : v ≡ digits_at 5 0 js at) where
   pub number-value : v ≡ (number_at js at).value
   unfolding number_at
   number-value = e
 
-  pub number-place : a ≡ (number_at js at).place
+  pub number-place : ate (number_json v) js at ≡ (number_at js at).place
   unfolding number_at
-  number-place = f ∙ ap (λ (n : ℕ). ate (number_json n) js at) e
+  number-place = ap (λ (n : ℕ). ate (number_json n) js at) e
+
+pub number-gone : (js : List ℕ) (at : ℕ) → length js < at → length js < (number_at js at).place
+unfolding number_at
+number-gone js at h = gone js (number_json (digits_at 5 0 js at)) at h

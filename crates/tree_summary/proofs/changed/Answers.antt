@@ -1,17 +1,15 @@
-use native.Mathlib.Omega.{arith}
+use Rattle.std.proofs.Common.{refl}
 use Rattle.tree_summary.specs.Adding.{changed_by}
 use Rattle.tree_summary.proofs.changed.Goals as goal
 
-pub overflow_add-result : goal.overflow_add-result
-overflow_add-result c = omega (arith, c.requires.nodes c.if-u.true)
-
-pub overflow_add-result-then-u : goal.overflow_add-result-then-u
-overflow_add-result-then-u c = omega (arith, c.requires.bytes c.if-u.true)
-
-pub returns-then-u : goal.returns-then-u
+pub returns-in-Clear : goal.returns-in-Clear
 unfolding changed_by
-returns-then-u c = rw (c.if-u.true, c.first_of-first.ensures)
+returns-in-Clear c = rw c.in-Clear.is refl
 
-pub returns : goal.returns
+pub returns-then-old : goal.returns-then-old
 unfolding changed_by
-returns c = rw c.if-u.false
+returns-then-old c = rw (c.in-Add.is, c.if-old.true) refl
+
+pub returns-else-old : goal.returns-else-old
+unfolding changed_by
+returns-else-old c = rw (c.in-Add.is, c.if-old.false) refl

@@ -1,9 +1,4 @@
-use mathlib.Core.Path.{◌≡◌, refl, sym, ap, ◌∙◌}
-use mathlib.Core.List.{List}
-use Prim.Native.Nat.{ℕ, suc, ◌≤◌, ◌<◌}
-use lib.ListN.{length, get_or, set}
-use native.Mathlib.Omega.{arith}
-use native.Mathlib.Numerals.{add-one}
+use Rattle.std.proofs.Common.{ℕ, suc, ◌≤◌, ◌<◌, ◌≡◌, refl, sym, ap, ◌∙◌, List, length, get_or, set, add-one, arith}
 use Rattle.tree_summary.specs.declared.Summary.{Summary}
 use Rattle.tree_summary.specs.declared.Sweep.{Sweep}
 use Rattle.tree_summary.specs.Summary.{absent}
@@ -26,24 +21,23 @@ made ws R i rs now then s e f g = g ∙ rw (e, f) refl
 
 pub loop-i-init : goal.loop-i-init
 unfolding sweep_at stepped
-loop-i-init c = (omega arith, c.begun-s.ensures, refl)
+loop-i-init c = (c.begun-s.ensures, refl)
 
 pub step-s-requires : goal.step-s-requires
 step-s-requires c = (
-  c.loop-i.invariant.1,
+  c.loop-i.invariant.0,
   sooner c.args.nodes.now c.args.symbols c.args.steps c.loop-i.i (c.requires (omega arith)).0 c.loop-i-test.true,
 )
 
 pub update-requires : goal.update-requires
 update-requires c =
     asked c.args.nodes.now c.args.symbols c.args.steps c.loop-i.i c.args.records.now c.loop-i.records c.step-s.result (c.requires (omega arith)).0
-    (c.requires (omega arith)).1 c.loop-i-test.true c.loop-i.invariant.2 c.step-s.ensures
+    (c.requires (omega arith)).1 c.loop-i-test.true c.loop-i.invariant.1 c.step-s.ensures
 
 pub loop-i-preserved : goal.loop-i-preserved
 loop-i-preserved c = (
-  omega arith,
   c.step-s.ensures ∙ ap (sweep_at c.args.nodes.now c.args.symbols) (sym (add-one c.loop-i.i)),
-  made c.args.nodes.now c.args.symbols c.loop-i.i c.args.records.now c.loop-i.records c.update.new.records c.step-s.result c.loop-i.invariant.2
+  made c.args.nodes.now c.args.symbols c.loop-i.i c.args.records.now c.loop-i.records c.update.new.records c.step-s.result c.loop-i.invariant.1
       c.step-s.ensures c.update.ensures
       ∙ ap (λ (j : ℕ). stepped c.args.nodes.now c.args.symbols j c.args.records.now) (sym (add-one c.loop-i.i)),
 )
@@ -51,4 +45,4 @@ loop-i-preserved c = (
 pub returns : goal.returns
 returns c =
     let e : c.loop-i.i ≡ c.args.steps = omega arith in
-    c.loop-i.invariant.2 ∙ ap (λ (j : ℕ). stepped c.args.nodes.now c.args.symbols j c.args.records.now) e
+    c.loop-i.invariant.1 ∙ ap (λ (j : ℕ). stepped c.args.nodes.now c.args.symbols j c.args.records.now) e

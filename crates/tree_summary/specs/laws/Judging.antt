@@ -9,9 +9,7 @@ use Rattle.grammar.specs.Refusal.{Refusal, refuse_if, refuse_at, ◌▸◌}
 use Rattle.prepare.specs.Reads.{verdict_of}
 use Rattle.prepare.specs.declared.Verdict.TheVariants.{Accepted, Refused}
 use Rattle.match_list.specs.Nodes.{room_of}
-use Rattle.tree_list.specs.declared.Judged.{Judged}
 use Rattle.tree_list.specs.Preorder.{bad_node}
-use Rattle.tree_list.specs.steps.Judging.{judged_by}
 use Rattle.tree_summary.specs.declared.Plan.{Plan}
 use Rattle.tree_summary.specs.steps.Judging.{summary_checks, no_plan, plan_by}
 
@@ -32,23 +30,18 @@ module _ (R : ℕ) (s ws : List ℕ) (room : ℕ) where
   plan-short l = rw (le-ltb input_bound (length s) l)
 
   -- ── the words are no list, or they are one ──
-  words-bad : (o : Option ℕ) (j : Judged) → j ≡ judged_by o → j.good ≡ false → no_plan (Refused 15 j.place) ≡ plan (judged o)
-  unfolding verdict_of
-  words-bad none j e g = absurd (true≢false (sym (ap (λ (x : Judged). x.good) e) ∙ g))
-  words-bad (some k) j e g = ap (λ (x : Judged). no_plan (Refused 15 x.place)) e
+  module _ (short : length s ≤ input_bound) where
+    listed : (o : Option ℕ) → bad_node R (length s) ws ≡ o → plan (judged o) ≡ plan (summary_checks R s ws room)
+    listed o e = ap (λ (x : Option ℕ). plan (judged x)) (sym e) ∙ plan-short short
 
-  words-good : (o : Option ℕ) (j : Judged) → j ≡ judged_by o → j.good ≡ true → plan (refuse_if (ltb room R) 17 R) ≡ plan (judged o)
-  words-good none j e g = refl
-  words-good (some k) j e g = absurd (true≢false (sym g ∙ ap (λ (x : Judged). x.good) e))
-
-  module _ (short : length s ≤ input_bound) (j : Judged) (e : j ≡ judged_by (bad_node R (length s) ws)) where
-    pub plan-bad : j.good ≡ false → no_plan (Refused 15 j.place) ≡ plan (summary_checks R s ws room)
-    plan-bad g = words-bad (bad_node R (length s) ws) j e g ∙ plan-short short
+    pub plan-bad : (k : ℕ) → bad_node R (length s) ws ≡ some k → no_plan (Refused 15 k) ≡ plan (summary_checks R s ws room)
+    unfolding verdict_of
+    plan-bad k e = listed (some k) e
 
     -- ── the records are too few, or they are not ──
-    module _ (good : j.good ≡ true) where
+    module _ (good : bad_node R (length s) ws ≡ none) where
       only-room : (b : Bool) → ltb room R ≡ b → plan (refuse_if b 17 R) ≡ plan (summary_checks R s ws room)
-      only-room b q = ap (λ (x : Bool). plan (refuse_if x 17 R)) (sym q) ∙ words-good (bad_node R (length s) ws) j e good ∙ plan-short short
+      only-room b q = ap (λ (x : Bool). plan (refuse_if x 17 R)) (sym q) ∙ listed none good
 
       pub plan-small : room < R → no_plan (Refused 17 R) ≡ plan (summary_checks R s ws room)
       unfolding verdict_of

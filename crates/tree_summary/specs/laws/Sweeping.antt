@@ -165,7 +165,7 @@ clearing-fits : (ws : List ℕ) (R i : ℕ) (rs : List Summary) → R ≤ length
 unfolding Asks
 clearing-fits ws R i rs room h = (
   rw (place-first ws R i h, stepped-long ws R i rs) (omega arith),
-  rw (change-first ws R i h) (record { nodes = λ e. absurd (false≢true e); bytes = λ e. absurd (false≢true e); added = omega arith }),
+  rw (change-first ws R i h) tt,
 )
 
 room_most : (ws : List ℕ) → length ws < 18446744073709551616 → room_of ws < 4611686018427387904
@@ -176,12 +176,11 @@ node-fits : (ws : List ℕ) (R k : ℕ) (rs : List Summary) → Sweepable ws R (
 unfolding Asks summary_of
 node-fits ws R k rs able room = (
   rw (place-node ws R k, stepped-long ws R (R + k) rs) (omega (arith, x-known.0)),
-  rw (added ws R able.n rs able.good room k (omega arith), place-node ws R k, change-node ws R k, summaries-at able.n R xs rs x.symbol x-known.0)
-      (record {
-        nodes = λ e. omega (arith, count_most x.symbol xs, nodes-long ws 0 k, room_most ws able.long);
-        bytes = λ e. omega (arith, covered-most able.n x.symbol xs, able.short);
-        added = omega (arith, bytes_most xs x, x-known.2, able.short);
-      }),
+  rw (added ws R able.n rs able.good room k (omega arith), place-node ws R k, change-node ws R k, summaries-at able.n R xs rs x.symbol x-known.0) (
+    omega (arith, count_most x.symbol xs, nodes-long ws 0 k, room_most ws able.long),
+    omega (arith, covered-most able.n x.symbol xs, able.short),
+    omega (arith, bytes_most xs x, x-known.2, able.short),
+  ),
 )
   where
     xs : List Node

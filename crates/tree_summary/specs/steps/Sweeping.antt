@@ -1,11 +1,12 @@
 -- How the code works the records out: one step a symbol that makes its record absent, then one a node. Assumes nothing: these are definitions.
-use Rattle.std.specs.Prelude.{ℕ, zero, suc, ◌+◌, ◌-◌, ◌≤◌, ◌<◌, ◌≡◌, true, cond, List, ltb, length, get_or, set, replicate}
+use Rattle.std.specs.Prelude.{ℕ, zero, suc, ◌+◌, ◌-◌, ◌≤◌, ◌<◌, ◌≡◌, ⊤, cond, List, ltb, length, get_or, set, replicate}
 use Rattle.std.proofs.Math.Option.{none}
 use Rattle.grammar_table.specs.Table.{up_to}
 use Rattle.match_list.specs.Nodes.{node_at, nodes_at, room_of}
 use Rattle.tree_list.specs.Preorder.{bad_node}
 use Rattle.tree_summary.specs.declared.Summary.{Summary}
 use Rattle.tree_summary.specs.declared.Change.{Change}
+use Rattle.tree_summary.specs.declared.Change.TheVariants.{Clear, Add}
 use Rattle.tree_summary.specs.declared.Sweep.{Sweep}
 use Rattle.tree_summary.specs.Summary.{absent}
 use Rattle.tree_summary.specs.Adding.{reach_of, bytes_added, adding, clearing, changed_by}
@@ -47,7 +48,6 @@ pub record Sweepable (ws : List ℕ) (R steps : ℕ) : Type 0 where
   pub within : steps ≤ R + room_of ws
 
 -- a change that a record has room for: one that adds finds counts below 2^62
-pub record Fits (old : Summary) (u : Change) : Type 0 where
-  pub nodes : u.adds ≡ true → old.nodes < 4611686018427387904
-  pub bytes : u.adds ≡ true → old.bytes < 4611686018427387904
-  pub added : u.bytes < 4611686018427387904
+abbrev pub Fits : Summary → Change → Type 0
+Fits old Clear = ⊤
+Fits old (Add k b) = (old.nodes < 4611686018427387904) × (old.bytes < 4611686018427387904) × (b < 4611686018427387904)

@@ -1,7 +1,7 @@
 -- Each way in which writing a list ends is what the checks in their order say. Assumes nothing.
 use Rattle.std.specs.Prelude.{ℕ, min, ◌≤◌, ◌<◌, ◌≡◌, refl, Bool, List, ltb}
 use Rattle.std.proofs.Math.Path.{sym, ap}
-use Rattle.std.proofs.Common.{◌∙◌, true≢false, arith}
+use Rattle.std.proofs.Common.{◌∙◌, arith}
 use Rattle.std.proofs.Math.Bool.{true, false}
 use Rattle.std.proofs.Math.Option.{Option, none, some}
 use Rattle.std.proofs.Math.Dec.{leb}
@@ -15,22 +15,8 @@ use Rattle.write_leaves.specs.steps.Pen.{most}
 use Rattle.write_text.specs.steps.Texts.{room_by}
 use Rattle.write_put.specs.declared.Written.{Written}
 use Rattle.write_put.specs.steps.Puts.{not_written, answer_by, Put}
-use Rattle.tree_list.specs.declared.Judged.{Judged}
 use Rattle.tree_list.specs.Preorder.{bad_node}
-use Rattle.tree_list.specs.steps.Judging.{judged_by}
 use Rattle.tree_write.specs.steps.Lists.{list_checks, room_check, wrote_by, room_after, WroteList}
-
--- what the judge said of the words
-by-judge : (o : Option ℕ) (j : Judged) → j ≡ judged_by o → (j.good ≡ true → o ≡ none) × (j.good ≡ false → o ≡ some j.place)
-by-judge none j e = (λ g. refl, λ g. absurd (true≢false (sym (ap (λ (x : Judged). x.good) e) ∙ g)))
-by-judge (some k) j e = (λ g. absurd (true≢false (sym g ∙ ap (λ (x : Judged). x.good) e)), λ g. ap (λ (x : Judged). some x.place) (sym e))
-
-module _ (R n : ℕ) (ws : List ℕ) (count : ℕ) (j : Judged) (e : count ≡ R) (q : j ≡ judged_by (bad_node count n ws)) where
-  pub judged-good : j.good ≡ true → bad_node R n ws ≡ none
-  judged-good g = ap (λ (k : ℕ). bad_node k n ws) (sym e) ∙ (by-judge (bad_node count n ws) j q).0 g
-
-  pub judged-bad : j.good ≡ false → bad_node R n ws ≡ some j.place
-  judged-bad g = ap (λ (k : ℕ). bad_node k n ws) (sym e) ∙ (by-judge (bad_node count n ws) j q).1 g
 
 -- a check that refuses
 by-some : (w old new : List ℕ) (r : Written) (o : Option Refusal) (x : Refusal) → o ≡ some x → r ≡ not_written (Refused x.number x.place) → new ≡ old

@@ -63,12 +63,6 @@ module _ (ws : List ℕ) (k d : ℕ) (here : d ≡ node_word ws k 3) where
     unfolding behind_by
     behind-child h = sym (rw (eq-eqb e (suc d) (omega arith))) ∙ next
 
-    pub behind-below : d + 1 < e → comma ≡ behind_at ws k
-    unfolding behind_by closings
-    behind-below h =
-        let a : 0 ≡ suc d - e = omega arith in
-        ap (λ (x : ℕ). closings x ++ comma) a ∙ sym (rw (ne_eqb e (suc d) (λ y. omega (arith, h, y)))) ∙ next
-
     pub behind-else : (e ≡ d + 1 → ⊥) → closings (d + 1 - e) ++ comma ≡ behind_at ws k
     unfolding behind_by
     behind-else g =

@@ -1,5 +1,5 @@
 -- Strings and numbers of a JSON text by the tests that code makes. Assumes nothing.
-use Prim.Native.Nat.{ℕ, suc, ◌+◌, ◌-◌, ◌/◌, ◌%◌, ◌≤◌, ◌<◌, min}
+use Prim.Native.Nat.{ℕ, suc, ◌+◌, ◌-◌, ◌/◌, ◌≤◌, ◌<◌, min}
 use Rattle.std.specs.Prelude.{◌≡◌, length, get_or, take, drop}
 use Rattle.std.proofs.Math.Path.{sym, ap}
 use Rattle.std.proofs.Common.{◌∙◌, add-one, drop_of_length-le, drop-cons}
@@ -9,7 +9,7 @@ use native.Mathlib.Omega.{arith}
 use Rattle.std.proofs.Math.Seq.{take-nil}
 use borrow.Author.Tests.{lt-ltb, le-ltb, le-leb, lt-leb, ne_eqb}
 use Rattle.base_facts.specs.laws.Numbers.{lt-or-ge}
-use Rattle.tree_json.specs.Json.{hex_digit, char_json, chars_json, number_json}
+use Rattle.tree_json.specs.Json.{char_json, chars_json, digit_of, number_json}
 use Rattle.tree_write.specs.steps.Values.{escaped, lead}
 
 -- ── bytes as they are: what is left at i ──
@@ -21,15 +21,6 @@ module _ (s : List ℕ) (i : ℕ) where
   bytes-end h = drop_of_length-le s h
 
 -- ── a byte of a string ──
-pub hex-low : (x : ℕ) → x < 10 → 48 + x ≡ hex_digit x
-hex-low x h = sym (rw (lt-ltb x 10 h))
-
-pub hex-high : (x : ℕ) → 10 ≤ x → 55 + x ≡ hex_digit x
-hex-high x h = sym (rw (le-ltb x 10 h))
-
-pub two_bytes : {a b x y : ℕ} → a ≡ x → b ≡ y → a ∷ b ∷ [] ≡ x ∷ y ∷ []
-two_bytes e g = rw (e, g)
-
 module _ (c : ℕ) (a : c ≡ 34 → ⊥) (b : c ≡ 92 → ⊥) where
   pub control : c < 32 → escaped c ≡ char_json c
   unfolding char_json
@@ -68,12 +59,9 @@ module _ (n k : ℕ) where
   pub digit-none : n < k → [] ≡ lead k n
   digit-none h = sym (rw (lt-ltb n k h))
 
-  pub digit-some : k ≤ n → (48 + n / k % 10) ∷ [] ≡ lead k n
-  digit-some h = sym (rw (le-ltb n k h))
-
 module _ (n : ℕ) where
   abbrev pub digits : List ℕ
-  digits = lead 10000 n ++ (lead 1000 n ++ (lead 100 n ++ (lead 10 n ++ ((48 + n % 10) ∷ []))))
+  digits = lead 10000 n ++ (lead 1000 n ++ (lead 100 n ++ (lead 10 n ++ (digit_of 1 n ∷ []))))
 
   whole : n / 1 ≡ n
   whole = omega arith

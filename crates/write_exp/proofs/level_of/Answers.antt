@@ -1,30 +1,21 @@
-use Prim.Native.Nat.{◌-◌}
-use mathlib.Core.Path.{sym, ap, ◌∙◌}
-use native.Mathlib.Omega.{arith}
+use Rattle.std.proofs.Common.{sym, ap, ◌∙◌, arith}
 use Rattle.write_exp.specs.laws.Trees.{level_by, kind-level, zero-level, tight, suffixes, prefixes}
 use Rattle.write_exp.proofs.level_of.Goals as goal
 
 pub returns-then-x-eq0 : goal.returns-then-x-eq0
 returns-then-x-eq0 c = λ f. zero-level c.args.t.now f c.args.x c.if-x-eq0.true
 
-pub returns-then-op-lt-SEQUENCE : goal.returns-then-op-lt-SEQUENCE
-returns-then-op-lt-SEQUENCE c = λ f. tight c.op-op.result c.if-op-lt-SEQUENCE.true ∙ kind-level c.args.t.now f c.args.x
-    c.op-op.result c.if-x-eq0.false c.op-op.ensures.0
+pub returns-in-0 : goal.returns-in-0
+returns-in-0 c = λ f. tight c.op.result (omega arith) ∙ kind-level c.args.t.now f c.args.x c.op.result c.if-x-eq0.false c.op.ensures.0
 
-pub returns-then-op-eq-SEQUENCE : goal.returns-then-op-eq-SEQUENCE
-returns-then-op-eq-SEQUENCE c = λ f. sym (ap level_by c.if-op-eq-SEQUENCE.true) ∙ kind-level c.args.t.now f c.args.x
-    c.op-op.result c.if-x-eq0.false c.op-op.ensures.0
+pub returns-in-2 : goal.returns-in-2
+returns-in-2 c = λ f. sym (ap level_by c.in-2.is) ∙ kind-level c.args.t.now f c.args.x c.op.result c.if-x-eq0.false c.op.ensures.0
 
-pub returns-then-op-eq-CHOICE : goal.returns-then-op-eq-CHOICE
-returns-then-op-eq-CHOICE c = λ f. sym (ap level_by c.if-op-eq-CHOICE.true) ∙ kind-level c.args.t.now f c.args.x
-    c.op-op.result c.if-x-eq0.false c.op-op.ensures.0
+pub returns-in-3 : goal.returns-in-3
+returns-in-3 c = λ f. sym (ap level_by c.in-3.is) ∙ kind-level c.args.t.now f c.args.x c.op.result c.if-x-eq0.false c.op.ensures.0
 
-pub returns-then-op-lt-AHEAD : goal.returns-then-op-lt-AHEAD
-returns-then-op-lt-AHEAD c = λ f. suffixes c.op-op.result c.if-op-eq-SEQUENCE.false c.if-op-eq-CHOICE.false (omega arith) c.if-op-lt-AHEAD.true ∙ kind-level
-    c.args.t.now f c.args.x c.op-op.result
-    c.if-x-eq0.false c.op-op.ensures.0
+pub returns-in-4 : goal.returns-in-4
+returns-in-4 c = λ f. suffixes c.op.result (λ e. omega (arith, e)) (λ e. omega (arith, e)) (omega arith) (omega arith) ∙ kind-level c.args.t.now f c.args.x c.op.result c.if-x-eq0.false c.op.ensures.0
 
-pub returns : goal.returns
-returns c = λ f. prefixes c.op-op.result (omega arith) ∙ kind-level c.args.t.now f
-    c.args.x c.op-op.result c.if-x-eq0.false
-    c.op-op.ensures.0
+pub returns-in_default : goal.returns-in_default
+returns-in_default c = λ f. prefixes c.op.result (omega arith) ∙ kind-level c.args.t.now f c.args.x c.op.result c.if-x-eq0.false c.op.ensures.0

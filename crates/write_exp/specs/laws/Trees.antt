@@ -121,11 +121,11 @@ module _ (t : List ℕ) (f : ℕ → Symbol) (x k l : ℕ) (n : x ≡ 0 → ⊥)
         ∙ ap (λ (i : ℕ). shown f t 1 (below l (x - 1)) ++ ((32 ∷ []) ++ shown f t 2 i)) (q ∙ ap (λ (j : ℕ). below j (x - 1)) g)
         ∙ kind-text 2 e
 
-    pub alt-text : (r z : ℕ) → r ≡ right_of t (x - 1) → z ≡ below r (x - 1) → k ≡ 3 → shown f t 0 y ++ ((32 ∷ []) ++ ((47 ∷ 32 ∷ []) ++ shown f t 1 z)) ≡ whole
+    pub alt-text : (r z : ℕ) → r ≡ right_of t (x - 1) → z ≡ below r (x - 1) → k ≡ 3 → shown f t 0 y ++ ((32 ∷ 47 ∷ 32 ∷ []) ++ shown f t 1 z) ≡ whole
     unfolding toned expr_text node_by
     alt-text r z g q e =
-        ap (λ (i : ℕ). shown f t 0 i ++ ((32 ∷ []) ++ ((47 ∷ 32 ∷ []) ++ shown f t 1 z))) p
-        ∙ ap (λ (i : ℕ). shown f t 0 (below l (x - 1)) ++ ((32 ∷ []) ++ ((47 ∷ 32 ∷ []) ++ shown f t 1 i))) (q ∙ ap (λ (j : ℕ). below j (x - 1)) g)
+        ap (λ (i : ℕ). shown f t 0 i ++ ((32 ∷ 47 ∷ 32 ∷ []) ++ shown f t 1 z)) p
+        ∙ ap (λ (i : ℕ). shown f t 0 (below l (x - 1)) ++ ((32 ∷ 47 ∷ 32 ∷ []) ++ shown f t 1 i)) (q ∙ ap (λ (j : ℕ). below j (x - 1)) g)
         ∙ kind-text 3 e
 
     pub opt-text : k ≡ 4 → shown f t 4 y ++ (63 ∷ []) ≡ whole

@@ -1,6 +1,6 @@
 -- Names, literals and classes, a word at a time. Assumes nothing.
 use Prim.Native.Nat.{ℕ, zero, suc, ◌+◌, ◌-◌, ◌*◌, ◌%◌, ◌≤◌, ◌<◌}
-use Rattle.std.specs.Prelude.{◌≡◌, refl, Bool, cond, eqb, length, get_or}
+use Rattle.std.specs.Prelude.{◌≡◌, refl, Bool, cond, eqb, length, get_or, Option as Maybe, Some, None}
 use Rattle.std.proofs.Math.Path.{sym, ap}
 use Rattle.std.proofs.Common.{◌∙◌, subst, add-one, eq-eqb, ne_eqb}
 use Rattle.std.proofs.Math.Bool.{true, false, not}
@@ -42,13 +42,7 @@ pub words-start : (t : List ℕ) (i n : ℕ) → words_from t (i + 0) (n - 0) �
 words-start t i n = let a : i + 0 ≡ i = omega arith in let b : n - 0 ≡ n = omega arith in ap (λ (x : ℕ). words_from t x (n - 0)) a ∙ ap (words_from t i) b
 
 -- ── classes ──
-none_open : (run b : ℕ) → run ≡ 256 → open_of run b ≡ none
-none_open run b e = ap (λ (x : Bool). cond x none (some (range run (b - 1)))) (eq-eqb run 256 e)
-
-some-open : (run b : ℕ) → (run ≡ 256 → ⊥) → open_of run b ≡ some (range run (b - 1))
-some-open run b f = ap (λ (x : Bool). cond x none (some (range run (b - 1)))) (ne_eqb run 256 f)
-
-module _ (t : List ℕ) (i run b : ℕ) (h : b < 256) where
+module _ (t : List ℕ) (i b : ℕ) (h : b < 256) where
   mark : Bool
   mark = not (eqb (get_or t (i + b) 0) 0)
 
@@ -62,9 +56,9 @@ module _ (t : List ℕ) (i run b : ℕ) (h : b < 256) where
   after : List Bool
   after = marks_from t (i + (b + 1)) (256 - (b + 1))
 
-  by-mark : (m : Bool) → mark ≡ m → rest_of t i run b ≡ runs_text (runs (open_of run b) b (m ∷ after))
+  by-mark : (run : Maybe ℕ) (m : Bool) → mark ≡ m → rest_of t i run b ≡ runs_text (runs (open_of run b) b (m ∷ after))
   unfolding after
-  by-mark m e = ap (λ (l : List Bool). runs_text (runs (open_of run b) b l)) split ∙ ap (λ (x : Bool). runs_text (runs (open_of run b) b (x ∷ after))) e
+  by-mark run m e = ap (λ (l : List Bool). runs_text (runs (open_of run b) b l)) split ∙ ap (λ (x : Bool). runs_text (runs (open_of run b) b (x ∷ after))) e
 
   is_set : (get_or t (i + b) 0 ≡ 0 → ⊥) → mark ≡ true
   unfolding mark
@@ -75,51 +69,47 @@ module _ (t : List ℕ) (i run b : ℕ) (h : b < 256) where
   is-clear e = ap not (eq-eqb (get_or t (i + b) 0) 0 e)
 
   -- a marked byte opens a run, or makes the run one longer
-  pub opens : (get_or t (i + b) 0 ≡ 0 → ⊥) → run ≡ 256 → rest_of t i run b ≡ rest_of t i b (b + 1)
+  pub opens : (get_or t (i + b) 0 ≡ 0 → ⊥) → rest_of t i None b ≡ rest_of t i (Some b) (b + 1)
   unfolding runs after
-  opens f e =
-      let x : b + 1 - 1 ≡ b = omega arith in
-      by-mark true (is_set f) ∙ ap (λ (o : Option Range). runs_text (runs o b (true ∷ after))) (none_open run b e)
+  opens f =
+      let x : b ≡ b + 1 - 1 = omega arith in
+      by-mark None true (is_set f)
       ∙ ap (λ (k : ℕ). runs_text (runs (some (range b b)) k after)) (sym (add-one b))
-      ∙ sym (ap (λ (o : Option Range). runs_text (runs o (b + 1) after)) (some-open b (b + 1) (λ z. omega arith) ∙ ap (λ (y : ℕ). some (range b y)) x))
+      ∙ ap (λ (y : ℕ). runs_text (runs (some (range b y)) (b + 1) after)) x
 
-  pub goes_on : (get_or t (i + b) 0 ≡ 0 → ⊥) → (run ≡ 256 → ⊥) → rest_of t i run b ≡ rest_of t i run (b + 1)
+  pub goes_on : (lo : ℕ) → (get_or t (i + b) 0 ≡ 0 → ⊥) → rest_of t i (Some lo) b ≡ rest_of t i (Some lo) (b + 1)
   unfolding runs after
-  goes_on f g =
-      let x : b + 1 - 1 ≡ b = omega arith in
-      by-mark true (is_set f) ∙ ap (λ (o : Option Range). runs_text (runs o b (true ∷ after))) (some-open run b g)
-      ∙ ap (λ (k : ℕ). runs_text (runs (some (range run b)) k after)) (sym (add-one b))
-      ∙ sym (ap (λ (o : Option Range). runs_text (runs o (b + 1) after)) (some-open run (b + 1) g ∙ ap (λ (y : ℕ). some (range run y)) x))
+  goes_on lo f =
+      let x : b ≡ b + 1 - 1 = omega arith in
+      by-mark (Some lo) true (is_set f)
+      ∙ ap (λ (k : ℕ). runs_text (runs (some (range lo b)) k after)) (sym (add-one b))
+      ∙ ap (λ (y : ℕ). runs_text (runs (some (range lo y)) (b + 1) after)) x
 
   -- any other byte closes the open run
-  pub stays : get_or t (i + b) 0 ≡ 0 → run ≡ 256 → rest_of t i run b ≡ rest_of t i 256 (b + 1)
+  pub stays : get_or t (i + b) 0 ≡ 0 → rest_of t i None b ≡ rest_of t i None (b + 1)
   unfolding runs after
-  stays f e =
-      by-mark false (is-clear f) ∙ ap (λ (o : Option Range). runs_text (runs o b (false ∷ after))) (none_open run b e)
-      ∙ ap (λ (k : ℕ). runs_text (runs none k after)) (sym (add-one b))
-      ∙ sym (ap (λ (o : Option Range). runs_text (runs o (b + 1) after)) (none_open 256 (b + 1) refl))
+  stays f = by-mark None false (is-clear f) ∙ ap (λ (k : ℕ). runs_text (runs none k after)) (sym (add-one b))
 
-  pub closes : get_or t (i + b) 0 ≡ 0 → (run ≡ 256 → ⊥) → rest_of t i run b ≡ run_text (range run (b - 1)) ++ rest_of t i 256 (b + 1)
+  pub closes : (lo : ℕ) → get_or t (i + b) 0 ≡ 0 → rest_of t i (Some lo) b ≡ run_text (range lo (b - 1)) ++ rest_of t i None (b + 1)
   unfolding runs runs_text after
-  closes f g =
-      by-mark false (is-clear f) ∙ ap (λ (o : Option Range). runs_text (runs o b (false ∷ after))) (some-open run b g)
-      ∙ ap (λ (k : ℕ). run_text (range run (b - 1)) ++ runs_text (runs none k after)) (sym (add-one b))
-      ∙ sym (ap (λ (o : Option Range). run_text (range run (b - 1)) ++ runs_text (runs o (b + 1) after)) (none_open 256 (b + 1) refl))
+  closes lo f =
+      by-mark (Some lo) false (is-clear f)
+      ∙ ap (λ (k : ℕ). run_text (range lo (b - 1)) ++ runs_text (runs none k after)) (sym (add-one b))
 
-module _ (t : List ℕ) (i run b : ℕ) (h : 256 ≤ b) where
-  out_of : marks_from t (i + b) (256 - b) ≡ []
+module _ (t : List ℕ) (i : ℕ) where
+  out_of : marks_from t (i + 256) 0 ≡ []
   unfolding marks_from
-  out_of = let e : 256 - b ≡ 0 = omega arith in ap (marks_from t (i + b)) e
+  out_of = refl
 
-  pub class-end : run ≡ 256 → rest_of t i run b ≡ []
+  pub class-end : rest_of t i None 256 ≡ []
   unfolding runs runs_text
-  class-end e = ap (λ (l : List Bool). runs_text (runs (open_of run b) b l)) out_of ∙ ap (λ (o : Option Range). runs_text (runs o b [])) (none_open run b e)
+  class-end = ap (λ (l : List Bool). runs_text (runs none 256 l)) out_of
 
-  pub class-last : (run ≡ 256 → ⊥) → rest_of t i run b ≡ run_text (range run (b - 1)) ++ []
+  pub class-last : (lo : ℕ) → rest_of t i (Some lo) 256 ≡ run_text (range lo 255) ++ []
   unfolding runs runs_text
-  class-last g = ap (λ (l : List Bool). runs_text (runs (open_of run b) b l)) out_of ∙ ap (λ (o : Option Range). runs_text (runs o b [])) (some-open run b g)
+  class-last lo = ap (λ (l : List Bool). runs_text (runs (some (range lo 255)) 256 l)) out_of
 
-pub class-start : (t : List ℕ) (i : ℕ) → rest_of t i 256 0 ≡ runs_text (runs none 0 (marks_from t i 256))
+pub class-start : (t : List ℕ) (i : ℕ) → rest_of t i None 0 ≡ runs_text (runs none 0 (marks_from t i 256))
 class-start t i = let a : i + 0 ≡ i = omega arith in ap (λ (x : ℕ). runs_text (runs none 0 (marks_from t x 256))) a
 
 -- a run of one byte, and of more

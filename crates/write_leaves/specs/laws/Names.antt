@@ -46,7 +46,7 @@ module _ (t : List ℕ) (r k n : ℕ) (e : k ≡ symbol_word t r 0) (g : n ≡ s
   a-lake zero f w = absurd (f refl)
   a-lake (suc j) f w = refl
 
-  pub plain-text : (p : Bool) → p ≡ true → (k ≡ 0 → ⊥) → (108 ∷ 97 ∷ 107 ∷ 101 ∷ []) ++ ((95 ∷ 95 ∷ []) ++ bytes) ≡ symbol_text (called p t r)
+  pub plain-text : (p : Bool) → p ≡ true → (k ≡ 0 → ⊥) → (108 ∷ 97 ∷ 107 ∷ 101 ∷ 95 ∷ 95 ∷ []) ++ bytes ≡ symbol_text (called p t r)
   unfolding symbol_text plain_name
   plain-text p z f = ap (λ (q : Bool). symbol_text (called_by q (lake bytes))) (sym z) ∙ ap (λ (h : Symbol). symbol_text (called_by p h)) (a-lake k f bytes) ∙ ap symbol_text (words p)
 

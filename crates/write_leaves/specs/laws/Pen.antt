@@ -1,9 +1,11 @@
 -- Bytes written one after the other. Assumes nothing.
-use Rattle.std.specs.Prelude.{ℕ, zero, suc, ◌+◌, ◌≤◌, ◌<◌, min, ◌≡◌, refl, Bool, true, false, ◌⊎◌, List, [], ◌∷◌, ◌++◌, length, set}
+use Rattle.std.specs.Prelude.{ℕ, zero, suc, ◌+◌, ◌≤◌, ◌<◌, min, ◌≡◌, refl, Bool, true, false, ◌⊎◌, List, [], ◌∷◌, ◌++◌, length, set, cond, leb}
 use Rattle.std.proofs.Common.{sym, ap, ◌∙◌, subst, inl, inr, ⊎_elim, arith, add-one, length-set, length-append}
+use borrow.Author.Tests.{lt-leb, le-leb}
 use Rattle.std.proofs.Math.Decide.{dec_lt}
 use Rattle.std.proofs.Math.Seq.{set_out}
-use Rattle.write_leaves.specs.steps.Pen.{most, inked, Penned}
+use Rattle.write_leaves.specs.declared.bytes.Pen.{Pen}
+use Rattle.write_leaves.specs.steps.Pen.{most, inked, Penned, after_one, after}
 
 pub inked-length : (w : Bool) (bs out : List ℕ) (at : ℕ) → length (inked w bs out at) ≡ length out
 unfolding inked
@@ -27,6 +29,11 @@ unfolding inked
 inked-past w [] out at h = refl
 inked-past true (b ∷ bs) out at h = ap (λ (o : List ℕ). inked true bs o (suc at)) (set_out out at b h) ∙ inked-past true bs out (suc at) (omega arith)
 inked-past false (b ∷ bs) out at h = inked-past false bs out (suc at) (omega arith)
+
+pub inked-none : (bs out : List ℕ) (at : ℕ) → inked false bs out at ≡ out
+unfolding inked
+inked-none [] out at = refl
+inked-none (b ∷ bs) out at = inked-none bs out (suc at)
 
 -- a place at which counting has stopped is past the end
 inked-most : (w : Bool) (bs out : List ℕ) (n : ℕ) → length out < most → inked w bs out (min most n) ≡ inked w bs out n
@@ -60,40 +67,68 @@ penned-long {w} {a} {old} {new} {at} {r} p = ap length p.room ∙ inked-length w
 pub penned-most : {w : Bool} {a old new : List ℕ} {at r : ℕ} → Penned w a old at new r → r ≤ most
 penned-most p = omega (arith, p.place)
 
--- one byte, stored or only counted
-pub byte-on : (old : List ℕ) (at b : ℕ) → at < most → Penned true (b ∷ []) old at (set old at b) (at + 1)
+-- ── a pen ──
+pub after-append : (p : Pen) (xs ys : List ℕ) → after p (xs ++ ys) ≡ after (after p xs) ys
+unfolding after
+after-append p [] ys = refl
+after-append p (b ∷ xs) ys = after-append (after_one p b) xs ys
+
+-- one text behind another
+pub then : (p : Pen) (a b : List ℕ) {q r : Pen} → q ≡ after p a → r ≡ after q b → r ≡ after p (a ++ b)
+then p a b e f = f ∙ ap (λ (x : Pen). after x b) e ∙ sym (after-append p a b)
+
+pub said : (p : Pen) {a b : List ℕ} {q : Pen} → a ≡ b → q ≡ after p a → q ≡ after p b
+said p e f = f ∙ ap (after p) e
+
+-- in a loop that writes what is left gives the whole
+pub less : (p : Pen) (a rest : List ℕ) {b : List ℕ} {q w : Pen} → after p b ≡ w → b ≡ a ++ rest → q ≡ after p a → after q rest ≡ w
+less p a rest l e f = ap (λ (x : Pen). after x rest) f ∙ sym (after-append p a rest) ∙ ap (after p) (sym e) ∙ l
+
+pub done : (p : Pen) (a : List ℕ) {w : Pen} → after p a ≡ w → a ≡ [] → p ≡ w
+unfolding after
+done p a l e = ap (after p) (sym e) ∙ l
+
+-- from a place on in room a pen leaves what Penned says, and it counts what Penned says without the flag
+counts : (at : ℕ) → at ≤ most → cond (leb most at) at (at + 1) ≡ min most (at + 1)
+counts at h = go (dec_lt at most)
+  where
+    go : Dec (at < most) → cond (leb most at) at (at + 1) ≡ min most (at + 1)
+    go (yes k) = rw (lt-leb most at k) (omega arith)
+    go (no k) = rw (le-leb most at (omega arith)) (omega arith)
+
+pub after-place : (p : Pen) (bs : List ℕ) → p.at ≤ most → (after p bs).at ≡ min most (p.at + length bs)
+unfolding after
+after-place p [] h = omega arith
+after-place p (b ∷ bs) h = omega (arith, after-place (after_one p b) bs (omega (arith, counts p.at h)), counts p.at h)
+
+pub pen-counts : (p : Pen) (bs old : List ℕ) → p.at ≤ most → Penned false bs old p.at old (after p bs).at
+unfolding after
+pen-counts p bs old h = record { room = sym (inked-none bs old p.at); place = after-place p bs h }
+
+one : (p : Pen) (b : ℕ) → p.at ≤ most → Penned true (b ∷ []) p.out.now p.at (set p.out.now p.at b) (after_one p b).at
 unfolding inked
-byte-on old at b h = record { room = refl; place = omega arith }
+one p b h = record { room = refl; place = counts p.at h }
 
-pub byte_past : (old : List ℕ) (at b : ℕ) → at < most → length old ≤ at → Penned true (b ∷ []) old at old (at + 1)
-unfolding inked
-byte_past old at b h l = record { room = sym (set_out old at b l); place = omega arith }
+pub pen-writes : (p : Pen) (bs : List ℕ) → p.at ≤ most → length p.out.now < most → Penned true bs p.out.now p.at (after p bs).out.now (after p bs).at
+unfolding after
+pen-writes p [] h l = penned-none true p.out.now p.at h
+pen-writes p (b ∷ bs) h l = on l (one p b h) (pen-writes (after_one p b) bs (omega (arith, counts p.at h)) (rw (length-set p.out.now p.at b) l))
 
-pub byte-counted : (old : List ℕ) (at b : ℕ) → at < most → Penned false (b ∷ []) old at old (at + 1)
-unfolding inked
-byte-counted old at b h = record { room = refl; place = omega arith }
+-- the room is the same room
+pub same_room : (p : Pen) (bs : List ℕ) → (after p bs).out.ghost_name ≡ p.out.ghost_name
+unfolding after
+same_room p [] = refl
+same_room p (b ∷ bs) = same_room (after_one p b) bs
 
-pub byte-most : (w : Bool) (old : List ℕ) (at b : ℕ) → most ≤ at → at ≤ most → length old < most → Penned w (b ∷ []) old at old at
-byte-most w old at b h g l = record { room = sym (inked-past w (b ∷ []) old at (omega arith)); place = omega arith }
+-- from the front of the room
+module _ (p : Pen) {q : Pen} (bs : List ℕ) (z : p.at ≡ 0) (e : q ≡ after p bs) where
+  pub counted : (old : List ℕ) → Penned false bs old 0 old q.at
+  counted old = subst (λ (a : ℕ). Penned false bs old a old q.at) z
+      (subst (λ (x : Pen). Penned false bs old p.at old x.at) (sym e) (pen-counts p bs old (omega (arith, z))))
 
--- ── a loop that writes: what is left gives the whole ──
-pub record Along (w : Bool) (whole rest : List ℕ) (old : List ℕ) (at : ℕ) (mid : List ℕ) (r : ℕ) : Type 0 where
-  pub ends : (new : List ℕ) (x : ℕ) → Penned w rest mid r new x → Penned w whole old at new x
-  pub long : length mid ≡ length old
-  pub small : r ≤ most
+  pub wrote : length p.out.now < most → Penned true bs p.out.now 0 q.out.now q.at
+  wrote l = subst (λ (a : ℕ). Penned true bs p.out.now a q.out.now q.at) z
+      (subst (λ (x : Pen). Penned true bs p.out.now p.at x.out.now x.at) (sym e) (pen-writes p bs (omega (arith, z)) l))
 
-pub along-start : (w : Bool) (whole old : List ℕ) (at : ℕ) → at ≤ most → Along w whole whole old at old at
-along-start w whole old at h = record { ends = λ new x p. p; long = refl; small = h }
-
-pub along-on : {w : Bool} {whole a rest old mid new : List ℕ} {at r x : ℕ} → length old < most → Along w whole (a ++ rest) old at mid r → Penned w a mid r new x → Along w whole rest old at new x
-along-on h l p = record {
-  ends = λ fin y q. l.ends fin y (on (omega (arith, l.long, h)) p q);
-  long = penned-long p ∙ l.long;
-  small = penned-most p;
-}
-
-pub along-end : {w : Bool} {whole old mid : List ℕ} {at r : ℕ} → Along w whole [] old at mid r → Penned w whole old at mid r
-along-end {w} {mid = mid} {r = r} l = l.ends mid r (penned-none w mid r l.small)
-
-pub along-is : {w : Bool} {whole a b old mid : List ℕ} {at r : ℕ} → a ≡ b → Along w whole a old at mid r → Along w whole b old at mid r
-along-is {w} {whole} {a} {b} {old} {mid} {at} {r} e l = subst (λ (x : List ℕ). Along w whole x old at mid r) e l
+  pub same_name : q.out.ghost_name ≡ p.out.ghost_name
+  same_name = ap (λ (x : Pen). x.out.ghost_name) e ∙ same_room p bs

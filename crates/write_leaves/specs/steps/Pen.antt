@@ -1,5 +1,6 @@
 -- Writing bytes into lent room one after the other, or only counting them. Assumes nothing: these are definitions.
-use Rattle.std.specs.Prelude.{ℕ, suc, ◌+◌, min, ◌≡◌, Bool, true, false, List, [], ◌∷◌, length, set}
+use Rattle.std.specs.Prelude.{ℕ, suc, ◌+◌, min, ◌≡◌, Bool, true, false, cond, leb, List, [], ◌∷◌, length, set}
+use Rattle.write_leaves.specs.declared.bytes.Pen.{Pen}
 
 -- no room is as long as this: counts stop here
 abbrev pub most : ℕ
@@ -15,3 +16,12 @@ inked false (b ∷ bs) out at = inked false bs out (suc at)
 pub record Penned (w : Bool) (bytes old : List ℕ) (at : ℕ) (new : List ℕ) (r : ℕ) : Type 0 where
   pub room : new ≡ inked w bytes old at
   pub place : r ≡ min most (at + length bytes)
+
+-- a pen after one byte
+abbrev pub after_one : Pen → ℕ → Pen
+after_one p b = record { out = record p.out { now = set p.out.now p.at b }; at = cond (leb most p.at) p.at (p.at + 1) }
+
+-- a pen after bytes one behind the other. From the front of room it leaves what Penned says, over no room what Penned says without the flag: see laws/Pen
+unfoldable pub after : Pen → List ℕ → Pen
+after p [] = p
+after p (b ∷ bs) = after (after_one p b) bs

@@ -1,5 +1,5 @@
 -- The text of what a table holds: names and terminals read as bytes. Assumes nothing: these are definitions.
-use Rattle.std.specs.Prelude.{ℕ, ◌+◌, ◌*◌, ◌-◌, ◌%◌, Bool, true, false, cond, List, map, eqb}
+use Rattle.std.specs.Prelude.{ℕ, ◌+◌, ◌*◌, ◌-◌, ◌%◌, Bool, true, false, List, map, Option as Maybe, Some, None}
 use Rattle.std.proofs.Math.Option.{Option, none, some}
 use Rattle.read_tokens.specs.Token.{Symbol, Leaf, name, lake, any, literal, class}
 use Rattle.grammar.specs.Exp.{Exp, sym, ter, seq, alt, opt, star, plus, ahead, never}
@@ -38,10 +38,11 @@ toned f (plus a) = plus (toned f a)
 toned f (ahead a) = ahead (toned f a)
 toned f (never a) = never (toned f a)
 
--- the open run of a class before mark b: 256 where there is none
-abbrev pub open_of : ℕ → ℕ → Option Range
-open_of run b = cond (eqb run 256) none (some (range run (b - 1)))
+-- the open run of a class before mark b, by the byte at which it began
+abbrev pub open_of : Maybe ℕ → ℕ → Option Range
+open_of None b = none
+open_of (Some lo) b = some (range lo (b - 1))
 
 -- what is left of a class before mark b, with a run open
-abbrev pub rest_of : List ℕ → ℕ → ℕ → ℕ → List ℕ
+abbrev pub rest_of : List ℕ → ℕ → Maybe ℕ → ℕ → List ℕ
 rest_of t i run b = runs_text (runs (open_of run b) b (marks_from t (i + b) (256 - b)))

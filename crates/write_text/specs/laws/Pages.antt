@@ -1,6 +1,6 @@
 -- The rules of a table one after the other, and the room with the whole text. Assumes nothing.
 use Prim.Native.Nat.{ℕ, zero, suc, ◌+◌, ◌-◌, ◌*◌, ◌≤◌, ◌<◌}
-use Rattle.std.specs.Prelude.{◌≡◌, refl, Bool, true, false, length, get_or, set, take, drop, leb}
+use Rattle.std.specs.Prelude.{◌≡◌, refl, Bool, true, false, length, get_or, set, take, drop, leb, min}
 use Rattle.std.proofs.Math.Path.{sym, ap}
 use Rattle.std.proofs.Common.{◌∙◌, length-set, le-leb}
 use mathlib.Core.List.{List, [], ◌∷◌, ◌++◌, append-nil, append_assoc}
@@ -12,7 +12,9 @@ use Rattle.grammar.specs.Exp.{Exp}
 use Rattle.grammar_table.specs.Table.{symbol_word, symbol_count, body_by, body_in}
 use Rattle.grammar_table.specs.Trees.{tree_of}
 use Rattle.write_rules.specs.Writing.{symbol_text, expr_text, rule_text, text}
-use Rattle.write_leaves.specs.steps.Pen.{most, inked, Penned}
+use Rattle.write_leaves.specs.declared.bytes.Pen.{Pen}
+use Rattle.write_leaves.specs.steps.Pen.{most, inked, after}
+use Rattle.write_leaves.specs.laws.Pen.{counted, wrote}
 use Rattle.write_leaves.specs.steps.Printed.{called, toned}
 use Rattle.write_text.specs.steps.Texts.{rule_by, rules_in, rights_in, ruled, text_of, room_by, Paged}
 
@@ -66,11 +68,6 @@ module _ (f : ℕ → Symbol) (t : List ℕ) (n : ℕ) where
   rest_end r h = ap (λ (k : ℕ). text (rules_in f r (rights_in t r k))) (let a : n - r ≡ 0 = omega arith in a)
 
 -- ── the room ──
-pub inked-none : (bs out : List ℕ) (at : ℕ) → inked false bs out at ≡ out
-unfolding inked
-inked-none [] out at = refl
-inked-none (b ∷ bs) out at = inked-none bs out (suc at)
-
 -- bytes that fit stand from `at` on, and nothing else is changed
 set_split : (out : List ℕ) (at b : ℕ) → at < length out → take (suc at) (set out at b) ≡ take at out ++ (b ∷ [])
 set_split [] at b h = let z : ⊥ = omega arith in absurd z
@@ -98,24 +95,24 @@ inked-all (b ∷ bs) out at h =
     ∙ append_assoc (take at out) (b ∷ []) (bs ++ drop (suc at + length bs) (set out at b))
     ∙ ap (λ (l : List ℕ). take at out ++ (b ∷ (bs ++ l))) (set-drop out at b (suc at + length bs) (omega arith) ∙ ap (λ (k : ℕ). drop k out) n)
 
--- ── too long, or written ──
-module _ {w old mid : List ℕ} {n : ℕ} (small : length old < most) (p : Penned false w old 0 mid n) where
-  pub same-room : mid ≡ old
-  same-room = p.room ∙ inked-none w old 0
+-- ── too long, or written: a pen has counted the text, and then another has written it ──
+module _ (w old : List ℕ) (small : length old < most) (p : Pen) {q : Pen} (z : p.at ≡ 0) (e : q ≡ after p w) where
+  count : q.at ≡ min most (length w)
+  count = omega (arith, (counted p w z e []).place)
 
-  pub too_long : length mid < n → Paged w old mid n false
+  pub too_long : length old < q.at → Paged w old old q.at false
   too_long h =
-      let l : length old < n = omega (arith, h, ap length same-room) in
-      let q : leb (length w) (length old) ≡ false = lt-leb (length w) (length old) (omega (arith, l, p.place)) in
-      record { counted = omega (arith, p.place); fitting = sym q; room = same-room ∙ ap (λ (b : Bool). room_by b w old) (sym q) }
+      let b : leb (length w) (length old) ≡ false = lt-leb (length w) (length old) (omega (arith, h, count)) in
+      record { counted = count; fitting = sym b; room = ap (λ (x : Bool). room_by x w old) (sym b) }
 
-  pub written : (new : List ℕ) (m : ℕ) → n ≤ length mid → Penned true w mid 0 new m → Paged w old new m true
-  written new m h q =
-      let l : n ≤ length old = omega (arith, h, ap length same-room) in
-      let k : 0 + length w ≤ length old = omega (arith, l, p.place, small) in
+  pub written : (p' : Pen) {q' : Pen} {new : List ℕ} → q.at ≤ length old → p'.out.now ≡ old → p'.at ≡ 0 → q' ≡ after p' w → new ≡ q'.out.now → Paged w old new q'.at true
+  written p' {q'} {new} h o z' e' n =
+      let k : 0 + length w ≤ length old = omega (arith, h, count, small) in
       let b : leb (length w) (length old) ≡ true = le-leb (length w) (length old) (omega (arith, k)) in
+      let l : length p'.out.now < most = omega (arith, small, ap length o) in
       record {
-        counted = omega (arith, q.place);
+        counted = omega (arith, (wrote p' w z' e' l).place);
         fitting = sym b;
-        room = q.room ∙ ap (λ (o : List ℕ). inked true w o 0) same-room ∙ inked-all w old 0 k ∙ ap (λ (x : ℕ). w ++ drop x old) (let z : 0 + length w ≡ length w = omega arith in z) ∙ ap (λ (x : Bool). room_by x w old) (sym b);
+        room = n ∙ (wrote p' w z' e' l).room ∙ ap (λ (x : List ℕ). inked true w x 0) o ∙ inked-all w old 0 k
+            ∙ ap (λ (x : ℕ). w ++ drop x old) (let y : 0 + length w ≡ length w = omega arith in y) ∙ ap (λ (x : Bool). room_by x w old) (sym b);
       }

@@ -13,23 +13,22 @@ use Rattle.lake_calls.specs.steps.Firsts.{Firsts}
 use Rattle.lake_calls.proofs.loops.mark_round.Goals as goal
 
 pub loop-i-init : goal.loop-i-init
-loop-i-init c = (omega arith, refl, λ number r x h s j p. let z : ⊥ = omega arith in absurd z)
+loop-i-init c = (refl, λ number r x h s j p. let z : ⊥ = omega arith in absurd z)
 
 pub loop-i-preserved : goal.loop-i-preserved
 loop-i-preserved c = (
-  simp length-set (omega arith),
-  simp length-set c.loop-i.invariant.1,
+  simp length-set c.loop-i.invariant.0,
   λ number r x h s. fill_more false (λ j. has_empty (marked
       c.args.marks.now) (tree_of c.args.t.now (symbol_word
-      c.args.t.now j 1))) c.loop-i.next c.loop-i.i c.first-a.result.empty
-      (c.loop-i.invariant.2 number r x h s) (omega arith) ((subst (λ (y : ℕ). Firsts (marked c.args.marks.now) (tree_of
-      c.args.t.now y) c.first-a.result.calls c.first-a.result.empty) c.body-x.ensures.0
-      c.first-a.ensures).are number r x h (s c.loop-i.i (omega arith))).1,
+      c.args.t.now j 1))) c.loop-i.next c.loop-i.i c.first.result.empty
+      (c.loop-i.invariant.1 number r x h s) (omega arith) ((subst (λ (y : ℕ). Firsts (marked c.args.marks.now) (tree_of
+      c.args.t.now y) c.first.result.calls c.first.result.empty) c.body.ensures.0
+      c.first.ensures).are number r x h (s c.loop-i.i (omega arith))).1,
 )
 
 pub returns : goal.returns
 returns c = record {
   are = λ number r x h s. is-up_to false (λ j. has_empty (marked c.args.marks.now) (tree_of
       c.args.t.now (symbol_word c.args.t.now j 1))) c.loop-i.next (length
-      c.args.next.now) (omega arith) (λ i p. c.loop-i.invariant.2 number r x h s i (omega arith));
+      c.args.next.now) (omega arith) (λ i p. c.loop-i.invariant.1 number r x h s i (omega arith));
 }

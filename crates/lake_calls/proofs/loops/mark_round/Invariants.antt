@@ -11,8 +11,5 @@ use Rattle.lake_calls.specs.steps.Marks.{SoundIn}
 use Rattle.lake_calls.proofs.loops.mark_round.Given as goal
 
 abbrev pub invariant-loop-i : goal.invariant-loop-i
-invariant-loop-i l = (l.i ≤ length l.next) × (length l.next ≡ length l.initial.next) × ((number : Leaf → ℕ) (r x : ℕ) → r ≤ 64 → SoundIn number r x l.t (length l.initial.next) →
+invariant-loop-i l = (length l.next ≡ length l.initial.next) × ((number : Leaf → ℕ) (r x : ℕ) → r ≤ 64 → SoundIn number r x l.t (length l.initial.next) →
     (j : ℕ) → j < l.i → get_or l.next j false ≡ has_empty (marked l.marks) (tree_of l.t (symbol_word l.t j 1)))
-
-abbrev pub decreases-loop-i : goal.decreases-loop-i
-decreases-loop-i l = length l.initial.next - l.i

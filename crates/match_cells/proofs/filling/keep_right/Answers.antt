@@ -5,11 +5,8 @@ use Rattle.match_cells.specs.laws.Preset.{record-none}
 use Rattle.match_cells.specs.laws.Runs.{zeros}
 use Rattle.match_cells.proofs.filling.keep_right.Goals as goal
 
-pub returns-then-usable : goal.returns-then-usable
-returns-then-usable c = let r = c.usable.ensures c.if-usable.true in (r.1, λ b f. (r.0, r.2))
-
-pub returns : goal.returns
-returns c = (
+pub returns-then-not-usable : goal.returns-then-not-usable
+returns-then-not-usable c = (
   planned-none c.args.t.now c.args.mem.now
       c.args.order.now c.args.n _ (zeros 5120),
   λ b f. absurd (f

@@ -1,4 +1,6 @@
 use native.Mathlib.Omega.{arith}
+use mathlib.Core.Path.{◌≡◌}
+use Prim.Native.Nat.{◌-◌}
 use native.Mathlib.Nat.{mul-le-mul}
 use mathlib.Core.Path.{refl, sym, ap, subst, ◌∙◌}
 use mathlib.Core.List.{List}
@@ -13,6 +15,7 @@ use Rattle.match_eval.specs.steps.Memory.{Knows}
 use Rattle.match_cells.specs.laws.Preset.{knows-preset, said-stays}
 use Rattle.match_cells.specs.laws.Rows.{row_more, row-end, row-start}
 use Rattle.match_cells.proofs.filling.place.Goals as goal
+use Rattle.match_cells.proofs.filling.place.Goals.{then-has, else-has}
 
 pub overflow_mul-p : goal.overflow_mul-p
 overflow_mul-p c = let h : c.args.p * c.args.n ≤ 65535 * 64 = mul-le-mul {n₂ = 65535} {m₂ = 64} (omega
@@ -42,9 +45,6 @@ loop-j-init c = (
       c.requires.1.1 c.requires.2),
 )
 
-pub overflow_add-j : goal.overflow_add-j
-overflow_add-j c = omega (arith, c.loop-j-test.true, c.requires.0.1)
-
 pub has-requires : goal.has-requires
 has-requires c = omega (
   arith,
@@ -69,71 +69,6 @@ store-requires c = (
   c.loop-j.invariant.3,
 )
 
-pub loop-j-smaller-then-has : goal.loop-j-smaller-then-has
-loop-j-smaller-then-has c = omega (arith, c.loop-j-test.true)
-
-pub loop-j-preserved-then-has : goal.loop-j-preserved-then-has
-loop-j-preserved-then-has c = (
-  omega (arith, c.loop-j-test.true),
-  c.store.auto.cells ∙ c.loop-j.invariant.1,
-  row_more c.args.t.now
-      c.args.s.now
-      c.args.p
-      c.args.order.now
-      c.loop-j.j
-      c.args.n
-      c.loop-j.cells _ c.loop-j-test.true
-      (c.store.ensures.0 ∙ ap (λ (x : ℕ). set c.loop-j.cells
-      (c.args.p * length (bodies_of
-      c.args.t.now) + x) (body_takes (bodies_of
-      c.args.t.now)
-      c.args.s.now
-      c.loop-j.cells x
-      c.args.p))
-      c.word-r.ensures.0)
-      ∙ c.loop-j.invariant.2,
-  c.store.ensures.1,
-)
-
-pub loop-j-smaller : goal.loop-j-smaller
-loop-j-smaller c = omega (arith, c.loop-j-test.true)
-
-pub loop-j-preserved : goal.loop-j-preserved
-loop-j-preserved c = (
-  omega (arith, c.loop-j-test.true),
-  c.loop-j.invariant.1,
-  row_more c.args.t.now
-      c.args.s.now
-      c.args.p
-      c.args.order.now c.loop-j.j
-      c.args.n c.loop-j.cells _
-      c.loop-j-test.true
-      (said-stays c.args.t.now
-      c.args.s.now c.loop-j.cells
-      c.args.mem.now
-      c.args.n (get_or
-      c.args.order.now c.loop-j.j 0)
-      c.args.p
-      (c.args.p + 1)
-      c.requires.0.0
-      (c.requires.0.2 c.loop-j.j
-      c.loop-j-test.true) c.requires.0.4
-      (λ q. c.preset-open.ensures.1 (get_or
-      c.args.order.now c.loop-j.j 0)
-      (omega arith) (c.requires.0.2 c.loop-j.j
-      c.loop-j-test.true)
-      (ap (holds c.preset-open.result) (sym c.word-r.ensures.0) ∙ sym c.has.ensures ∙ c.if-has.false)
-      (ap (λ (b : ℕ). word_of c.args.t.now
-      c.args.mem.now b (get_or
-      c.args.order.now c.loop-j.j 0))
-      c.byte_at-b.ensures.0 ∙ q))
-      c.loop-j.invariant.3) ∙ c.loop-j.invariant.2,
-  c.loop-j.invariant.3,
-)
-
-pub shape_of-cells : goal.shape_of-cells
-shape_of-cells c = c.loop-j.invariant.1 ∙ c.preset-open.auto.cells
-
 pub returns : goal.returns
 returns c = (
   row-end c.args.t.now
@@ -153,3 +88,70 @@ returns c = (
       c.args.cells.now) c.byte_at-b.ensures.0),
   c.loop-j.invariant.3,
 )
+
+-- what holds behind a symbol, of the cells as it leaves them
+abbrev Kept : List ℕ → List ℕ → List ℕ → List ℕ → ℕ → ℕ → ℕ → List ℕ → List ℕ → Type 0
+Kept t s mem order n p j first cells =
+    (j ≤ n) × (length cells ≡ length first)
+    × (row_of (bodies_of t) s p (words_from order j (n - j)) cells ≡ row_of (bodies_of t) s p (words_from order 0 n) first) × Knows t s cells n mem (p + 1) p
+
+pub loop-j-preserved : goal.loop-j-preserved
+loop-j-preserved c =
+    elim c.if-has.branch [
+      | then-has w ↦
+          let kept : Kept c.args.t.now c.args.s.now c.args.mem.now c.args.order.now c.args.n c.args.p (c.loop-j.j + 1) c.preset-open.new.cells w.store.new.cells = (
+            omega (arith, c.loop-j-test.true),
+            w.store.auto.cells ∙ c.loop-j.invariant.1,
+            row_more c.args.t.now
+                c.args.s.now
+                c.args.p
+                c.args.order.now
+                c.loop-j.j
+                c.args.n
+                c.loop-j.cells _ c.loop-j-test.true
+                (w.store.ensures.0 ∙ ap (λ (x : ℕ). set c.loop-j.cells
+                (c.args.p * length (bodies_of
+                c.args.t.now) + x) (body_takes (bodies_of
+                c.args.t.now)
+                c.args.s.now
+                c.loop-j.cells x
+                c.args.p))
+                c.word-r.ensures.0)
+                ∙ c.loop-j.invariant.2,
+            w.store.ensures.1,
+          ) in
+          subst (λ (v : List ℕ). Kept c.args.t.now c.args.s.now c.args.mem.now c.args.order.now c.args.n c.args.p (c.loop-j.j + 1) c.preset-open.new.cells v) (sym w.cells-is) kept
+      | else-has w ↦
+          let kept : Kept c.args.t.now c.args.s.now c.args.mem.now c.args.order.now c.args.n c.args.p (c.loop-j.j + 1) c.preset-open.new.cells c.loop-j.cells = (
+            omega (arith, c.loop-j-test.true),
+            c.loop-j.invariant.1,
+            row_more c.args.t.now
+                c.args.s.now
+                c.args.p
+                c.args.order.now c.loop-j.j
+                c.args.n c.loop-j.cells _
+                c.loop-j-test.true
+                (said-stays c.args.t.now
+                c.args.s.now c.loop-j.cells
+                c.args.mem.now
+                c.args.n (get_or
+                c.args.order.now c.loop-j.j 0)
+                c.args.p
+                (c.args.p + 1)
+                c.requires.0.0
+                (c.requires.0.2 c.loop-j.j
+                c.loop-j-test.true) c.requires.0.4
+                (λ q. c.preset-open.ensures.1 (get_or
+                c.args.order.now c.loop-j.j 0)
+                (omega arith) (c.requires.0.2 c.loop-j.j
+                c.loop-j-test.true)
+                (ap (holds c.preset-open.result) (sym c.word-r.ensures.0) ∙ sym c.has.ensures ∙ w.if-has.false)
+                (ap (λ (b : ℕ). word_of c.args.t.now
+                c.args.mem.now b (get_or
+                c.args.order.now c.loop-j.j 0))
+                c.byte_at-b.ensures.0 ∙ q))
+                c.loop-j.invariant.3) ∙ c.loop-j.invariant.2,
+            c.loop-j.invariant.3,
+          ) in
+          subst (λ (v : List ℕ). Kept c.args.t.now c.args.s.now c.args.mem.now c.args.order.now c.args.n c.args.p (c.loop-j.j + 1) c.preset-open.new.cells v) (sym w.cells-is) kept
+    ]

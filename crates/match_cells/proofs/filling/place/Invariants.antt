@@ -12,6 +12,3 @@ invariant-loop-j l =
     (l.j ≤ l.n) × (length l.cells ≡ length l.initial.cells)
     × (row_of (bodies_of l.t) l.s l.p (words_from l.order l.j (l.n - l.j)) l.cells ≡ row_of (bodies_of l.t) l.s l.p (words_from l.order 0 l.n) l.initial.cells)
     × Knows l.t l.s l.cells l.n l.mem (l.p + 1) l.p
-
-abbrev pub decreases-loop-j : goal.decreases-loop-j
-decreases-loop-j l = l.n - l.j

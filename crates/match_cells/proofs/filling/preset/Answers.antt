@@ -16,18 +16,6 @@ loop-r-init c = (
       c.args.n 0,
 )
 
-pub overflow_sub-r : goal.overflow_sub-r
-overflow_sub-r c = omega (arith, c.loop-r-test.true)
-
-pub body-x-requires : goal.body-x-requires
-body-x-requires c = omega (arith, c.requires, c.loop-r.invariant.1)
-
-pub overflow_add-i : goal.overflow_add-i
-overflow_add-i c = omega (arith, c.requires, c.loop-r.invariant.1)
-
-pub overflow_sub-w : goal.overflow_sub-w
-overflow_sub-w c = omega (arith, c.if-w-ne0.true)
-
 pub put-requires : goal.put-requires
 put-requires c = omega (
   arith,
@@ -35,9 +23,6 @@ put-requires c = omega (
   said-small c.args.mem.now
       c.args.b c.body-x.result,
 )
-
-pub loop-r-smaller-then-w-ne0 : goal.loop-r-smaller-then-w-ne0
-loop-r-smaller-then-w-ne0 c = omega (arith, c.loop-r-test.true)
 
 pub loop-r-preserved-then-w-ne0 : goal.loop-r-preserved-then-w-ne0
 loop-r-preserved-then-w-ne0 c = (
@@ -75,17 +60,6 @@ loop-r-preserved-then-w-ne0 c = (
       c.loop-r.invariant.3,
 )
 
-pub with-open-requires : goal.with-open-requires
-with-open-requires c = omega (
-  arith,
-  c.requires,
-  c.loop-r.invariant.1,
-  c.loop-r-test.true,
-)
-
-pub loop-r-smaller : goal.loop-r-smaller
-loop-r-smaller c = omega (arith, c.loop-r-test.true)
-
 pub loop-r-preserved : goal.loop-r-preserved
 loop-r-preserved c = (
   c.loop-r.invariant.0,
@@ -107,9 +81,6 @@ loop-r-preserved c = (
       c.args.n _ c.loop-r.r
       c.loop-r-test.true c.loop-r.invariant.3),
 )
-
-pub shape_of-cells : goal.shape_of-cells
-shape_of-cells c = c.loop-r.invariant.0
 
 pub returns : goal.returns
 returns c = (

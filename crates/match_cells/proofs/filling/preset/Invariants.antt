@@ -8,6 +8,3 @@ use Rattle.match_cells.proofs.filling.preset.Given as goal
 abbrev pub invariant-loop-r : goal.invariant-loop-r
 invariant-loop-r l = (length l.cells ≡ length l.initial.cells) × (l.r ≤ l.n) × (preset_of l.t l.mem l.b l.i l.r l.cells ≡ preset_of l.t l.mem l.b l.i l.n l.initial.cells) × Open l.t l.mem l.b l.r l.n
     l.open
-
-abbrev pub decreases-loop-r : goal.decreases-loop-r
-decreases-loop-r l = l.r

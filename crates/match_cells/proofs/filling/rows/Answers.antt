@@ -10,14 +10,8 @@ use Rattle.match_cells.specs.laws.Preset.{by-more, by_end, fillable-next}
 use Rattle.match_cells.specs.laws.Tasks.{by-record, by-memory, record-row, memory-row}
 use Rattle.match_cells.proofs.filling.rows.Goals as goal
 
-pub overflow_add-i : goal.overflow_add-i
-overflow_add-i c = omega (arith, c.requires.short)
-
 pub loop-i-init : goal.loop-i-init
 loop-i-init c = (omega arith, refl, refl, c.requires.known, λ j l. refl)
-
-pub overflow_sub-i : goal.overflow_sub-i
-overflow_sub-i c = omega (arith, c.loop-i-test.true)
 
 pub place_by-requires : goal.place_by-requires
 place_by-requires c = by-record c.args.t.now
@@ -25,9 +19,9 @@ place_by-requires c = by-record c.args.t.now
     c.loop-i.mem c.args.order.now
     c.args.lists.now
     c.symbols-n.result (c.loop-i.i - 1)
-    c.byte_at-b.result c.record_at-o.result c.symbols-n.ensures.0
+    c.byte_at-b.result c.in-Some.o c.symbols-n.ensures.0
     c.byte_at-b.ensures.0 c.args.plan.now
-    c.if-o-ne0.true c.record_at-o.ensures.0
+    (λ z. omega (arith, z, c.in-Some.ensures.1)) c.in-Some.ensures.0
     (fillable-next c.args.t.now
     c.args.s.now
     c.args.cells.now c.loop-i.cells
@@ -41,11 +35,8 @@ place_by-requires c = by-record c.args.t.now
     c.loop-i.invariant.4 c.loop-i.invariant.1
     c.loop-i.invariant.3 c.requires)
 
-pub loop-i-smaller-then-o-ne0 : goal.loop-i-smaller-then-o-ne0
-loop-i-smaller-then-o-ne0 c = omega (arith, c.loop-i-test.true)
-
-pub loop-i-preserved-then-o-ne0 : goal.loop-i-preserved-then-o-ne0
-loop-i-preserved-then-o-ne0 c = (
+pub loop-i-preserved-in-Some : goal.loop-i-preserved-in-Some
+loop-i-preserved-in-Some c = (
   omega (arith, c.loop-i.invariant.0),
   c.place_by.auto.cells ∙ c.loop-i.invariant.1,
   by-more c.args.t.now
@@ -68,9 +59,9 @@ loop-i-preserved-then-o-ne0 c = (
       c.args.lists.now
       c.symbols-n.result
       (c.loop-i.i - 1) c.byte_at-b.result
-      c.record_at-o.result c.symbols-n.ensures.0
-      c.byte_at-b.ensures.0 c.if-o-ne0.true
-      c.record_at-o.ensures.0
+      c.in-Some.o c.symbols-n.ensures.0
+      c.byte_at-b.ensures.0 (λ z. omega (arith, z, c.in-Some.ensures.1))
+      c.in-Some.ensures.0
       (fillable-next c.args.t.now
       c.args.s.now
       c.args.cells.now
@@ -101,7 +92,7 @@ place-requires c = by-memory c.args.t.now
     c.loop-i.mem c.args.order.now
     c.args.lists.now
     c.symbols-n.result (c.loop-i.i - 1)
-    c.byte_at-b.result c.record_at-o.result c.symbols-n.ensures.0
+    c.byte_at-b.result 0 c.symbols-n.ensures.0
     c.byte_at-b.ensures.0 c.args.plan.now
     (fillable-next c.args.t.now
     c.args.s.now
@@ -139,9 +130,6 @@ learn_all-requires c = (
       (c.loop-i.i - 1) (omega arith) (omega arith) c.place.ensures.1,
 )
 
-pub loop-i-smaller : goal.loop-i-smaller
-loop-i-smaller c = omega (arith, c.loop-i-test.true)
-
 pub loop-i-preserved : goal.loop-i-preserved
 loop-i-preserved c = (
   omega (arith, c.loop-i.invariant.0),
@@ -168,10 +156,10 @@ loop-i-preserved c = (
       c.symbols-n.result
       (c.loop-i.i - 1)
       c.byte_at-b.result
-      c.record_at-o.result
+      0
       c.symbols-n.ensures.0
-      c.byte_at-b.ensures.0 c.if-o-ne0.false
-      c.record_at-o.ensures.0
+      c.byte_at-b.ensures.0 refl
+      (sym c.in-None.ensures)
       c.loop-i.invariant.4
       c.place.ensures.0) ∙ c.loop-i.invariant.2,
   subst (λ (m : ℕ). Knows c.args.t.now
@@ -182,9 +170,6 @@ loop-i-preserved c = (
       c.symbols-n.ensures.0 c.learn_all.ensures.0,
   (λ j l. c.learn_all.ensures.1 j l ∙ c.loop-i.invariant.4 j l),
 )
-
-pub shape_of-cells : goal.shape_of-cells
-shape_of-cells c = c.loop-i.invariant.1
 
 pub returns : goal.returns
 returns c = (

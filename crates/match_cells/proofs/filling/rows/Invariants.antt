@@ -12,6 +12,3 @@ invariant-loop-i l = (l.i ≤ length l.s + 1) × (length l.cells ≡ length l.in
     × (fill_by l.t l.initial.mem l.plan (bodies_of l.t) l.s (symbol_count l.t) l.i (words_from l.order 0 (symbol_count l.t)) l.cells
     ≡ fill_by l.t l.initial.mem l.plan (bodies_of l.t) l.s (symbol_count l.t) (length l.s + 1) (words_from l.order 0 (symbol_count l.t)) l.initial.cells)
     × Knows l.t l.s l.cells (symbol_count l.t) l.mem l.i l.i × Front l.initial.mem l.mem
-
-abbrev pub decreases-loop-i : goal.decreases-loop-i
-decreases-loop-i l = l.i

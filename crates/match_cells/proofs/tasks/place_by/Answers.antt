@@ -22,21 +22,6 @@ copy_row-requires c = (
       c.requires.0.4,
 )
 
-pub overflow_add-at : goal.overflow_add-at
-overflow_add-at c = omega (arith, c.requires.1.1.fits)
-
-pub overflow_add-at-2 : goal.overflow_add-at-2
-overflow_add-at-2 c = omega (arith, c.requires.1.1.fits)
-
-pub overflow_add-at-3 : goal.overflow_add-at-3
-overflow_add-at-3 c = omega (arith, c.requires.1.1.fits)
-
-pub overflow_add-i : goal.overflow_add-i
-overflow_add-i c = omega (arith, c.requires.1.1.fits)
-
-pub overflow_add-i-2 : goal.overflow_add-i-2
-overflow_add-i-2 c = omega (arith, c.requires.1.1.fits)
-
 pub tasks-requires : goal.tasks-requires
 tasks-requires c = (
   (
@@ -81,27 +66,6 @@ tasks-requires c = (
       c.requires.0.4
       c.requires.1.1
       c.requires.3),
-)
-
-pub overflow_add-i-3 : goal.overflow_add-i-3
-overflow_add-i-3 c = omega (
-  arith,
-  c.requires.1.1.fits,
-  c.word-k.ensures.1,
-)
-
-pub overflow_add-i-4 : goal.overflow_add-i-4
-overflow_add-i-4 c = omega (
-  arith,
-  c.requires.1.1.fits,
-  c.word-k.ensures.1,
-)
-
-pub overflow_add-i-5 : goal.overflow_add-i-5
-overflow_add-i-5 c = omega (
-  arith,
-  c.requires.1.1.fits,
-  c.word-k.ensures.1,
 )
 
 pub run_all-requires : goal.run_all-requires

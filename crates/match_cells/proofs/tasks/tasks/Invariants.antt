@@ -10,8 +10,5 @@ use Rattle.match_cells.proofs.tasks.tasks.Given as goal
 abbrev pub invariant-loop-j : goal.invariant-loop-j
 invariant-loop-j l =
     (l.j ≤ l.k) × (length l.cells ≡ length l.initial.cells)
-    × (row_of (bodies_of l.t) l.s l.p (words_from l.plan (l.job.i + l.j) (l.job.i + l.m - (l.job.i + l.j))) l.cells ≡ row_of (bodies_of l.t) l.s l.p (words_from l.plan l.job.i l.m) l.initial.cells)
+    × (row_of (bodies_of l.t) l.s l.p (words_from l.plan (l.i + l.j) (l.i + l.m - (l.i + l.j))) l.cells ≡ row_of (bodies_of l.t) l.s l.p (words_from l.plan l.i l.m) l.initial.cells)
     × Knows l.t l.s l.cells l.n l.mem l.p l.p × (l.j ≤ l.m → Knows l.t l.s l.cells l.n l.mem (l.p + 1) l.p) × Front l.initial.mem l.mem
-
-abbrev pub decreases-loop-j : goal.decreases-loop-j
-decreases-loop-j l = l.k - l.j

@@ -6,5 +6,5 @@ use Rattle.match_eval.proofs.laws.Said.{two-bits}
 use Rattle.match_eval.proofs.memory.bits_at.Goals as goal
 
 pub returns : goal.returns
-returns c = and_mask (c.word-w.result / 2 ^ c.args.k) 2 ∙ two-bits c.word-w.result c.args.k ∙ ap
-    (λ (u : ℕ). bit u c.args.k + 2 * bit u (c.args.k + 1)) c.word-w.ensures.0
+returns c = and_mask (c.word.result / 2 ^ c.args.k) 2 ∙ two-bits c.word.result c.args.k ∙ ap
+    (λ (u : ℕ). bit u c.args.k + 2 * bit u (c.args.k + 1)) c.word.ensures.0

@@ -9,6 +9,7 @@ use lib.Seq.{set_out, set-get_or}
 use lib.Pow.{shl_exact}
 use lib.Bits.{bit_or, or_zero_r}
 use Rattle.match_eval.proofs.memory.mark.Goals as goal
+use Rattle.match_eval.proofs.memory.mark.Goals.{else-d-ne0-via-then-d-ne0+else-i-mem, else-d-ne0-via-else-d-ne0}
 
 -- `1 << k` does not wrap below 32
 one_bit : (d k : ℕ) → k < 32 → d ≡ 1 → (1 * 2 ^ k) % 2 ^ 32 ≡ d * 2 ^ k
@@ -24,9 +25,10 @@ returns-then-i-mem c = ap (λ (u : ℕ). set c.args.mem.now c.args.i
     (one_bit c.args.d c.args.k c.requires.0
     (omega (arith, c.if-d-ne0.true, c.requires.1)))
 
-pub returns-else-i-mem : goal.returns-else-i-mem
-returns-else-i-mem c = sym (set_out c.args.mem.now c.args.i
-    (bit_or (get_or c.args.mem.now c.args.i 0) (c.args.d * 2 ^ c.args.k)) c.if-i-mem.false)
-
 pub returns-else-d-ne0 : goal.returns-else-d-ne0
-returns-else-d-ne0 c = sym (no-bit c.args.mem.now c.args.i c.args.d c.args.k (omega (arith, c.if-d-ne0.false)))
+returns-else-d-ne0 c =
+    elim c.else-d-ne0.branch [
+      | else-d-ne0-via-then-d-ne0+else-i-mem w ↦
+          sym (set_out c.args.mem.now c.args.i (bit_or (get_or c.args.mem.now c.args.i 0) (c.args.d * 2 ^ c.args.k)) (omega arith))
+      | else-d-ne0-via-else-d-ne0 w ↦ sym (no-bit c.args.mem.now c.args.i c.args.d c.args.k (omega arith))
+    ]

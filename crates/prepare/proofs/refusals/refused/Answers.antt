@@ -1,5 +1,5 @@
 use Prim.Native.Nat.{◌≤◌}
-use mathlib.Core.Path.{◌∙◌}
+use mathlib.Core.Path.{sym, ◌∙◌}
 use native.Mathlib.Omega.{arith}
 use Rattle.read_tokens.specs.declared.Mode.{Mode}
 use Rattle.read_tokens.specs.declared.Mode.TheVariants.{Lake, Plain}
@@ -16,44 +16,30 @@ pub returns-then-bound-text : goal.returns-then-bound-text
 returns-then-bound-text c = c.refuse.ensures ∙ too_long_lem c.args.mode c.args.text.now
     c.text_bound-bound.result c.text_bound-bound.ensures c.if-bound-text.true
 
-pub offending-f-requires : goal.offending-f-requires
-offending-f-requires c = omega (arith, bound-small c.args.mode, c.text_bound-bound.ensures, c.if-bound-text.false)
+pub offending-requires : goal.offending-requires
+offending-requires c = omega (arith, bound-small c.args.mode, c.text_bound-bound.ensures, c.if-bound-text.false)
 
-pub returns-then-f-ne0 : goal.returns-then-f-ne0
-returns-then-f-ne0 c = syntax-refuses c.args.mode c.args.text.now
-    c.text_bound-bound.result c.text_bound-bound.ensures (omega (arith, c.if-bound-text.false))
-    c.offending-f.result c.offending-f.ensures c.if-f-ne0.true
+pub returns-in-Some : goal.returns-in-Some
+returns-in-Some c = syntax-refuses c.args.mode c.args.text.now c.text_bound-bound.result c.text_bound-bound.ensures (omega (arith, c.if-bound-text.false)) c.in-Some.f c.in-Some.ensures
 
 pub refused-names-requires : goal.refused-names-requires
-refused-names-requires c = omega (
-  arith,
-  bound-small c.args.mode,
-  c.text_bound-bound.ensures,
-  c.if-bound-text.false,
-)
+refused-names-requires c = omega (arith, bound-small c.args.mode, c.text_bound-bound.ensures, c.if-bound-text.false)
 
-pub returns-then-p-ne0 : goal.returns-then-p-ne0
-returns-then-p-ne0 c = c.refuse-then-p-ne0.ensures ∙ second-refuses c.args.mode
-    c.args.text.now
-    c.text_bound-bound.result c.text_bound-bound.ensures
-    (omega (arith, c.if-bound-text.false))
-    c.offending-f.result c.offending-f.ensures c.if-f-ne0.false
-    c.refused-names.result.second c.refused-names.ensures.four c.if-p-ne0.true
+pub returns-in-Some-second : goal.returns-in-Some-second
+returns-in-Some-second c =
+    c.refuse-in-Some-second.ensures
+    ∙ second-refuses c.args.mode c.args.text.now c.text_bound-bound.result c.text_bound-bound.ensures (omega (arith, c.if-bound-text.false))
+    c.in_default.ensures _ (sym c.in-Some-second.is ∙ c.refused-names.ensures.four)
 
-pub returns-then-u-ne0 : goal.returns-then-u-ne0
-returns-then-u-ne0 c = c.refuse-then-u-ne0.ensures ∙ unruled-refuses c.args.mode
-    c.args.text.now
-    c.text_bound-bound.result
-    c.text_bound-bound.ensures (omega (arith, c.if-bound-text.false))
-    c.offending-f.result c.offending-f.ensures
-    c.if-f-ne0.false c.refused-names.result.second c.refused-names.ensures.four c.if-p-ne0.false
-    c.refused-names.result.unruled (c.refused-names.ensures.five c.if-p-ne0.false) c.if-u-ne0.true
+pub returns-in-Some-unruled : goal.returns-in-Some-unruled
+returns-in-Some-unruled c =
+    c.refuse-in-Some-unruled.ensures
+    ∙ unruled-refuses c.args.mode c.args.text.now c.text_bound-bound.result c.text_bound-bound.ensures (omega (arith, c.if-bound-text.false))
+    c.in_default.ensures (sym c.in_default-second.is ∙ c.refused-names.ensures.four) _
+    (sym c.in-Some-unruled.is ∙ c.refused-names.ensures.five c.in_default-second.is)
 
 pub returns : goal.returns
-returns c = c.refuse-2.ensures ∙ none-refuses c.args.mode
-    c.args.text.now
-    c.text_bound-bound.result
-    c.text_bound-bound.ensures (omega (arith, c.if-bound-text.false))
-    c.offending-f.result c.offending-f.ensures
-    c.if-f-ne0.false c.refused-names.result.second c.refused-names.ensures.four c.if-p-ne0.false
-    c.refused-names.result.unruled (c.refused-names.ensures.five c.if-p-ne0.false) c.if-u-ne0.false
+returns c =
+    none-refuses c.args.mode c.args.text.now c.text_bound-bound.result c.text_bound-bound.ensures (omega (arith, c.if-bound-text.false))
+    c.in_default.ensures (sym c.in_default-second.is ∙ c.refused-names.ensures.four)
+    (sym c.in_default-unruled.is ∙ c.refused-names.ensures.five c.in_default-second.is)

@@ -22,14 +22,14 @@ slice_bounds-put-end-in-loop-i c = sym c.loop-i.invariant.0
 pub loop-i-preserved : goal.loop-i-preserved
 loop-i-preserved c = (
   grown c.loop-i.row c.put-in-loop-i.new.a (4 + c.loop-i.i)
-      c.byte-b.result 42 c.put-in-loop-i.ensures
+      c.byte.result 42 c.put-in-loop-i.ensures
       c.loop-i.invariant.0,
   c.loop-i.invariant.1 ∙ name-on
       c.args.text.now
       c.loop-i.row c.put-in-loop-i.new.a
       c.args.from
       c.args.n c.loop-i.i
-      c.byte-b.result c.loop-i-test.true c.byte-b.ensures.0 c.put-in-loop-i.ensures,
+      c.byte.result c.loop-i-test.true c.byte.ensures.0 c.put-in-loop-i.ensures,
 )
 
 pub returns : goal.returns

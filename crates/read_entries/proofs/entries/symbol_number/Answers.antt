@@ -1,4 +1,4 @@
-use Prim.Native.Nat.{ℕ, ◌-◌}
+use Prim.Native.Nat.{ℕ}
 use mathlib.Core.Path.{ap, ◌∙◌}
 use mathlib.Core.List.{List}
 use Rattle.grammar_table.specs.Table.{symbols_at, symbol_words, symbol_key}
@@ -10,7 +10,7 @@ use native.Mathlib.Omega.{arith}
 use Rattle.read_entries.proofs.entries.symbol_number.Goals as goal
 
 pub find-requires : goal.find-requires
-find-requires c = (omega arith, omega (arith, c.least-n.ensures, cap-le c.symbols-c.result 64))
+find-requires c = (omega arith, omega (arith, c.least-n.ensures, cap-le c.symbols.result 64))
 
 pub returns : goal.returns
 returns c = (
@@ -18,7 +18,7 @@ returns c = (
       c.least-n.result) c.symbol_row-row.ensures ∙ ap (λ (x : ℕ). seek c.args.t.now
       (symbol_at c.args.text.now c.args.kind
       c.args.start c.args.size) symbol_key symbol_words symbols_at x)
-      (c.least-n.ensures ∙ ap (λ (x : ℕ). cap 64 x) c.symbols-c.ensures.0),
+      (c.least-n.ensures ∙ ap (λ (x : ℕ). cap 64 x) c.symbols.ensures.0),
   omega (
     arith,
     c.find.ensures,
@@ -26,6 +26,6 @@ returns c = (
         c.args.t.now c.symbol_row-row.result symbol_key symbol_words symbols_at
         c.least-n.result,
     c.least-n.ensures,
-    cap-le c.symbols-c.result 64,
+    cap-le c.symbols.result 64,
   ),
 )

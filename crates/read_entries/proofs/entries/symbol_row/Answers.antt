@@ -1,4 +1,4 @@
-use Prim.Native.Nat.{ℕ, ◌+◌, ◌-◌}
+use Prim.Native.Nat.{ℕ, ◌+◌}
 use mathlib.Core.Path.{ap, ◌∙◌}
 use Rattle.grammar_table.specs.Table.{words_from}
 use Rattle.read_entries.specs.steps.Entries.{symbol_row}

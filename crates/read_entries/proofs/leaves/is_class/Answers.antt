@@ -1,24 +1,14 @@
-use Prim.Native.Nat.{◌-◌}
-use mathlib.Core.Path.{refl, sym, ◌∙◌}
-use native.Mathlib.Omega.{arith}
-use Rattle.read_entries.proofs.Steps.{marks-at, marks-none, same_whole, same-on, same-no, same_none}
+use mir.Val.{bool_byte as from_bool}
+use Rattle.std.proofs.Common.{arith, rules, tests, refl, ◌≡◌, ◌+◌, ◌∙◌, map, false, get_or}
+use Rattle.std.proofs.lemmas.Iterator.{cases_from_all, YieldsList-from_range}
+use Rattle.read_entries.specs.steps.Entries.{bit_of}
+use Rattle.read_entries.proofs.Steps.{same-by, mark-told, marks-long}
 use Rattle.read_entries.proofs.leaves.is_class.Goals as goal
 
-pub loop-i-init : goal.loop-i-init
-loop-i-init c = same_whole _ _ _ _ _ refl
-
-pub returns-then-word-m : goal.returns-then-word-m
-returns-then-word-m c = sym (c.loop-i.invariant ∙ same-no _ _ _ _ _ _ _ _ c.loop-i-test.true
-    (marks-at c.args.marks.now c.loop-i.i _
-    (omega (arith, c.requires.0, c.loop-i-test.true)) c.bit_of-m.ensures.0)
-    c.word.ensures.0 c.if-word-m.true)
-
-pub loop-i-preserved : goal.loop-i-preserved
-loop-i-preserved c = c.loop-i.invariant ∙ same-on _ _ _ _ _ _ _ _ c.loop-i-test.true
-    (marks-at c.args.marks.now c.loop-i.i _
-    (omega (arith, c.requires.0, c.loop-i-test.true)) c.bit_of-m.ensures.0)
-    c.word.ensures.0 c.if-word-m.false
-
 pub returns : goal.returns
-returns c = sym (c.loop-i.invariant ∙ same_none _ _ _ _ _ c.loop-i-test.false
-    (marks-none c.args.marks.now c.loop-i.i (omega (arith, c.requires.0, c.loop-i-test.false))))
+returns c =
+    same-by c.args.t.now c.args.at 256 (map bit_of c.args.marks.now) (λ k. from_bool (get_or c.args.marks.now k false)) (marks-long c.args.marks.now ∙ c.told-marks)
+    (λ k h. mark-told c.args.marks.now k (omega (arith, c.told-marks))) c.all.result
+    (cases_from_all _ _ c.all.result (λ k. get_or c.args.t.now (c.args.at + k) 0 ≡ from_bool (get_or c.args.marks.now k false))
+    (λ k. get_or c.args.t.now (c.args.at + k) 0 ≡ from_bool (get_or c.args.marks.now k false) → ⊥)
+    c.all.ensures.ran (YieldsList-from_range 0 256 256 refl refl) (λ x q k. search (rules, tests)) (λ x q k. search (rules, tests)))

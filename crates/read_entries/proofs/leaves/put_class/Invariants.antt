@@ -1,13 +1,7 @@
-use Prim.Native.Nat.{◌+◌, ◌-◌}
-use mathlib.Core.Path.{◌≡◌}
-use mathlib.Core.List.{map}
-use lib.ListN.{drop}
-use lib.Seq.{sets}
+use Rattle.std.proofs.Common.{◌+◌, ◌≡◌, map, drop}
+use Rattle.std.proofs.lemmas.List.Edits.{sets}
 use Rattle.read_entries.specs.steps.Entries.{bit_of}
 use Rattle.read_entries.proofs.leaves.put_class.Given as goal
 
 abbrev pub invariant-loop-i : goal.invariant-loop-i
 invariant-loop-i l = sets l.initial.t l.at (map bit_of l.marks) ≡ sets l.t (l.at + l.i) (map bit_of (drop l.i l.marks))
-
-abbrev pub decreases-loop-i : goal.decreases-loop-i
-decreases-loop-i l = 256 - l.i

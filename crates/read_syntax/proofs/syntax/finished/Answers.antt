@@ -1,13 +1,10 @@
-use mathlib.Core.Path.{sym}
-use native.Mathlib.Omega.{arith}
-use Rattle.read_syntax.proofs.laws.Automaton.{last, not_last, not-closed}
+use mathlib.Core.Path.{sym, ◌∙◌}
+use borrow.Author.Tests.{ne_eqb}
+use Rattle.read_syntax.proofs.laws.Automaton.{closed-is, not-closed}
 use Rattle.read_syntax.proofs.syntax.finished.Goals as goal
 
-pub returns-then-c-ge4 : goal.returns-then-c-ge4
-returns-then-c-ge4 c = sym (last _ _ c.if-c-ge4.true c.if-d-eq0.true)
-
 pub returns-then-d-eq0 : goal.returns-then-d-eq0
-returns-then-d-eq0 c = sym (not_last _ _ (omega (arith, c.if-c-ge4.false)))
+returns-then-d-eq0 c = closed-is c.args.c c.args.d c.if-d-eq0.true
 
-pub returns : goal.returns
-returns c = sym (not-closed _ _ c.if-d-eq0.false)
+pub returns-else-d-eq0 : goal.returns-else-d-eq0
+returns-else-d-eq0 c = ne_eqb c.args.d 0 c.if-d-eq0.false ∙ sym (not-closed _ _ c.if-d-eq0.false)

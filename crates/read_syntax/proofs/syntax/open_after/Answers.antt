@@ -1,18 +1,16 @@
-use native.Mathlib.Omega.{arith}
-use Rattle.read_syntax.proofs.laws.Automaton.{moved-arrow, moved_open, moved-close, moved-else}
+use mathlib.Core.Path.{ap, ◌∙◌}
+use Rattle.read_syntax.specs.steps.Numbers.{kind_class}
+use Rattle.read_syntax.proofs.laws.Automaton.{moved-arrow, moved_open, moved-close, moved_rest}
 use Rattle.read_syntax.proofs.syntax.open_after.Goals as goal
 
-pub returns-then-k-eq4 : goal.returns-then-k-eq4
-returns-then-k-eq4 c = moved-arrow _ _ c.if-k-eq4.true
+pub returns-in-Arrow : goal.returns-in-Arrow
+returns-in-Arrow c = moved-arrow _ _ (ap kind_class c.in-Arrow.is)
 
-pub returns-then-k-eq6 : goal.returns-then-k-eq6
-returns-then-k-eq6 c = moved_open _ _ c.if-k-eq6.true
+pub returns-in-Opens : goal.returns-in-Opens
+returns-in-Opens c = moved_open _ _ (ap kind_class c.in-Opens.is)
 
-pub returns-then-d-eq0 : goal.returns-then-d-eq0
-returns-then-d-eq0 c = omega (arith, moved-close c.args.d c.args.k c.if-k-eq7.true)
+pub returns-in-Closes : goal.returns-in-Closes
+returns-in-Closes c = c.saturating_sub.ensures ∙ moved-close _ _ (ap kind_class c.in-Closes.is)
 
-pub returns-then-k-eq7 : goal.returns-then-k-eq7
-returns-then-k-eq7 c = moved-close _ _ c.if-k-eq7.true
-
-pub returns : goal.returns
-returns c = moved-else _ _ c.if-k-eq4.false c.if-k-eq6.false c.if-k-eq7.false
+pub returns-in_default : goal.returns-in_default
+returns-in_default c = moved_rest _ _ c.in_default.not-Arrow c.in_default.not-Opens c.in_default.not-Closes

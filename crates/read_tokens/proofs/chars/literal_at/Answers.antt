@@ -1,30 +1,27 @@
-use mathlib.Core.Path.{refl, sym, ◌∙◌}
+use mathlib.Core.Path.{refl, ◌∙◌}
 use native.Mathlib.Omega.{arith}
+use lib.ListN.{drop}
 use Rattle.read_tokens.specs.laws.Widths.{width-inside}
-use Rattle.read_tokens.proofs.LiteralSteps.{width_of, at-end, at-quote, no_char, one_char}
+use Rattle.read_tokens.proofs.LiteralSteps.{width_of, wide, at-end, at-quote, no_char, one_char}
 use Rattle.read_tokens.proofs.chars.literal_at.Goals as goal
 
 pub loop-i-init : goal.loop-i-init
 loop-i-init c = (c.requires, omega arith, refl)
 
 pub returns-then-text-i : goal.returns-then-text-i
-returns-then-text-i c = at-quote c.args.q c.args.text.now c.loop-i.i
-    c.loop-i.n c.loop-i-test.true c.if-text-i.true ∙ c.loop-i.invariant.2
+returns-then-text-i c = at-quote c.args.q c.args.text.now c.loop-i.i c.loop-i.count c.loop-i-test.true c.if-text-i.true ∙ c.loop-i.invariant.2
 
-pub returns-then-w-eq0 : goal.returns-then-w-eq0
-returns-then-w-eq0 c = no_char c.args.q c.args.text.now
-    c.loop-i.i c.loop-i.n c.loop-i-test.true
-    c.if-text-i.false (sym (width_of _ c.char_at-c.ensures) ∙ c.if-w-eq0.true) ∙ c.loop-i.invariant.2
+pub returns-in_err-c : goal.returns-in_err-c
+returns-in_err-c c = c.from_residual.ensures ∙ no_char c.args.q c.args.text.now c.loop-i.i c.loop-i.count c.loop-i-test.true c.if-text-i.false c.in_err-c.ensures
+    ∙ c.loop-i.invariant.2
 
-pub overflow_add-n : goal.overflow_add-n
-overflow_add-n c = omega (
+pub overflow_add-count : goal.overflow_add-count
+overflow_add-count c = omega (
   arith,
   c.loop-i-test.true,
-  width_of _ c.char_at-c.ensures,
-  width-inside
-      c.args.text.now c.loop-i.i
-      c.loop-i.invariant.0,
-  c.if-w-eq0.false,
+  width_of (drop c.loop-i.i c.args.text.now) c.in_ok-c.ensures,
+  width-inside c.args.text.now c.loop-i.i c.loop-i.invariant.0,
+  wide (drop c.loop-i.i c.args.text.now) c.in_ok-c.ensures,
   c.loop-i.invariant.0,
   c.loop-i.invariant.1,
 )
@@ -33,11 +30,9 @@ pub overflow_add-i : goal.overflow_add-i
 overflow_add-i c = omega (
   arith,
   c.loop-i-test.true,
-  width_of _ c.char_at-c.ensures,
-  width-inside
-      c.args.text.now c.loop-i.i
-      c.loop-i.invariant.0,
-  c.if-w-eq0.false,
+  width_of (drop c.loop-i.i c.args.text.now) c.in_ok-c.ensures,
+  width-inside c.args.text.now c.loop-i.i c.loop-i.invariant.0,
+  wide (drop c.loop-i.i c.args.text.now) c.in_ok-c.ensures,
   c.loop-i.invariant.0,
   c.loop-i.invariant.1,
 )
@@ -46,11 +41,9 @@ pub loop-i-smaller : goal.loop-i-smaller
 loop-i-smaller c = omega (
   arith,
   c.loop-i-test.true,
-  width_of _ c.char_at-c.ensures,
-  width-inside
-      c.args.text.now c.loop-i.i
-      c.loop-i.invariant.0,
-  c.if-w-eq0.false,
+  width_of (drop c.loop-i.i c.args.text.now) c.in_ok-c.ensures,
+  width-inside c.args.text.now c.loop-i.i c.loop-i.invariant.0,
+  wide (drop c.loop-i.i c.args.text.now) c.in_ok-c.ensures,
   c.loop-i.invariant.0,
   c.loop-i.invariant.1,
 )
@@ -60,30 +53,23 @@ loop-i-preserved c = (
   omega (
     arith,
     c.loop-i-test.true,
-    width_of _ c.char_at-c.ensures,
-    width-inside
-        c.args.text.now c.loop-i.i
-        c.loop-i.invariant.0,
-    c.if-w-eq0.false,
+    width_of (drop c.loop-i.i c.args.text.now) c.in_ok-c.ensures,
+    width-inside c.args.text.now c.loop-i.i c.loop-i.invariant.0,
+    wide (drop c.loop-i.i c.args.text.now) c.in_ok-c.ensures,
     c.loop-i.invariant.0,
     c.loop-i.invariant.1,
   ),
   omega (
     arith,
     c.loop-i-test.true,
-    width_of _ c.char_at-c.ensures,
-    width-inside
-        c.args.text.now c.loop-i.i
-        c.loop-i.invariant.0,
-    c.if-w-eq0.false,
+    width_of (drop c.loop-i.i c.args.text.now) c.in_ok-c.ensures,
+    width-inside c.args.text.now c.loop-i.i c.loop-i.invariant.0,
+    wide (drop c.loop-i.i c.args.text.now) c.in_ok-c.ensures,
     c.loop-i.invariant.0,
     c.loop-i.invariant.1,
   ),
-  one_char c.args.q
-      c.args.text.now c.loop-i.i
-      c.loop-i.n _ c.loop-i-test.true c.if-text-i.false
-      (width_of _ c.char_at-c.ensures) c.if-w-eq0.false ∙ c.loop-i.invariant.2,
+  one_char c.args.q c.args.text.now c.loop-i.i c.loop-i.count c.loop-i-test.true c.if-text-i.false c.in_ok-c.ensures ∙ c.loop-i.invariant.2,
 )
 
 pub returns : goal.returns
-returns c = at-end c.args.q c.args.text.now c.loop-i.i c.loop-i.n c.loop-i-test.false ∙ c.loop-i.invariant.2
+returns c = at-end c.args.q c.args.text.now c.loop-i.i c.loop-i.count c.loop-i-test.false ∙ c.loop-i.invariant.2

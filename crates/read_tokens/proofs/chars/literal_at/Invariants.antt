@@ -7,7 +7,7 @@ use Rattle.read_tokens.specs.laws.Passing.{from}
 use Rattle.read_tokens.proofs.chars.literal_at.Given as goal
 
 abbrev pub invariant-loop-i : goal.invariant-loop-i
-invariant-loop-i l = (l.i ≤ length l.text) × (l.n + l.at ≤ l.i) × (counted l.n (from l.q single l.text l.i) ≡ counted 0 (from l.q single l.text l.at))
+invariant-loop-i l = (l.i ≤ length l.text) × (l.count + l.at ≤ l.i) × (counted l.count (from l.q single l.text l.i) ≡ counted 0 (from l.q single l.text l.at))
 
 abbrev pub decreases-loop-i : goal.decreases-loop-i
 decreases-loop-i l = length l.text - l.i

@@ -1,35 +1,25 @@
-use mathlib.Core.Path.{refl, sym, ap, ◌∙◌}
+use mathlib.Core.Path.{refl, ap}
+use Prim.Native.Nat.{◌-◌}
 use native.Mathlib.Omega.{arith}
-use borrow.Author.Tests.{not-true, not-false}
+use Rattle.std.specs.Prelude.{unwrap_or}
 use Rattle.read_tokens.specs.steps.Code.{char_of}
 use Rattle.read_tokens.proofs.CharSteps.{octals-1, octals-2, octals-2', octals-3}
+use Rattle.read_tokens.proofs.chars.octal_of.Goals.{then-x-le-FIRST_OCTAL+in_default-digit, else-x-le-FIRST_OCTAL}
 use Rattle.read_tokens.proofs.chars.octal_of.Goals as goal
 
-pub digit_of-x-requires : goal.digit_of-x-requires
-digit_of-x-requires c = c.requires
+pub returns-in_default : goal.returns-in_default
+returns-in_default c = ap char_of (octals-1 _ (unwrap_or c.args.d 256) (unwrap_or c.args.e 256) c.args.x (unwrap_or c.args.d 256 - 48) (unwrap_or c.args.e 256 - 48)
+    (omega arith) refl refl c.in_default.ensures)
 
-pub returns-then-not-is_octal : goal.returns-then-not-is_octal
-returns-then-not-is_octal c = c.char_is.ensures ∙ ap char_of (octals-1 _ _ _ _ _ _ c.digit_of-x.ensures.0 refl refl
-    (sym c.is_octal.ensures ∙ not-true _ c.if-not-is_octal.true-raw))
-
-pub digit_of-y-requires : goal.digit_of-y-requires
-digit_of-y-requires c = sym c.is_octal.ensures ∙ not-false _ c.if-not-is_octal.false-raw
-
-pub returns-then-c-gt50 : goal.returns-then-c-gt50
-returns-then-c-gt50 c = c.char_is-then-c-gt50.ensures ∙ ap char_of (octals-2 _ _ _ _ _ _ c.digit_of-x.ensures.0
-    c.digit_of-y.ensures.0 refl (sym c.is_octal.ensures ∙ not-false _ c.if-not-is_octal.false-raw) c.if-c-gt50.true)
-
-pub returns-then-not-is_octal-2 : goal.returns-then-not-is_octal-2
-returns-then-not-is_octal-2 c = c.char_is-then-not-is_octal-2.ensures ∙ ap char_of (octals-2' _ _ _ _ _ _ c.digit_of-x.ensures.0
-    c.digit_of-y.ensures.0 refl
-    (sym c.is_octal.ensures ∙ not-false _ c.if-not-is_octal.false-raw)
-    (omega (arith, c.if-c-gt50.false)) (sym c.is_octal-2.ensures ∙ not-true _ c.if-not-is_octal-2.true-raw))
-
-pub digit_of-z-requires : goal.digit_of-z-requires
-digit_of-z-requires c = sym c.is_octal-2.ensures ∙ not-false _ c.if-not-is_octal-2.false-raw
+pub returns-in-Some-digit : goal.returns-in-Some-digit
+returns-in-Some-digit c = ap char_of (octals-3 _ (unwrap_or c.args.d 256) (unwrap_or c.args.e 256) c.args.x c.in-Some.y c.in-Some-digit.z
+    (omega arith) (omega (arith, c.in-Some.ensures.1)) (omega (arith, c.in-Some-digit.ensures.1)) c.in-Some.ensures.0 (omega (arith, c.if-x-le-FIRST_OCTAL.true)) c.in-Some-digit.ensures.0)
 
 pub returns : goal.returns
-returns c = c.char_is-2.ensures ∙ ap char_of (octals-3 _ _ _ _ _ _ c.digit_of-x.ensures.0
-    c.digit_of-y.ensures.0 c.digit_of-z.ensures.0
-    (sym c.is_octal.ensures ∙ not-false _ c.if-not-is_octal.false-raw)
-    (omega (arith, c.if-c-gt50.false)) (sym c.is_octal-2.ensures ∙ not-false _ c.if-not-is_octal-2.false-raw))
+returns c =
+    elim c.if-x-le-FIRST_OCTAL.branch [
+      | then-x-le-FIRST_OCTAL+in_default-digit w ↦ ap char_of (octals-2' _ (unwrap_or c.args.d 256) (unwrap_or c.args.e 256) c.args.x c.in-Some.y (unwrap_or c.args.e 256 - 48)
+          (omega arith) (omega (arith, c.in-Some.ensures.1)) refl c.in-Some.ensures.0 (omega (arith, w.if-x-le-FIRST_OCTAL.true)) w.in_default-digit.ensures)
+      | else-x-le-FIRST_OCTAL w ↦ ap char_of (octals-2 _ (unwrap_or c.args.d 256) (unwrap_or c.args.e 256) c.args.x c.in-Some.y (unwrap_or c.args.e 256 - 48)
+          (omega arith) (omega (arith, c.in-Some.ensures.1)) refl c.in-Some.ensures.0 (omega (arith, w.if-x-le-FIRST_OCTAL.false)))
+    ]

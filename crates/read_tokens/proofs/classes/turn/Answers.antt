@@ -1,16 +1,12 @@
 use mathlib.Core.Path.{refl, ◌∙◌}
-use native.Mathlib.Omega.{arith}
 use Rattle.read_tokens.proofs.ClassSteps.{turn_one, turn-none}
 use Rattle.read_tokens.proofs.classes.turn.Goals as goal
 
-pub loop-i-init : goal.loop-i-init
-loop-i-init c = refl
+pub loop-mark-init : goal.loop-mark-init
+loop-mark-init c = refl
 
-pub loop-i-smaller : goal.loop-i-smaller
-loop-i-smaller c = omega (arith, c.loop-i-test.true)
-
-pub loop-i-preserved : goal.loop-i-preserved
-loop-i-preserved c = turn_one c.loop-i.i c.loop-i.marks c.loop-i-test.true ∙ c.loop-i.invariant
+pub loop-mark-preserved : goal.loop-mark-preserved
+loop-mark-preserved c = turn_one c.loop-mark.mark-index c.loop-mark.marks c.loop-mark-test.true ∙ c.loop-mark.invariant
 
 pub returns : goal.returns
-returns c = turn-none c.loop-i.i c.loop-i.marks c.loop-i-test.false ∙ c.loop-i.invariant
+returns c = turn-none c.loop-mark.mark-index c.loop-mark.marks c.loop-mark-test.false ∙ c.loop-mark.invariant

@@ -1,24 +1,23 @@
-use mathlib.Core.List.{[]}
-use mathlib.Core.List.{List, ◌∷◌}
-use mathlib.Core.Bool.{Bool}
-use Prim.Native.Nat.{ℕ}
-use lib.Dec.{eqb, eqb→eq}
-use lib.ListN.{get_or}
+use Prim.Native.Nat.{ℕ, zero, suc}
+use mathlib.Core.Path.{refl}
+use mathlib.Core.List.{List, [], ◌∷◌}
 use Rattle.read_tokens.specs.Kinds.{kind_at, one_of, ranges}
-use Rattle.read_tokens.proofs.kinds.Table.{at}
+use Rattle.read_tokens.specs.declared.kinds.ByteKind.{ByteKind}
+use Rattle.read_tokens.specs.declared.kinds.ByteKind.TheVariants.{Other, Blank, Letter, Digit, Hash, Open, Close, Slash, Prefix, Suffix, Dot, Quote, Class, Less}
+use Rattle.read_tokens.proofs.kinds.Table.{tabled}
 use Rattle.read_tokens.proofs.kinds.laid_out.Goals as goal
 
-kinds : List ℕ
-kinds = 0 ∷ 0 ∷ 0 ∷ 0 ∷ 0 ∷ 0 ∷ 0 ∷ 0 ∷ 0 ∷ 1 ∷ 1 ∷ 0 ∷ 0 ∷ 1 ∷ 0 ∷ 0 ∷ 0 ∷ 0 ∷ 0 ∷ 0 ∷ 0 ∷ 0 ∷ 0 ∷ 0 ∷ 0 ∷ 0 ∷ 0 ∷ 0 ∷ 0 ∷ 0 ∷ 0 ∷ 0 ∷ 1 ∷ 8 ∷ 11 ∷ 4 ∷ 0 ∷ 0 ∷ 8 ∷ 11 ∷ 5 ∷ 6 ∷ 9
-    ∷ 9 ∷ 0 ∷ 0 ∷ 10 ∷ 7 ∷ 3 ∷ 3 ∷ 3 ∷ 3 ∷ 3 ∷ 3 ∷ 3 ∷ 3 ∷ 3 ∷ 3 ∷ 0 ∷ 0 ∷ 13 ∷ 0 ∷ 0 ∷ 9 ∷ 0 ∷ 2 ∷ 2 ∷ 2 ∷ 2 ∷ 2 ∷ 2 ∷ 2 ∷ 2 ∷ 2 ∷ 2 ∷ 2 ∷ 2 ∷ 2 ∷ 2 ∷ 2 ∷ 2 ∷ 2 ∷ 2 ∷ 2 ∷ 2 ∷ 2 ∷
-    2 ∷ 2 ∷ 2 ∷ 2 ∷ 2 ∷ 12 ∷ 0 ∷ 0 ∷ 0 ∷ 2 ∷ 0 ∷ 2 ∷ 2 ∷ 2 ∷ 2 ∷ 2 ∷ 2 ∷ 2 ∷ 2 ∷ 2 ∷ 2 ∷ 2 ∷ 2 ∷ 2 ∷ 2 ∷ 2 ∷ 2 ∷ 2 ∷ 2 ∷ 2 ∷ 2 ∷ 2 ∷ 2 ∷ 2 ∷ 2 ∷ 2 ∷ 2 ∷ 0 ∷ 0 ∷ 0 ∷ 0 ∷ 0 ∷ 0 ∷ 0 ∷
-    0 ∷ 0 ∷ 0 ∷ 0 ∷ 0 ∷ 0 ∷ 0 ∷ 0 ∷ 0 ∷ 0 ∷ 0 ∷ 0 ∷ 0 ∷ 0 ∷ 0 ∷ 0 ∷ 0 ∷ 0 ∷ 0 ∷ 0 ∷ 0 ∷ 0 ∷ 0 ∷ 0 ∷ 0 ∷ 0 ∷ 0 ∷ 0 ∷ 0 ∷ 0 ∷ 0 ∷ 0 ∷ 0 ∷ 0 ∷ 0 ∷ 0 ∷ 0 ∷ 0 ∷ 0 ∷ 0 ∷ 0 ∷ 0 ∷ 0 ∷ 0 ∷
-    0 ∷ 0 ∷ 0 ∷ 0 ∷ 0 ∷ 0 ∷ 0 ∷ 0 ∷ 0 ∷ 0 ∷ 0 ∷ 0 ∷ 0 ∷ 0 ∷ 0 ∷ 0 ∷ 0 ∷ 0 ∷ 0 ∷ 0 ∷ 0 ∷ 0 ∷ 0 ∷ 0 ∷ 0 ∷ 0 ∷ 0 ∷ 0 ∷ 0 ∷ 0 ∷ 0 ∷ 0 ∷ 0 ∷ 0 ∷ 0 ∷ 0 ∷ 0 ∷ 0 ∷ 0 ∷ 0 ∷ 0 ∷ 0 ∷ 0 ∷ 0 ∷
-    0 ∷ 0 ∷ 0 ∷ 0 ∷ 0 ∷ 0 ∷ 0 ∷ 0 ∷ 0 ∷ 0 ∷ 0 ∷ 0 ∷ 0 ∷ 0 ∷ 0 ∷ 0 ∷ 0 ∷ 0 ∷ 0 ∷ 0 ∷ 0 ∷ 0 ∷ 0 ∷ 0 ∷ 0 ∷ 0 ∷ 0 ∷ 0 ∷ 0 ∷ 0 ∷ 0 ∷ 0 ∷ 0 ∷ 0 ∷ 0 ∷ 0 ∷ 0 ∷ 0 ∷ []
+-- n times the same kind
+abbrev run : ℕ → ByteKind → List ByteKind → List ByteKind
+run zero k l = l
+run (suc n) k l = k ∷ run n k l
 
-right : ℕ → ℕ → Bool
-right k x = eqb x (kind_at k)
+kinds : List ByteKind
+kinds =
+    run 9 Other (run 2 Blank (run 2 Other (Blank ∷ run 18 Other (Blank ∷ Prefix ∷ Quote ∷ Hash ∷ run 2 Other (Prefix ∷ Quote ∷ Open ∷ Close ∷ run 2 Suffix (
+    run 2 Other (Dot ∷ Slash ∷ run 10 Digit (run 2 Other (Less ∷ run 2 Other (Suffix ∷ Other ∷ run 26 Letter (Class ∷ run 3 Other (
+    Letter ∷ Other ∷ run 26 Letter (run 133 Other [])))))))))))))
 
-pub returns : goal.returns
-unfolding kinds right kind_at one_of ranges
-returns c = λ b h. eqb→eq (get_or kinds b 0) (kind_at b) (at right kinds tt b h)
+pub invariant_of-result : goal.invariant_of-result
+unfolding kinds kind_at one_of ranges
+invariant_of-result c = record { tabled = tabled kinds refl tt }

@@ -1,72 +1,46 @@
-use mathlib.Core.Path.{refl, sym, ◌∙◌}
-use native.Mathlib.Omega.{arith}
-use Rattle.tree_read.specs.laws.Numbers.{most-all, most-more, digits-past, digits_low, digits-high, digits-done, digits_more}
+use Rattle.std.proofs.Common.{ℕ, ◌≡◌, ◌<◌, ◌≤◌, ◌+◌, ◌-◌, ◌*◌, sym, ap, ◌∙◌, arith, ⊎_elim, get_or, subst, length}
+use Rattle.base_facts.specs.laws.Numbers.{lt-or-ge}
+use Rattle.tree_json.specs.Reading.{digits_at}
+use Rattle.tree_read.specs.laws.Numbers.{most_by, digits-past, digits_low, digits-high, digits-done, digits_more, most-all, most-more}
+use Rattle.tree_read.proofs.leaves.digits.Goals.{then-b-lt48-via-then-b-lt48, then-b-lt48-via-else-b-lt48+then-b-gt57}
 use Rattle.tree_read.proofs.leaves.digits.Goals as goal
 
-pub loop-k-init : goal.loop-k-init
-loop-k-init c = (omega arith, omega arith, refl)
-
-pub returns-then-json-i : goal.returns-then-json-i
-returns-then-json-i c = (
-  digits-past c.args.json.now c.loop-k.v c.loop-k.i c.loop-k.k c.if-json-i.true ∙ sym c.loop-k.invariant.2,
-  omega (
-    arith,
-    most-all c.loop-k.k c.loop-k.v
-        c.loop-k.invariant.1,
-  ),
-)
-
-pub overflow_cast-b : goal.overflow_cast-b
-overflow_cast-b c = omega (arith, c.shared_slice_known-1.given c.loop-k.i)
-
 pub returns-then-b-lt48 : goal.returns-then-b-lt48
-returns-then-b-lt48 c = (
-  digits_low c.args.json.now c.loop-k.v c.loop-k.i c.loop-k.k c.if-b-lt48.true ∙ sym c.loop-k.invariant.2,
-  omega (
-    arith,
-    most-all c.loop-k.k c.loop-k.v
-        c.loop-k.invariant.1,
-  ),
-)
+returns-then-b-lt48 c = elim c.then-b-lt48.branch [
+  | then-b-lt48-via-then-b-lt48 w ↦ (
+    digits_low c.args.json.now c.loop-i.v c.loop-i.i (5 - (c.loop-i.i - c.args.at)) w.if-b-lt48.true ∙ sym c.loop-i.invariant.1,
+    omega (
+      arith,
+      most-all
+          (5 - (c.loop-i.i - c.args.at)) c.loop-i.v c.loop-i.invariant.0,
+    ),
+  )
+  | then-b-lt48-via-else-b-lt48+then-b-gt57 w ↦ (
+    digits-high c.args.json.now c.loop-i.v c.loop-i.i (5 - (c.loop-i.i - c.args.at)) w.if-b-gt57.true ∙ sym c.loop-i.invariant.1,
+    omega
+        (arith, most-all (5 - (c.loop-i.i - c.args.at)) c.loop-i.v c.loop-i.invariant.0),
+  )
+]
 
-pub returns-then-b-gt57 : goal.returns-then-b-gt57
-returns-then-b-gt57 c = (
-  digits-high c.args.json.now c.loop-k.v c.loop-k.i c.loop-k.k c.if-b-gt57.true ∙ sym c.loop-k.invariant.2,
-  omega (
-    arith,
-    most-all c.loop-k.k c.loop-k.v
-        c.loop-k.invariant.1,
-  ),
-)
-
-pub overflow_mul-v : goal.overflow_mul-v
-overflow_mul-v c =
-    omega (arith, most-all c.loop-k.k c.loop-k.v c.loop-k.invariant.1)
-
-pub overflow_add-v : goal.overflow_add-v
-overflow_add-v c =
-    omega (arith, most-all c.loop-k.k c.loop-k.v c.loop-k.invariant.1, c.if-b-gt57.false)
-
-pub overflow_add-i : goal.overflow_add-i
-overflow_add-i c = omega (arith, c.if-json-i.false)
-
-pub overflow_sub-k : goal.overflow_sub-k
-overflow_sub-k c = omega (arith, c.loop-k-test.true)
-
-pub loop-k-smaller : goal.loop-k-smaller
-loop-k-smaller c = omega (arith, c.loop-k-test.true)
-
-pub loop-k-preserved : goal.loop-k-preserved
-loop-k-preserved c = (
-  omega (arith, c.loop-k.invariant.0),
-  most-more c.loop-k.k c.loop-k.v _ c.loop-k-test.true c.loop-k.invariant.0 c.loop-k.invariant.1 (omega (arith, c.if-b-gt57.false)),
-  c.loop-k.invariant.2 ∙ digits_more c.args.json.now c.loop-k.v c.loop-k.i c.loop-k.k c.loop-k-test.true (omega (arith, c.if-b-lt48.false)) (omega
-      (arith, c.if-b-gt57.false)),
-)
+pub loop-i-preserved : goal.loop-i-preserved
+loop-i-preserved c =
+    let more : 0 < (5 - (c.loop-i.i - c.args.at)) = omega (arith, c.min-i-end.ensures, c.saturating_add.ensures, c.loop-i.auto.i, c.loop-i-test.true) in
+    let next : (5 - (c.loop-i.i - c.args.at)) - 1 ≡ 5 - (c.loop-i.i + 1 - c.args.at) = omega (arith, c.min-i-end.ensures, c.saturating_add.ensures, c.loop-i.auto.i) in
+    let d : c.from.result ≡ get_or c.args.json.now c.loop-i.i 0 - 48 = c.from.ensures in (
+      subst (λ (n : ℕ). 10 * c.loop-i.v + c.from.result ≤ most_by n) next
+          (most-more (5 - (c.loop-i.i - c.args.at)) c.loop-i.v c.from.result more (omega arith) c.loop-i.invariant.0 (omega (arith, d, c.if-b-gt57.false))),
+      c.loop-i.invariant.1
+          ∙ digits_more c.args.json.now c.loop-i.v c.loop-i.i (5 - (c.loop-i.i - c.args.at)) more (omega (arith, c.if-b-lt48.false)) (omega (arith, c.if-b-gt57.false))
+          ∙ ap (λ (n : ℕ). digits_at ((5 - (c.loop-i.i - c.args.at)) - 1) (10 * c.loop-i.v + n) c.args.json.now (c.loop-i.i + 1)) (sym d)
+          ∙ ap (λ (n : ℕ). digits_at n (10 * c.loop-i.v + c.from.result) c.args.json.now (c.loop-i.i + 1)) next,
+    )
 
 pub returns : goal.returns
 returns c = (
-  digits-done c.args.json.now c.loop-k.v c.loop-k.i c.loop-k.k (omega (arith, c.loop-k-test.false)) ∙ sym
-      c.loop-k.invariant.2,
-  omega (arith, most-all c.loop-k.k c.loop-k.v c.loop-k.invariant.1),
+  ⊎_elim (λ (h : c.loop-i.i < length c.args.json.now). digits-done c.args.json.now c.loop-i.v c.loop-i.i (5 - (c.loop-i.i - c.args.at)) (omega
+      (arith, h, c.min-i-end.ensures, c.saturating_add.ensures, c.loop-i.auto.i, c.loop-i-test.false))) (λ (h : length c.args.json.now ≤ c.loop-i.i). digits-past c.args.json.now c.loop-i.v
+      c.loop-i.i (5 - (c.loop-i.i - c.args.at)) h)
+      (lt-or-ge c.loop-i.i (length c.args.json.now))
+      ∙ sym c.loop-i.invariant.1,
+  omega (arith, most-all (5 - (c.loop-i.i - c.args.at)) c.loop-i.v c.loop-i.invariant.0),
 )

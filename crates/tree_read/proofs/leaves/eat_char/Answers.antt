@@ -1,29 +1,29 @@
-use Prim.Native.Nat.{ℕ}
-use mathlib.Core.Path.{ap, ◌∙◌}
-use mathlib.Core.List.{List}
+use Rattle.std.proofs.Common.{sym, ap, ◌∙◌, arith}
+use Rattle.tree_json.specs.Json.{char_json}
 use Rattle.tree_json.specs.Reading.{ate}
-use Rattle.tree_read.specs.laws.Chars.{a-quote, a-backslash, below-blank, plain_byte, from-delete}
+use Rattle.tree_read.specs.laws.Eaten.{same_place}
+use Rattle.tree_read.specs.laws.Chars.{escaped, below-blank, plain_byte, from-delete}
+use Rattle.tree_read.proofs.leaves.eat_char.Goals.{in_default-via-then-c-lt32, in_default-via-else-c-lt32+else-c-lt127}
 use Rattle.tree_read.proofs.leaves.eat_char.Goals as goal
 
-pub returns-then-c-eq34 : goal.returns-then-c-eq34
-returns-then-c-eq34 c =
-    c.eat.ensures ∙ ap (λ (l : List ℕ). ate l c.args.json.now c.args.at) (a-quote c.args.c c.if-c-eq34.true)
+pub returns-in-34 : goal.returns-in-34
+unfolding char_json
+returns-in-34 c = same_place c.args.json.now _ (ap (λ x. ate (char_json x) c.args.json.now c.args.at) (sym c.in-34.is)) c.eat.ensures.place
 
-pub returns-then-c-eq92 : goal.returns-then-c-eq92
-returns-then-c-eq92 c =
-    c.eat-then-c-eq92.ensures ∙ ap (λ (l : List ℕ). ate l c.args.json.now c.args.at) (a-backslash c.args.c c.if-c-eq34.false c.if-c-eq92.true)
+pub returns-in-92 : goal.returns-in-92
+unfolding char_json
+returns-in-92 c = same_place c.args.json.now _ (ap (λ x. ate (char_json x) c.args.json.now c.args.at) (sym c.in-92.is)) c.eat-in-92.ensures.place
 
-pub returns-then-c-lt32 : goal.returns-then-c-lt32
-returns-then-c-lt32 c =
-    c.eat_escape.ensures ∙ ap (λ (l : List ℕ). ate l c.args.json.now c.args.at) (below-blank c.args.c c.if-c-eq34.false c.if-c-eq92.false
-    c.if-c-lt32.true)
+pub returns-in-32-to-126 : goal.returns-in-32-to-126
+returns-in-32-to-126 c = same_place c.args.json.now _
+    (ap (λ l. ate l c.args.json.now c.args.at) (plain_byte c.args.c (λ e. omega (arith, e)) (λ e. omega (arith, e)) (omega arith) (omega arith))) c.eat-in-32-to-126.ensures.place
 
-pub returns-then-c-lt127 : goal.returns-then-c-lt127
-returns-then-c-lt127 c =
-    c.eat_byte.ensures ∙ ap (λ (l : List ℕ). ate l c.args.json.now c.args.at) (plain_byte c.args.c c.if-c-eq34.false c.if-c-eq92.false c.if-c-lt32.false
-    c.if-c-lt127.true)
-
-pub returns : goal.returns
-returns c =
-    c.eat_escape-2.ensures ∙ ap (λ (l : List ℕ). ate l c.args.json.now c.args.at) (from-delete c.args.c c.if-c-eq34.false c.if-c-eq92.false c.if-c-lt32.false
-    c.if-c-lt127.false)
+pub returns-in_default : goal.returns-in_default
+returns-in_default c = elim c.in_default.branch [
+  | in_default-via-then-c-lt32 w ↦ same_place c.args.json.now _ (ap (λ l. ate l c.args.json.now c.args.at)
+      (escaped c.args.c c.hex_digit-high.result c.hex_digit-low.result c.hex_digit-high.ensures c.hex_digit-low.ensures
+      ∙ below-blank c.args.c (λ e. omega (arith, e)) (λ e. omega (arith, e)) (omega arith))) c.eat-in_default.ensures.place
+  | in_default-via-else-c-lt32+else-c-lt127 w ↦ same_place c.args.json.now _ (ap (λ l. ate l c.args.json.now c.args.at)
+      (escaped c.args.c c.hex_digit-high.result c.hex_digit-low.result c.hex_digit-high.ensures c.hex_digit-low.ensures
+      ∙ from-delete c.args.c (λ e. omega (arith, e)) (λ e. omega (arith, e)) (omega arith))) c.eat-in_default.ensures.place
+]

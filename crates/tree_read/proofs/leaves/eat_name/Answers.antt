@@ -1,22 +1,37 @@
-use native.Mathlib.Omega.{arith}
-use Rattle.tree_read.specs.laws.Names.{eaten-name, eaten-lake}
+use Rattle.std.proofs.Common.{◌∷◌, [], ◌++◌, map, ap}
+use Rattle.grammar_table.specs.Table.{words_from}
+use Rattle.write_leaves.specs.steps.Printed.{low}
+use Rattle.tree_json.specs.Json.{quote}
+use Rattle.tree_json.specs.Reading.{ate}
+use Rattle.tree_read.specs.laws.Eaten.{same_place, unreached, reach-on, gone-on}
+use Rattle.tree_read.specs.laws.Names.{a_name, a_lake}
 use Rattle.tree_read.proofs.leaves.eat_name.Goals as goal
 
-pub eat_words-a-requires : goal.eat_words-a-requires
-eat_words-a-requires c =
-    (omega (arith, c.name_at-i.ensures, c.requires), c.name_length-n.ensures.1)
+pub returns-in_err-a-clause-place : goal.returns-in_err-a-clause-place
+returns-in_err-a-clause-place c = same_place c.args.json.now _ (ap (λ l. ate l c.args.json.now c.args.at) (a_name c.args.t.now c.args.r c.name_at-i.result c.kind.result
+    c.name_length-n.result c.name_at-i.ensures c.kind.ensures.0 c.name_length-n.ensures.0 c.if-kind-eq0.true))
+    (unreached c.args.json.now c.from_residual.ensures (gone-on c.args.json.now (map low (words_from c.args.t.now c.name_at-i.result c.name_length-n.result)) quote c.args.at c.in_err-a.ensures))
 
-pub returns-then-k-eq0 : goal.returns-then-k-eq0
-returns-then-k-eq0 c =
-    eaten-name c.args.json.now c.args.t.now c.args.at c.args.r c.name_at-i.result c.kind-k.result c.name_length-n.result c.name_at-i.ensures
-    c.kind-k.ensures.0 c.name_length-n.ensures.0 c.eat_words-a.result _ c.if-k-eq0.true c.eat_words-a.ensures c.eat_byte.ensures
+pub returns-then-kind-eq0-clause-place : goal.returns-then-kind-eq0-clause-place
+returns-then-kind-eq0-clause-place c = same_place c.args.json.now _ (ap (λ l. ate l c.args.json.now c.args.at) (a_name c.args.t.now c.args.r c.name_at-i.result c.kind.result
+    c.name_length-n.result c.name_at-i.ensures c.kind.ensures.0 c.name_length-n.ensures.0 c.if-kind-eq0.true))
+    (reach-on c.args.json.now (map low (words_from c.args.t.now c.name_at-i.result c.name_length-n.result)) quote c.args.at c.in_ok-a.a _ c.in_ok-a.ensures c.eat.ensures.place)
 
-pub eat_words-b-requires : goal.eat_words-b-requires
-eat_words-b-requires c =
-    (omega (arith, c.name_at-i.ensures, c.requires), c.name_length-n.ensures.1)
+pub returns-in_err-a-2-clause-place : goal.returns-in_err-a-2-clause-place
+returns-in_err-a-2-clause-place c = same_place c.args.json.now _ (ap (λ l. ate l c.args.json.now c.args.at) (a_lake c.args.t.now c.args.r c.name_at-i.result c.kind.result
+    c.name_length-n.result c.name_at-i.ensures c.kind.ensures.0 c.name_length-n.ensures.0 c.if-kind-eq0.false))
+    (unreached c.args.json.now c.from_residual-in_err-a-2.ensures (gone-on c.args.json.now (60 ∷ []) ((map low (words_from c.args.t.now c.name_at-i.result c.name_length-n.result)) ++
+    (62 ∷ 34 ∷ [])) c.args.at c.in_err-a-2.ensures.place))
 
-pub returns : goal.returns
-returns c =
-    eaten-lake c.args.json.now c.args.t.now c.args.at c.args.r c.name_at-i.result c.kind-k.result c.name_length-n.result c.name_at-i.ensures
-    c.kind-k.ensures.0 c.name_length-n.ensures.0 c.eat_byte-a.result c.eat_words-b.result _ c.if-k-eq0.false c.eat_byte-a.ensures c.eat_words-b.ensures
-    c.eat.ensures
+pub returns-in_err-b-clause-place : goal.returns-in_err-b-clause-place
+returns-in_err-b-clause-place c = same_place c.args.json.now _ (ap (λ l. ate l c.args.json.now c.args.at) (a_lake c.args.t.now c.args.r c.name_at-i.result c.kind.result
+    c.name_length-n.result c.name_at-i.ensures c.kind.ensures.0 c.name_length-n.ensures.0 c.if-kind-eq0.false))
+    (reach-on c.args.json.now (60 ∷ []) ((map low (words_from c.args.t.now c.name_at-i.result c.name_length-n.result)) ++ (62 ∷ 34 ∷ [])) c.args.at c.in_ok-a-2.a _ c.in_ok-a-2.ensures.place
+    (unreached c.args.json.now c.from_residual-in_err-b.ensures (gone-on c.args.json.now (map low (words_from c.args.t.now c.name_at-i.result c.name_length-n.result))
+    (62 ∷ 34 ∷ []) c.in_ok-a-2.a c.in_err-b.ensures)))
+
+pub returns-clause-place : goal.returns-clause-place
+returns-clause-place c = same_place c.args.json.now _ (ap (λ l. ate l c.args.json.now c.args.at) (a_lake c.args.t.now c.args.r c.name_at-i.result c.kind.result c.name_length-n.result
+    c.name_at-i.ensures c.kind.ensures.0 c.name_length-n.ensures.0 c.if-kind-eq0.false))
+    (reach-on c.args.json.now (60 ∷ []) ((map low (words_from c.args.t.now c.name_at-i.result c.name_length-n.result)) ++ (62 ∷ 34 ∷ [])) c.args.at c.in_ok-a-2.a _ c.in_ok-a-2.ensures.place
+    (reach-on c.args.json.now (map low (words_from c.args.t.now c.name_at-i.result c.name_length-n.result)) (62 ∷ 34 ∷ []) c.in_ok-a-2.a c.in_ok-b.b _ c.in_ok-b.ensures c.eat-3.ensures.place))

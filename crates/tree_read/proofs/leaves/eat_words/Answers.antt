@@ -1,40 +1,28 @@
-use Prim.Native.Nat.{◌+◌, ◌-◌}
-use mathlib.Core.List.{map}
-use native.Mathlib.Omega.{arith}
+use Rattle.std.proofs.Common.{ℕ, ◌≡◌, ◌+◌, ◌-◌, ◌∷◌, [], ◌++◌, map, ap, sym, ◌∙◌, arith}
 use Rattle.grammar_table.specs.Table.{words_from}
 use Rattle.write_leaves.specs.steps.Printed.{low}
-use Rattle.tree_read.specs.laws.Eaten.{less-byte, no_byte}
-use Rattle.tree_read.specs.laws.Names.{words-from, words-next, words-done}
+use Rattle.write_leaves.specs.laws.Leaves.{name-more, name-end, words-start}
+use Rattle.tree_json.specs.Reading.{ate}
+use Rattle.tree_read.specs.laws.Eaten.{unreached, cut-gone, cut-on, cut-end}
+use Rattle.tree_read.proofs.leaves.eat_words.Goals.{After-word-w}
 use Rattle.tree_read.proofs.leaves.eat_words.Goals as goal
 
+-- the word that was read stands first in what is left
+first : (c : After-word-w) → map low (words_from c.args.t.now (c.args.i + c.loop-j.j) (c.args.n - c.loop-j.j))
+    ≡ (low c.word-w.result ∷ []) ++ map low (words_from c.args.t.now (c.args.i + (c.loop-j.j + 1)) (c.args.n - (c.loop-j.j + 1)))
+first c = name-more c.args.t.now c.args.i c.args.n c.loop-j.j c.loop-j-test.true
+    ∙ ap (λ (x : ℕ). (low x ∷ []) ++ map low (words_from c.args.t.now (c.args.i + (c.loop-j.j + 1)) (c.args.n - (c.loop-j.j + 1)))) (sym c.word-w.ensures.0)
+
 pub loop-j-init : goal.loop-j-init
-loop-j-init c =
-    (omega arith, words-from c.args.json.now c.args.t.now c.args.i c.args.n c.args.at)
+loop-j-init c = ap (λ l. ate (map low l) c.args.json.now c.args.at) (sym (words-start c.args.t.now c.args.i c.args.n))
 
-pub overflow_add-i : goal.overflow_add-i
-overflow_add-i c = omega (arith, c.requires.0, c.requires.1, c.loop-j-test.true)
-
-pub returns-then-json-r : goal.returns-then-json-r
-returns-then-json-r c =
-    no_byte c.args.json.now (low c.word-w.result) (map low (words_from c.args.t.now (c.args.i + (c.loop-j.j + 1)) (c.args.n - (c.loop-j.j + 1)))) _
-    c.loop-j.a c.eat_byte-r.result (words-next c.args.json.now c.args.t.now c.args.i c.args.n c.loop-j.j _ c.loop-j.a c.word-w.result
-    c.loop-j-test.true c.word-w.ensures.0 c.loop-j.invariant.1) c.eat_byte-r.ensures c.if-json-r.true
-
-pub overflow_add-j : goal.overflow_add-j
-overflow_add-j c = omega (arith, c.loop-j-test.true, c.requires.1)
-
-pub loop-j-smaller : goal.loop-j-smaller
-loop-j-smaller c = omega (arith, c.loop-j-test.true)
+pub returns-in_err-a : goal.returns-in_err-a
+returns-in_err-a c = unreached c.args.json.now c.from_residual.ensures
+    (cut-gone c.args.json.now _ _ c.loop-j.invariant (low c.word-w.result ∷ []) _ (first (goal.at.returns-in_err-a c).After-word-w) c.in_err-a.ensures.place)
 
 pub loop-j-preserved : goal.loop-j-preserved
-loop-j-preserved c = (
-  omega (arith, c.loop-j-test.true),
-  less-byte c.args.json.now (low c.word-w.result) (map low (words_from c.args.t.now (c.args.i + (c.loop-j.j + 1))
-      (c.args.n - (c.loop-j.j + 1)))) _ c.loop-j.a c.eat_byte-r.result (words-next c.args.json.now c.args.t.now c.args.i c.args.n c.loop-j.j
-      _ c.loop-j.a c.word-w.result c.loop-j-test.true c.word-w.ensures.0 c.loop-j.invariant.1) c.eat_byte-r.ensures,
-)
+loop-j-preserved c =
+    cut-on c.args.json.now _ _ c.loop-j.invariant (low c.word-w.result ∷ []) _ (first (goal.at.loop-j-preserved c).After-word-w) c.in_ok-a.ensures.place
 
 pub returns : goal.returns
-returns c =
-    words-done c.args.json.now c.args.t.now c.args.i c.args.n c.loop-j.j _ c.loop-j.a (omega (arith, c.loop-j-test.false))
-    c.loop-j.invariant.1
+returns c = cut-end c.args.json.now _ _ c.loop-j.invariant (name-end c.args.t.now c.args.i c.args.n c.loop-j.j c.loop-j-test.false)

@@ -1,66 +1,25 @@
-use mathlib.Core.Path.{refl, ◌∙◌}
-use mathlib.Core.Bool.{false}
-use native.Mathlib.Omega.{arith}
+use Rattle.std.proofs.Common.{ℕ, ◌≡◌, ◌+◌, ◌-◌, false, length, subst, arith}
 use Rattle.write_leaves.specs.steps.Printed.{called}
-use Rattle.tree_read.specs.laws.Walks.{walk_start, walk_none, walk-last, walk_more, walk-over}
+use Rattle.tree_json.specs.Reading.{parsed}
+use Rattle.tree_read.specs.laws.Walks.{Walking, walk_start, walk_none, walk-last, walk_more, walk-over}
 use Rattle.tree_read.proofs.nodes.walk.Goals as goal
 
-pub put-requires : goal.put-requires
-put-requires c = omega (arith, c.requires.1)
+pub loop-init : goal.loop-init
+loop-init c = walk_start (called false c.args.t.now) c.args.symbols c.args.input.now c.args.json.now c.args.nodes.now _ c.put.ensures
 
-pub loop-left-init : goal.loop-left-init
-loop-left-init c = (
-  walk_start (called false c.args.t.now) c.args.symbols c.args.input.now c.args.json.now c.args.write c.args.nodes.now _
-      c.put.ensures,
-  refl,
-)
+pub returns-in_err-node : goal.returns-in_err-node
+returns-in_err-node c = rw c.from_residual.ensures (walk_none c.loop.invariant (omega (arith, c.loop-test.true)) c.in_err-node.ensures)
 
-pub read_node-r-requires : goal.read_node-r-requires
-read_node-r-requires c =
-    (c.requires.0, c.loop-left.invariant.0.deep, omega (arith, c.loop-left.invariant.0.sum))
+pub returns-in-Last : goal.returns-in-Last
+returns-in-Last c = walk-last c.loop.invariant (omega (arith, c.loop-test.true)) c.in_ok-node.ensures _ c.keep.ensures c.in-Last.is
 
-pub shape_of-nodes-then-kind-eq-NONE : goal.shape_of-nodes-then-kind-eq-NONE
-shape_of-nodes-then-kind-eq-NONE c = c.loop-left.invariant.1
-
-pub returns-then-kind-eq-NONE : goal.returns-then-kind-eq-NONE
-returns-then-kind-eq-NONE c =
-    walk_none c.loop-left.invariant.0 c.read_node-r.ensures c.loop-left-test.true c.if-kind-eq-NONE.true
-
-pub keep-requires : goal.keep-requires
-keep-requires c = (
-  omega (arith, c.read_node-r.ensures.known, c.requires.0),
-  omega (arith, c.read_node-r.ensures.starts),
-  omega (arith, c.read_node-r.ensures.ends),
-  omega
-      (arith, c.read_node-r.ensures.depth, c.loop-left.invariant.0.deep),
-)
-
-pub overflow_add-result : goal.overflow_add-result
-overflow_add-result c =
-    omega (arith, c.loop-left.invariant.0.sum, c.well_formed.1.1.1.0)
-
-pub shape_of-nodes-then-kind-eq-LAST : goal.shape_of-nodes-then-kind-eq-LAST
-shape_of-nodes-then-kind-eq-LAST c = c.keep.auto.nodes ∙ c.loop-left.invariant.1
-
-pub returns-then-kind-eq-LAST : goal.returns-then-kind-eq-LAST
-returns-then-kind-eq-LAST c =
-    walk-last c.loop-left.invariant.0 c.read_node-r.ensures c.loop-left-test.true _ c.keep.ensures c.if-kind-eq-LAST.true
-
-pub overflow_sub-left : goal.overflow_sub-left
-overflow_sub-left c = omega (arith, c.loop-left-test.true)
-
-pub loop-left-smaller : goal.loop-left-smaller
-loop-left-smaller c = omega (arith, c.loop-left-test.true)
-
-pub loop-left-preserved : goal.loop-left-preserved
-loop-left-preserved c = (
-  walk_more c.loop-left.invariant.0 c.read_node-r.ensures c.loop-left-test.true _ c.keep.ensures c.if-kind-eq-NONE.false c.if-kind-eq-LAST.false,
-  c.keep.auto.nodes ∙
-      c.loop-left.invariant.1,
-)
-
-pub shape_of-nodes : goal.shape_of-nodes
-shape_of-nodes c = c.loop-left.invariant.1
+pub loop-preserved : goal.loop-preserved
+loop-preserved c =
+    let e : length c.args.json.now - c.loop.counter - 1 ≡ length c.args.json.now - (c.loop.counter + 1) = omega arith in
+    subst (λ (n : ℕ). Walking (called false c.args.t.now) c.args.symbols c.args.input.now c.args.json.now (parsed (called false c.args.t.now) c.args.symbols c.args.input.now
+    c.args.json.now) c.args.nodes.now c.keep.new.nodes c.read_node.new.gaps
+    n (c.in_ok-node.field-0.node.depth + 2) (c.loop.st.number + 1) c.in-More.depth c.in-More.place) e
+    (walk_more c.loop.invariant (omega (arith, c.loop-test.true)) c.in_ok-node.ensures _ c.keep.ensures c.in-More.is)
 
 pub returns : goal.returns
-returns c = walk-over c.loop-left.invariant.0 (omega (arith, c.loop-left-test.false))
+returns c = walk-over c.loop.invariant (omega (arith, c.loop-test.false))

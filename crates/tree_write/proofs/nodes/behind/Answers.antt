@@ -1,61 +1,42 @@
-use native.Mathlib.Omega.{arith}
+use Rattle.std.proofs.Common.{refl, ap, arith}
+use Rattle.tree_json.specs.Json.{closings}
 use Rattle.read_tokens.specs.Bounds.{node_words}
 use Rattle.match_list.specs.Nodes.{room_of}
-use Rattle.write_leaves.specs.laws.Pen.{on, penned-none, penned-is}
-use Rattle.tree_write.specs.laws.Nodes.{behind-last, behind-child, behind-below, behind-else}
+use Rattle.write_leaves.specs.steps.Pen.{after}
+use Rattle.write_leaves.specs.laws.Pen.{then, said}
+use Rattle.tree_write.specs.laws.Nodes.{behind-last, behind-child, behind-else}
 use Rattle.tree_write.proofs.nodes.behind.Goals as goal
 
 pub overflow_mul-k : goal.overflow_mul-k
 unfolding room_of node_words
-overflow_mul-k c = omega (arith, c.requires.1)
+overflow_mul-k c = omega (arith, c.requires)
 
 pub overflow_add-k : goal.overflow_add-k
 unfolding room_of node_words
-overflow_add-k c = omega (arith, c.requires.1)
+overflow_add-k c = omega (arith, c.requires)
 
 pub overflow_add-j : goal.overflow_add-j
 unfolding room_of node_words
-overflow_add-j c = omega (arith, c.requires.1)
+overflow_add-j c = omega (arith, c.requires)
 
-pub returns-then-j-n : goal.returns-then-j-n
+pub returns-then-j-nodes : goal.returns-then-j-nodes
 unfolding room_of node_words
-returns-then-j-n c = penned-is (behind-last c.args.nodes.now
-    c.args.k c.word-d.result
-    c.word-d.ensures.0 c.if-j-n.true) c.close.ensures
+returns-then-j-nodes c = said _ (behind-last c.args.nodes.now c.args.k c.word-child.result c.word-child.ensures.0 c.if-j-nodes.true) c.close.ensures
 
 pub overflow_mul-j : goal.overflow_mul-j
 unfolding room_of node_words
-overflow_mul-j c = omega (arith, c.requires.1)
+overflow_mul-j c = omega (arith, c.requires)
 
 pub overflow_add-j-2 : goal.overflow_add-j-2
 unfolding room_of node_words
-overflow_add-j-2 c = omega (arith, c.requires.1)
+overflow_add-j-2 c = omega (arith, c.requires)
 
-pub returns-then-e-child : goal.returns-then-e-child
-unfolding room_of node_words
-returns-then-e-child c = penned-is (behind-child c.args.nodes.now c.args.k
-    c.word-d.result c.word-d.ensures.0 c.word-e.result c.word-e.ensures.0
-    c.requires.1 c.if-j-n.false c.if-e-child.true) (penned-none c.args.write
-    c.args.out.now c.args.at
-    c.requires.0)
-
-pub returns-then-child-e : goal.returns-then-child-e
-unfolding room_of node_words
-returns-then-child-e c = penned-is (behind-below c.args.nodes.now
-    c.args.k c.word-d.result
-    c.word-d.ensures.0 c.word-e.result
-    c.word-e.ensures.0 c.requires.1
-    c.if-j-n.false c.if-child-e.true) c.emit.ensures
+pub returns-then-next-child : goal.returns-then-next-child
+unfolding room_of node_words after
+returns-then-next-child c = said _ (behind-child c.args.nodes.now c.args.k c.word-child.result c.word-child.ensures.0 c.word-next.result c.word-next.ensures.0
+    c.requires c.if-j-nodes.false c.if-next-child.true) refl
 
 pub returns : goal.returns
 unfolding room_of node_words
-returns c = penned-is (behind-else c.args.nodes.now
-    c.args.k
-    c.word-d.result
-    c.word-d.ensures.0
-    c.word-e.result
-    c.word-e.ensures.0
-    c.requires.1
-    c.if-j-n.false
-    c.if-e-child.false) (on (omega arith) c.close-a.ensures
-    c.emit-2.ensures)
+returns c = said _ (behind-else c.args.nodes.now c.args.k c.word-child.result c.word-child.ensures.0 c.word-next.result c.word-next.ensures.0
+    c.requires c.if-j-nodes.false c.if-next-child.false) (then _ _ _ (said _ (ap closings c.saturating_sub.ensures) c.close-2.ensures) c.emit.ensures)

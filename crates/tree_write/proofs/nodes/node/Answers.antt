@@ -1,6 +1,5 @@
-use native.Mathlib.Omega.{arith}
-use Rattle.write_leaves.specs.laws.Pen.{on}
+use Rattle.write_leaves.specs.laws.Pen.{then}
 use Rattle.tree_write.proofs.nodes.node.Goals as goal
 
 pub returns : goal.returns
-returns c = on (omega arith) c.head-a.ensures c.behind.ensures
+returns c = then _ _ _ c.head.ensures c.behind.ensures

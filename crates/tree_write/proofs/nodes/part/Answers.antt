@@ -1,7 +1,5 @@
-use native.Mathlib.Omega.{arith}
-use Rattle.write_leaves.specs.laws.Pen.{on}
+use Rattle.write_leaves.specs.laws.Pen.{then}
 use Rattle.tree_write.proofs.nodes.part.Goals as goal
 
 pub returns : goal.returns
-returns c = on (omega arith) c.string-a.ensures (on (omega arith)
-    c.chars-b.ensures c.string.ensures)
+returns c = then _ _ _ c.emit_all.ensures (then _ _ _ c.chars.ensures c.emit_all-2.ensures)

@@ -1,8 +1,5 @@
-use native.Mathlib.Omega.{arith}
-use Rattle.write_leaves.specs.laws.Pen.{on}
+use Rattle.write_leaves.specs.laws.Pen.{then}
 use Rattle.tree_write.proofs.nodes.span.Goals as goal
 
 pub returns : goal.returns
-returns c = on (omega arith) c.string-a.ensures (on (omega arith)
-    c.number-b.ensures (on (omega arith)
-    c.string-c.ensures c.number.ensures))
+returns c = then _ _ _ c.emit_all.ensures (then _ _ _ c.number.ensures (then _ _ _ c.emit_all-2.ensures c.number-2.ensures))

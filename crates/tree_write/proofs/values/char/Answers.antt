@@ -1,26 +1,23 @@
-use mathlib.Core.Path.{sym, ap}
+use Rattle.std.proofs.Common.{sym, ap, arith}
 use Rattle.tree_json.specs.Json.{char_json}
-use Rattle.write_leaves.specs.laws.Pen.{penned-is}
+use Rattle.write_leaves.specs.laws.Pen.{said}
 use Rattle.tree_write.specs.laws.Values.{control, printable, above}
+use Rattle.tree_write.proofs.values.char.Goals.{in_default-via-then-c-lt32, in_default-via-else-c-lt32+else-c-lt127}
 use Rattle.tree_write.proofs.values.char.Goals as goal
 
-pub returns-then-c-eq34 : goal.returns-then-c-eq34
+pub returns-in-34 : goal.returns-in-34
 unfolding char_json
-returns-then-c-eq34 c = penned-is (ap char_json (sym c.if-c-eq34.true)) c.emit2.ensures
+returns-in-34 c = said _ (ap char_json (sym c.in-34.is)) c.emit_all.ensures
 
-pub returns-then-c-eq92 : goal.returns-then-c-eq92
+pub returns-in-92 : goal.returns-in-92
 unfolding char_json
-returns-then-c-eq92 c = penned-is (ap char_json (sym c.if-c-eq92.true)) c.emit2-then-c-eq92.ensures
+returns-in-92 c = said _ (ap char_json (sym c.in-92.is)) c.emit_all-in-92.ensures
 
-pub returns-then-c-lt32 : goal.returns-then-c-lt32
-returns-then-c-lt32 c = penned-is (control c.args.c c.if-c-eq34.false
-    c.if-c-eq92.false c.if-c-lt32.true) c.escape.ensures
+pub returns-in-32-to-126 : goal.returns-in-32-to-126
+returns-in-32-to-126 c = said _ (printable c.args.c (λ e. omega (arith, e)) (λ e. omega (arith, e)) (omega arith) (omega arith)) c.emit.ensures
 
-pub returns-then-c-lt127 : goal.returns-then-c-lt127
-returns-then-c-lt127 c = penned-is (printable c.args.c c.if-c-eq34.false
-    c.if-c-eq92.false c.if-c-lt32.false c.if-c-lt127.true)
-    c.emit.ensures
-
-pub returns : goal.returns
-returns c = penned-is (above c.args.c c.if-c-eq34.false
-    c.if-c-eq92.false c.if-c-lt127.false) c.escape-2.ensures
+pub returns-in_default : goal.returns-in_default
+returns-in_default c = elim c.in_default.branch [
+  | in_default-via-then-c-lt32 w ↦ said _ (control c.args.c (λ e. omega (arith, e)) (λ e. omega (arith, e)) (omega arith)) c.escape.ensures
+  | in_default-via-else-c-lt32+else-c-lt127 w ↦ said _ (above c.args.c (λ e. omega (arith, e)) (λ e. omega (arith, e)) (omega arith)) c.escape.ensures
+]

@@ -1,12 +1,8 @@
-use native.Mathlib.Omega.{arith}
-use Rattle.write_leaves.specs.laws.Pen.{on, penned-is}
+use Rattle.std.proofs.Common.{ap, ◌∷◌, []}
+use Rattle.write_leaves.specs.laws.Pen.{then, said}
 use Rattle.tree_write.specs.laws.Values.{number-said}
 use Rattle.tree_write.proofs.values.number.Goals as goal
 
 pub returns : goal.returns
-returns c = penned-is (number-said
-    c.args.n) (on
-    (omega arith) c.digit-a.ensures (on
-    (omega arith) c.digit-b.ensures (on (omega arith)
-    c.digit-c.ensures (on (omega arith)
-    c.digit-d.ensures c.emit.ensures))))
+returns c = said _ (number-said c.args.n)
+    (then _ _ _ c.lead.ensures (then _ _ _ c.lead-2.ensures (then _ _ _ c.lead-3.ensures (then _ _ _ c.lead-4.ensures (said _ (ap (λ d. d ∷ []) c.digit.ensures) c.emit.ensures)))))

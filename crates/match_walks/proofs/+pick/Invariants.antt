@@ -1,4 +1,0 @@
-use Rattle.match_walks.proofs.+pick.Given as goal
-
-abbrev pub decreases-pick : goal.decreases-pick
-decreases-pick l = l.x

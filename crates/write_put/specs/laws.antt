@@ -1,0 +1,2 @@
+-- Laws of the definitions beside this file.
+pub mod Puts
