@@ -16,11 +16,14 @@ pub fn push(src: &[usize], dst: &[usize], old: &[[u64; 2]], new: &mut [[u64; 2]]
     }
 }
 
+// One by one, and not by `copy_from_slice`: for that the archive for C would ask its linker for `memmove`, which it needs for nothing else.
 pub fn copy(from: &[[u64; 2]], to: &mut [[u64; 2]])
     requires { length from.now ≡ length to.old }
     ensures { to.new ≡ from.now }
 {
-    to.copy_from_slice(from);
+    for i in 0..to.len() {
+        to[i] = from[i];
+    }
 }
 
 pub fn equal(a: &[[u64; 2]], b: &[[u64; 2]]) -> bool
