@@ -96,18 +96,18 @@ module _ (t : List ℕ) (i b : ℕ) (h : b < 256) where
       by-mark (Some lo) false (is-clear f)
       ∙ ap (λ (k : ℕ). run_text (range lo (b - 1)) ++ runs_text (runs none k after)) (sym (add-one b))
 
-module _ (t : List ℕ) (i : ℕ) where
-  out_of : marks_from t (i + 256) 0 ≡ []
+module _ (t : List ℕ) (i b : ℕ) (h : 256 ≤ b) where
+  out_of : marks_from t (i + b) (256 - b) ≡ []
   unfolding marks_from
-  out_of = refl
+  out_of = let e : 256 - b ≡ 0 = omega arith in ap (marks_from t (i + b)) e
 
-  pub class-end : rest_of t i None 256 ≡ []
+  pub class-end : rest_of t i None b ≡ []
   unfolding runs runs_text
-  class-end = ap (λ (l : List Bool). runs_text (runs none 256 l)) out_of
+  class-end = ap (λ (l : List Bool). runs_text (runs none b l)) out_of
 
-  pub class-last : (lo : ℕ) → rest_of t i (Some lo) 256 ≡ run_text (range lo 255) ++ []
+  pub class-last : (lo : ℕ) → rest_of t i (Some lo) b ≡ run_text (range lo (b - 1)) ++ []
   unfolding runs runs_text
-  class-last lo = ap (λ (l : List Bool). runs_text (runs (some (range lo 255)) 256 l)) out_of
+  class-last lo = ap (λ (l : List Bool). runs_text (runs (some (range lo (b - 1))) b l)) out_of
 
 pub class-start : (t : List ℕ) (i : ℕ) → rest_of t i None 0 ≡ runs_text (runs none 0 (marks_from t i 256))
 class-start t i = let a : i + 0 ≡ i = omega arith in ap (λ (x : ℕ). runs_text (runs none 0 (marks_from t x 256))) a

@@ -1,11 +1,11 @@
 -- Bytes written one after the other. Assumes nothing.
 use Rattle.std.specs.Prelude.{ℕ, zero, suc, ◌+◌, ◌≤◌, ◌<◌, min, ◌≡◌, refl, Bool, true, false, ◌⊎◌, List, [], ◌∷◌, ◌++◌, length, set, cond, leb}
-use Rattle.std.proofs.Common.{sym, ap, ◌∙◌, subst, inl, inr, ⊎_elim, arith, add-one, length-set, length-append}
+use Rattle.std.proofs.Common.{sym, ap, ap₂, ◌∙◌, subst, inl, inr, ⊎_elim, arith, add-one, length-set, length-append}
 use borrow.Author.Tests.{lt-leb, le-leb}
 use Rattle.std.proofs.Math.Decide.{dec_lt}
 use Rattle.std.proofs.Math.Seq.{set_out}
 use Rattle.write_leaves.specs.declared.bytes.Pen.{Pen}
-use Rattle.write_leaves.specs.steps.Pen.{most, inked, Penned, after_one, after}
+use Rattle.write_leaves.specs.steps.Pen.{most, inked, Penned, moved, after_one, after}
 
 pub inked-length : (w : Bool) (bs out : List ℕ) (at : ℕ) → length (inked w bs out at) ≡ length out
 unfolding inked
@@ -73,6 +73,11 @@ unfolding after
 after-append p [] ys = refl
 after-append p (b ∷ xs) ys = after-append (after_one p b) xs ys
 
+-- a byte where the pen stands
+pub put-one : (p : Pen) (b : ℕ) {out : List ℕ} {at : ℕ} → out ≡ set p.out.now p.at b → at ≡ cond (leb most p.at) p.at (p.at + 1) → moved p out at ≡ after p (b ∷ [])
+unfolding after
+put-one p b e f = rw (e, f)
+
 -- one text behind another
 pub then : (p : Pen) (a b : List ℕ) {q r : Pen} → q ≡ after p a → r ≡ after q b → r ≡ after p (a ++ b)
 then p a b e f = f ∙ ap (λ (x : Pen). after x b) e ∙ sym (after-append p a b)
@@ -95,6 +100,21 @@ counts at h = go (dec_lt at most)
     go : Dec (at < most) → cond (leb most at) at (at + 1) ≡ min most (at + 1)
     go (yes k) = rw (lt-leb most at k) (omega arith)
     go (no k) = rw (le-leb most at (omega arith)) (omega arith)
+
+-- without room a pen only counts, and not past `most`
+pub counts-on : (p : Pen) (bs : List ℕ) → length p.out.now ≤ p.at → p.at ≤ most → moved p p.out.now (min most (p.at + length bs)) ≡ after p bs
+unfolding after
+counts-on p [] l h = let e : min most (p.at + 0) ≡ p.at = omega arith in rw e
+counts-on p (b ∷ bs) l h =
+    let o : (after_one p b).out.now ≡ p.out.now = set_out p.out.now p.at b l in
+    let e : (after_one p b).at ≡ min most (p.at + 1) = counts p.at h in
+    let k : min most (p.at + suc (length bs)) ≡ min most ((after_one p b).at + length bs) = omega (arith, e, h) in
+    ap₂ (moved p) (sym o) k ∙ counts-on (after_one p b) bs (omega (arith, ap length o, e, l, h)) (omega (arith, e))
+
+pub stops : (p : Pen) (bs : List ℕ) → length p.out.now ≤ p.at → most ≤ p.at → p ≡ after p bs
+unfolding after
+stops p [] l h = refl
+stops p (b ∷ bs) l h = stops p bs l h ∙ ap (λ (q : Pen). after q bs) (ap₂ (moved p) (sym (set_out p.out.now p.at b l)) (rw (le-leb most p.at h)))
 
 pub after-place : (p : Pen) (bs : List ℕ) → p.at ≤ most → (after p bs).at ≡ min most (p.at + length bs)
 unfolding after

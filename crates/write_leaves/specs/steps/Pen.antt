@@ -17,9 +17,13 @@ pub record Penned (w : Bool) (bytes old : List ℕ) (at : ℕ) (new : List ℕ) 
   pub room : new ≡ inked w bytes old at
   pub place : r ≡ min most (at + length bytes)
 
+-- a pen whose room has become `out`, at another place of it
+abbrev pub moved : Pen → List ℕ → ℕ → Pen
+moved p out at = record { out = record p.out { now = out }; at = at }
+
 -- a pen after one byte
 abbrev pub after_one : Pen → ℕ → Pen
-after_one p b = record { out = record p.out { now = set p.out.now p.at b }; at = cond (leb most p.at) p.at (p.at + 1) }
+after_one p b = moved p (set p.out.now p.at b) (cond (leb most p.at) p.at (p.at + 1))
 
 -- a pen after bytes one behind the other. From the front of room it leaves what Penned says, over no room what Penned says without the flag: see laws/Pen
 unfoldable pub after : Pen → List ℕ → Pen

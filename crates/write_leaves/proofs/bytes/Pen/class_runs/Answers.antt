@@ -13,10 +13,10 @@ returns-in-Some c =
     let e : 256 ≡ c.loop-b.b = omega (arith, c.loop-b-test.false, c.loop-b.auto.b-end) in
     done _ [] (less _ _ [] (ap (λ k. after c.loop-b.self (rest_of c.args.t.now c.args.i (Some c.in-Some.lo) k)) e
     ∙ ap (λ o. after c.loop-b.self (rest_of c.args.t.now c.args.i o c.loop-b.b)) (sym c.in-Some.is) ∙ c.loop-b.invariant.1)
-    (class-last c.args.t.now c.args.i c.in-Some.lo) c.run_text.ensures) refl
+    (class-last c.args.t.now c.args.i 256 (omega arith) c.in-Some.lo) c.run_text.ensures) refl
 
 pub returns-in_default : goal.returns-in_default
 returns-in_default c =
     let e : 256 ≡ c.loop-b.b = omega (arith, c.loop-b-test.false, c.loop-b.auto.b-end) in
     done _ _ (ap (λ k. after c.loop-b.self (rest_of c.args.t.now c.args.i None k)) e
-    ∙ ap (λ o. after c.loop-b.self (rest_of c.args.t.now c.args.i o c.loop-b.b)) (sym c.in_default.is) ∙ c.loop-b.invariant.1) (class-end c.args.t.now c.args.i)
+    ∙ ap (λ o. after c.loop-b.self (rest_of c.args.t.now c.args.i o c.loop-b.b)) (sym c.in_default.is) ∙ c.loop-b.invariant.1) (class-end c.args.t.now c.args.i 256 (omega arith))
