@@ -79,13 +79,15 @@ fn line_from(text: &[u8], at: usize) -> usize
     0
 }
 
-fn line_feed(text: &[u8], at: usize) -> usize {
+fn line_feed(text: &[u8], at: usize) -> usize
+    ensures { at ≤ result }
+{
     for i in at..text.len() {
         if text[i] == LINE_FEED {
             return i;
         }
     }
-    text.len()
+    at.max(text.len())
 }
 
 // Where the line ends that begins at `from` and has its line feed, if any, at `to`: before a carriage return that stands before that.

@@ -1,7 +1,7 @@
 -- A node's head part by part, and closing pairs, as code reads them. Assumes nothing.
 use Rattle.std.specs.Prelude.{ℕ, suc, ◌+◌, ◌-◌, ◌≤◌, ◌<◌, ◌≡◌, Bool, cond, List, [], ◌∷◌, eqb, leb, length, take, drop, Some, None}
 use Rattle.std.proofs.Math.Path.{sym, ap}
-use Rattle.std.proofs.Common.{◌∙◌, arith, add-one, le-leb, eq-eqb, ne_eqb}
+use Rattle.std.proofs.Common.{◌∙◌, subst, inl, inr, arith, add-one, le-leb, eq-eqb, ne_eqb}
 use Rattle.std.proofs.Math.Bool.{true, false}
 use Rattle.std.proofs.Math.Option.{Option, none, some}
 use Rattle.std.proofs.lemmas.Bool.{lt-leb}
@@ -166,11 +166,17 @@ module _ (js : List ℕ) (d at n a : ℕ) (v : n ≡ (closes_at (d + 1) js at).v
     sibling : (n ≡ suc d → ⊥) → (n ≡ 0 → ⊥) → behind_pairs js d (closes_at (suc d) js at) x g ≡ cons_to x (g (suc d - n) (ate comma js a))
     sibling h l = by-pairs false (ne_eqb n (suc d) h) ∙ rw (ne_eqb n 0 l)
 
+    going : (n ≡ suc d → ⊥) → behind_pairs js d (closes_at (suc d) js at) x g
+        ≡ cons_to x (g (suc d - (closes_at (suc d) js at).value) (next_at js (closes_at (suc d) js at)))
+    going h = let c = closes_at (suc d) js at in
+        ap (λ (u : Bool). elim u as (λ w. Option (List Node)) [ true ↦ cond (eqb c.place (length js)) (some (x ∷ [])) none | false ↦ cons_to x (g (suc d - c.value) (next_at js c)) ])
+        (ne_eqb c.value (suc d) (λ z. h (e ∙ z)))
+
   pub on-last : n ≡ d + 1 → a ≡ length js → Onward js d at (Some Last)
-  on-last h l = record { said = λ x g z. whole-read x g (h ∙ add-one d) l; low = tt }
+  on-last h l = record { said = λ x g. whole-read x g (h ∙ add-one d) l; low = tt }
 
   pub on_none : n ≡ d + 1 → (a ≡ length js → ⊥) → Onward js d at None
-  on_none h l = record { said = λ x g z. more-behind x g (h ∙ add-one d) l; low = tt }
+  on_none h l = record { said = inl (λ x g. more-behind x g (h ∙ add-one d) l); low = tt }
 
   module _ (h : n ≡ d + 1 → ⊥) where
     unlike : n ≡ suc d → ⊥
@@ -178,18 +184,18 @@ module _ (js : List ℕ) (d at n a : ℕ) (v : n ≡ (closes_at (d + 1) js at).v
 
     pub on-child : n ≡ 0 → Onward js d at (Some (More (d + 1) a))
     on-child l = let z : suc d - n ≡ d + 1 = omega arith in record {
-      said = λ x g y. child x g unlike l ∙ ap (λ (m : ℕ). cons_to x (g m a)) z;
+      said = λ x g. child x g unlike l ∙ ap (λ (m : ℕ). cons_to x (g m a)) z;
       low = omega arith;
     }
 
     pub on-sibling : (b : ℕ) → b ≡ ate comma js a → (n ≡ 0 → ⊥) → Onward js d at (Some (More (d + 1 - n) b))
     on-sibling b r l = let z : suc d - n ≡ d + 1 - n = omega arith in record {
-      said = λ x g y. sibling x g unlike l ∙ ap (λ (m : ℕ). cons_to x (g m (ate comma js a))) z ∙ ap (λ (m : ℕ). cons_to x (g (d + 1 - n) m)) (sym r);
+      said = λ x g. sibling x g unlike l ∙ ap (λ (m : ℕ). cons_to x (g m (ate comma js a))) z ∙ ap (λ (m : ℕ). cons_to x (g (d + 1 - n) m)) (sym r);
       low = omega arith;
     }
 
     pub no-sibling : length js < ate comma js a → (n ≡ 0 → ⊥) → Onward js d at None
-    no-sibling p l = record {
-      said = λ x g y. sibling x g unlike l ∙ ap (cons_to x) (y (suc d - n) (ate comma js a) p);
-      low = tt;
-    }
+    no-sibling p l =
+        let c = closes_at (suc d) js at in
+        let b : ate comma js a ≡ next_at js c = ap (ate comma js) i ∙ sym (ap (λ (t : Bool). cond t c.place (ate comma js c.place)) (ne_eqb c.value 0 (λ z. l (e ∙ z)))) in
+        record { said = inr (subst (λ (m : ℕ). length js < m) b p, λ x g. going x g unlike); low = tt }

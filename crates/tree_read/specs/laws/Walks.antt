@@ -1,7 +1,7 @@
 -- From the nodes that code reads one after the other to the list of a text. Assumes nothing.
 use Rattle.std.specs.Prelude.{ℕ, zero, suc, ◌+◌, ◌-◌, ◌*◌, ◌≤◌, ◌<◌, ◌≡◌, refl, Bool, ◌&&◌, List, [], ◌∷◌, ◌++◌, leb, length, get_or, set, replicate, Option as Maybe, None, Some}
 use Rattle.std.proofs.Math.Path.{sym, ap}
-use Rattle.std.proofs.Common.{◌∙◌, subst, arith, length-append, le-leb}
+use Rattle.std.proofs.Common.{◌∙◌, ⊎_elim, subst, arith, length-append, le-leb}
 use Rattle.std.proofs.Math.Bool.{true, false}
 use Rattle.std.proofs.Math.Option.{Option, none, some}
 use Rattle.std.proofs.lemmas.List.Edits.{sets}
@@ -38,6 +38,11 @@ module _ (f : ℕ → Symbol) (R : ℕ) (s js : List ℕ) where
   fades zero gs k d at h = refl
   fades (suc left) gs k d at h = no-head left gs k d at (past-head f R s js d at h)
 
+  -- what goes on past the text's end comes to no list
+  onwards : (d at : ℕ) (o : Maybe Then) → Onward js d at o → (x : Node) (g : ℕ → ℕ → Option (List Node)) → Fades js g → behind_pairs js d (closes_at (suc d) js at) x g ≡ goes_on o x g
+  onwards d at None h x g z = ⊎_elim (λ w. w x g) (λ w. w.1 x g ∙ ap (cons_to x) (z _ _ w.0)) h.said
+  onwards d at (Some t) h x g z = h.said x g
+
   abbrev NoList : List ℕ → ℕ → ℕ → ℕ → ℕ → Type 0
   NoList old depths k d at = (gs : List Gap) → length gs ≡ depths → Gapped gs old → (left : ℕ) → nodes_from f R s (suc left) js gs k d at ≡ none
 
@@ -56,7 +61,7 @@ module _ (f : ℕ → Symbol) (R : ℕ) (s js : List ℕ) (k d at r p q a : ℕ)
 
   let-in : (gs : List Gap) (left : ℕ) {o : Maybe Then} → a ≤ length js → admits R gs k (nd r p q d) ≡ true → Onward js d a o
       → nodes_from f R s (suc left) js gs k d at ≡ goes_on o (nd r p q d) (nodes_from f R s left js (gaps_behind gs (nd r p q d)) (suc k))
-  let-in gs left l e o = by-test gs left true (rw (le-leb a (length js) l, e)) ∙ o.said (nd r p q d) _ (fades f R s js left (gaps_behind gs (nd r p q d)) (suc k))
+  let-in gs left l e o = by-test gs left true (rw (le-leb a (length js) l, e)) ∙ onwards f R s js d a _ o (nd r p q d) _ (fades f R s js left (gaps_behind gs (nd r p q d)) (suc k))
 
   module _ (depths : ℕ) (old new : List ℕ) (b : Bool) (l : a ≤ length js) (m : Admitted R k (nd r p q d) depths old new b) where
     pub turned-out : b ≡ false → NoList f R s js old depths k d at

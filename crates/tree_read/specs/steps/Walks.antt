@@ -1,5 +1,5 @@
 -- What is read of one node, how it goes on behind it, and what all nodes come to (02, par. 1). Assumes nothing: these are definitions.
-use Rattle.std.specs.Prelude.{ℕ, suc, ◌+◌, ◌-◌, ◌≤◌, ◌<◌, ◌≡◌, ⊤, true, false, cond, List, [], ◌∷◌, eqb, length, Option as Maybe, None, Some, MatchOption}
+use Rattle.std.specs.Prelude.{ℕ, suc, ◌+◌, ◌-◌, ◌≤◌, ◌<◌, ◌≡◌, ◌⊎◌, ⊤, true, false, cond, List, [], ◌∷◌, eqb, length, Option as Maybe, None, Some, MatchOption}
 use Rattle.std.proofs.Math.Option.{Option, none, some}
 use Rattle.read_tokens.specs.Token.{Symbol}
 use Rattle.read_tokens.specs.Bounds.{depth_bound}
@@ -44,9 +44,16 @@ behind_pairs js d c x g =
       | false ↦ cons_to x (g (suc d - c.value) (next_at js c))
     ]
 
+-- behind these pairs no list can come of it, or only one that goes on past the text's end
+abbrev pub Stops : List ℕ → ℕ → Took → Type 0
+Stops js d c =
+    ((x : Node) (g : ℕ → ℕ → Option (List Node)) → behind_pairs js d c x g ≡ none)
+    ⊎ ((length js < next_at js c) × ((x : Node) (g : ℕ → ℕ → Option (List Node)) → behind_pairs js d c x g ≡ cons_to x (g (suc d - c.value) (next_at js c))))
+
 -- behind the head of a node of depth d, from place at on
 pub record Onward (js : List ℕ) (d at : ℕ) (o : Maybe Then) : Type 0 where
-  pub said : (x : Node) (g : ℕ → ℕ → Option (List Node)) → Fades js g → behind_pairs js d (closes_at (suc d) js at) x g ≡ goes_on o x g
+  pub said : MatchOption o (Stops js d (closes_at (suc d) js at))
+      (λ t. (x : Node) (g : ℕ → ℕ → Option (List Node)) → behind_pairs js d (closes_at (suc d) js at) x g ≡ goes_on (Some t) x g)
   pub low : Low d o
 
 -- node k, of depth d, read at a place where the gaps are gs
