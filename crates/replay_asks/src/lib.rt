@@ -2,7 +2,7 @@
 #![tactic(auto)]
 
 use gurkenmond::Mode;
-use replay_lines::{Fields, NUMBER_MOST, buffers};
+use replay_lines::{Fields, NUMBER_MOST, buffers, decode};
 
 #[derive(Clone, Copy)]
 enum Question {
@@ -106,11 +106,18 @@ fn ask_lake(mode: Mode, text: &[u8], input: &[u8], fields: &mut Fields) -> Optio
     Some(())
 }
 
-// The mode's field comes next, then the grammar's.
-fn on_grammar(question: OnGrammar, fields: &mut Fields) -> Option<()> {
-    let mode = named(&MODES, fields)?;
+// A function pays at entry for the rooms in its frame, so each room stands in a function that is not inlined and is called when the room's field is seen to be
+// right: here and below, and in `replay_nodes`, `replay_records` and `replay_trees`.
+// The grammar stands in the line from `from` to `to`.
+#[inline(never)]
+fn ask_grammar(
+    question: OnGrammar,
+    mode: Mode,
+    (from, to): (usize, usize),
+    fields: &mut Fields,
+) -> Option<()> {
     let mut room = buffers::text();
-    let n = fields.bytes(&mut room)?;
+    let n = decode(fields.line, from, to, &mut room);
     let text = &room[..n];
     match question {
         OnGrammar::Read => replay_answers::read(mode, text),
@@ -125,14 +132,24 @@ fn on_grammar(question: OnGrammar, fields: &mut Fields) -> Option<()> {
     Some(())
 }
 
-// The mode's field comes next, then the grammar's and the input's.
-fn on_input(question: OnInput, fields: &mut Fields) -> Option<()> {
+// The mode's field comes next, then the grammar's.
+fn on_grammar(question: OnGrammar, fields: &mut Fields) -> Option<()> {
     let mode = named(&MODES, fields)?;
-    let mut text = buffers::text();
-    let n = fields.bytes(&mut text)?;
-    let text = &text[..n];
+    let place = fields.hex(buffers::TEXT)?;
+    ask_grammar(question, mode, place, fields)
+}
+
+// The input stands in the line from `from` to `to`.
+#[inline(never)]
+fn ask_input(
+    question: OnInput,
+    mode: Mode,
+    text: &[u8],
+    (from, to): (usize, usize),
+    fields: &mut Fields,
+) -> Option<()> {
     let mut input = buffers::input();
-    let n = fields.bytes(&mut input)?;
+    let n = decode(fields.line, from, to, &mut input);
     let input = &input[..n];
     match question {
         OnInput::Match => ask_match(mode, text, input, fields),
@@ -141,6 +158,27 @@ fn on_input(question: OnInput, fields: &mut Fields) -> Option<()> {
         OnInput::Unjson => replay_trees::ask_unjson(mode, text, input, fields),
         OnInput::Summary => replay_records::ask_summary(mode, text, input, fields),
     }
+}
+
+// The grammar stands in the line from `from` to `to`, and the input's field comes next.
+#[inline(never)]
+fn ask_both(
+    question: OnInput,
+    mode: Mode,
+    (from, to): (usize, usize),
+    fields: &mut Fields,
+) -> Option<()> {
+    let mut room = buffers::text();
+    let n = decode(fields.line, from, to, &mut room);
+    let place = fields.hex(buffers::INPUT)?;
+    ask_input(question, mode, &room[..n], place, fields)
+}
+
+// The mode's field comes next, then the grammar's and the input's.
+fn on_input(question: OnInput, fields: &mut Fields) -> Option<()> {
+    let mode = named(&MODES, fields)?;
+    let place = fields.hex(buffers::TEXT)?;
+    ask_both(question, mode, place, fields)
 }
 
 // None where the line is no question, or lends more than there is.

@@ -3,7 +3,7 @@
 
 pub mod buffers;
 
-ghost use Rattle.std.specs.Prelude.{◌+◌, ◌≤◌, ◌<◌, ◌≡◌, length, drop, is_some, cond, IfSome};
+ghost use Rattle.std.specs.Prelude.{◌+◌, ◌≤◌, ◌<◌, ◌≡◌, length, drop, is_some, cond, IfSome, Some, None};
 ghost use Rattle.io.specs.Counts.{IsPrefixLen};
 ghost use Rattle.replay_lines.specs.steps.Fields.{until_of, after_of, begins, shifted_by, decimal_of, number_of, is_digit, all_digits, bytes_of};
 
@@ -55,6 +55,21 @@ impl Fields<'_> {
         number_at(self.line, from, most)
     }
 
+    // Where the next field's bytes stand in hexadecimal; none where it is no bytes, or more than `most`. So that is seen before a room is laid out for them.
+    pub fn hex(&mut self, most: usize) -> Option<(usize, usize)>
+        ensures value { result ≡ cond (bytes_of self.old.line.now self.old.at (until_of self.old.line.now self.old.at) most)
+            (Some (self.old.at, until_of self.old.line.now self.old.at)) None }
+        ensures taken { self.new.at ≡ after_of self.old.line.now self.old.at }
+        ensures same_line { self.new.line.now ≡ self.old.line.now }
+    {
+        let (from, to) = self.next();
+        if is_bytes(self.line, from, to, most) {
+            Some((from, to))
+        } else {
+            None
+        }
+    }
+
     // How many bytes the next field puts into the room; none where it is no bytes, or more than there is room for.
     pub fn bytes(&mut self, out: &mut [u8]) -> Option<usize>
         ensures variant { is_some result ≡ bytes_of self.old.line.now self.old.at (until_of self.old.line.now self.old.at) (length out.old) }
@@ -62,10 +77,7 @@ impl Fields<'_> {
         ensures taken { self.new.at ≡ after_of self.old.line.now self.old.at }
         ensures same_line { self.new.line.now ≡ self.old.line.now }
     {
-        let (from, to) = self.next();
-        if !is_bytes(self.line, from, to, out.len()) {
-            return None;
-        }
+        let (from, to) = self.hex(out.len())?;
         Some(decode(self.line, from, to, out))
     }
 

@@ -2,7 +2,7 @@
 // the lines.
 #![tactic(auto)]
 
-use replay_lines::{Fields, NUMBER_MOST, buffers};
+use replay_lines::{Fields, NUMBER_MOST, buffers, decode};
 
 fn node_sound(nodes: &[u32], k: usize, n: usize) {
     io::write_all(1, b"sound");
@@ -16,6 +16,7 @@ fn node_text(input: &[u8], nodes: &[u32], k: usize) {
 }
 
 // The words' field comes next, and behind it a node's number and the length of its input.
+#[inline(never)]
 pub fn ask_sound(fields: &mut Fields) -> Option<()> {
     let mut nodes = buffers::nodes();
     let n = fields.words(&mut nodes)?;
@@ -25,15 +26,22 @@ pub fn ask_sound(fields: &mut Fields) -> Option<()> {
     Some(())
 }
 
-// The input's field comes next, and behind it the words and a node's number.
-pub fn text_at(fields: &mut Fields) -> Option<()> {
+// The input stands in the line from `from` to `to`, and the words' field comes next, and behind it a node's number.
+#[inline(never)]
+fn ask_text((from, to): (usize, usize), fields: &mut Fields) -> Option<()> {
     let mut input = buffers::input();
-    let size = fields.bytes(&mut input)?;
+    let size = decode(fields.line, from, to, &mut input);
     let mut nodes = buffers::nodes();
     let n = fields.words(&mut nodes)?;
     let k = fields.number(NUMBER_MOST)?;
     node_text(&input[..size], &nodes[..n], k);
     Some(())
+}
+
+// The input's field comes next, and behind it the words and a node's number.
+pub fn text_at(fields: &mut Fields) -> Option<()> {
+    let place = fields.hex(buffers::INPUT)?;
+    ask_text(place, fields)
 }
 
 // Every node that the words hand out.
@@ -51,6 +59,7 @@ fn hand_out(nodes: &[u32]) {
 }
 
 // The words' field comes next.
+#[inline(never)]
 pub fn ask_handed(fields: &mut Fields) -> Option<()> {
     let mut nodes = buffers::nodes();
     let n = fields.words(&mut nodes)?;

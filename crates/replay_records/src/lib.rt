@@ -2,7 +2,7 @@
 #![tactic(auto)]
 
 use gurkenmond::{Mode, Summary, Summed};
-use replay_lines::{Fields, NUMBER_MOST, buffers};
+use replay_lines::{Fields, NUMBER_MOST, buffers, decode};
 
 // So many records can be lent.
 const RECORDS: usize = 96;
@@ -66,11 +66,18 @@ fn line_and_column(input: &[u8], position: usize) {
     console::line_end();
 }
 
-// The input's field comes next, and behind it the position.
-pub fn ask_where(fields: &mut Fields) -> Option<()> {
+// The input stands in the line from `from` to `to`, and the position's field comes next.
+#[inline(never)]
+fn ask_place((from, to): (usize, usize), fields: &mut Fields) -> Option<()> {
     let mut input = buffers::input();
-    let n = fields.bytes(&mut input)?;
+    let n = decode(fields.line, from, to, &mut input);
     let position = fields.number(NUMBER_MOST)?;
     line_and_column(&input[..n], position);
     Some(())
+}
+
+// The input's field comes next, and behind it the position.
+pub fn ask_where(fields: &mut Fields) -> Option<()> {
+    let place = fields.hex(buffers::INPUT)?;
+    ask_place(place, fields)
 }

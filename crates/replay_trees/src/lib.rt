@@ -2,7 +2,7 @@
 #![tactic(auto)]
 
 use gurkenmond::Mode;
-use replay_lines::{Fields, buffers};
+use replay_lines::{Fields, buffers, decode};
 
 fn write_json(mode: Mode, text: &[u8], input: &[u8], nodes: &[u32], out: &mut [u8]) {
     let w = gurkenmond::write_json(mode, text, input, nodes, out);
@@ -27,12 +27,25 @@ pub fn ask_json(mode: Mode, text: &[u8], input: &[u8], fields: &mut Fields) -> O
     Some(())
 }
 
-// The JSON text's field comes next, and behind it the room for nodes, in words.
-pub fn ask_unjson(mode: Mode, text: &[u8], input: &[u8], fields: &mut Fields) -> Option<()> {
+// The JSON text stands in the line from `from` to `to`, and the room's field comes next, in words.
+#[inline(never)]
+fn ask_read(
+    mode: Mode,
+    text: &[u8],
+    input: &[u8],
+    (from, to): (usize, usize),
+    fields: &mut Fields,
+) -> Option<()> {
     let mut json = buffers::text();
-    let n = fields.bytes(&mut json)?;
+    let n = decode(fields.line, from, to, &mut json);
     let room = fields.number(buffers::NODES)?;
     let mut nodes = buffers::nodes();
     read_json(mode, text, input, &json[..n], &mut nodes[..room]);
     Some(())
+}
+
+// The JSON text's field comes next, and behind it the room for nodes, in words.
+pub fn ask_unjson(mode: Mode, text: &[u8], input: &[u8], fields: &mut Fields) -> Option<()> {
+    let place = fields.hex(buffers::TEXT)?;
+    ask_read(mode, text, input, place, fields)
 }
