@@ -9,6 +9,7 @@
    No proof covers either: the compiler's back end, the change of target for wasm32, the wrappers. They are tested.
 
    No call allocates, keeps anything, reads a clock or a file, or fails in another way; calls from several threads at once are fine.
+   The archive asks its linker for memcpy and memset, and for nothing else.
    Each fills `out` and returns out[0]: 0; a refusal's number 1 to 17, with its place in out[1]; or GM_NO_MATCH. Numbers not named here are 0.
    mode: GM_LAKE, every other byte is plain. A place is a byte's number, from 0. */
 #ifndef GURKENMOND_H

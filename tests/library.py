@@ -35,6 +35,7 @@ OTHER = {"x86_64": "aarch64", "aarch64": "x86_64"}[platform.machine()]  # the ma
 RANDOM_COUNT, RANDOM_SEED = 10000, 12
 NODE_QUESTIONS, NAME_QUESTIONS, RECORD_QUESTIONS = 1000, 1000, 1000
 STACK_KIB = 360  # what the header asks for, and the harness gives its threads
+OUTSIDE = {"memcpy", "memset"}  # all that the archive asks its linker for, as the header says
 WRAPPER_COUNT = 300
 # the commands that the tests call, and Debian's packages that have them
 PACKAGES = {"gcc": ["gcc", "libc6-dev"], "node": ["nodejs"], "chromium": ["chromium"], f"qemu-{OTHER}": ["qemu-user"],
@@ -102,6 +103,16 @@ def targets(folder):
              Target(f"{OTHER} in C, emulated", [f"qemu-{OTHER}", compile_harness(folder, OTHER)])]
     found.append(Target("wasm32 in Node", ["node", os.path.join(HERE, "harness.mjs"), os.path.join(MADE, "gurkenmond.wasm")]))
     return found
+
+
+def check_outside():
+    """The names that the archives need from outside."""
+    for machine in (platform.machine(), OTHER):
+        ended = run(["nm" if machine == platform.machine() else f"{machine}-linux-gnu-nm", "-u", os.path.join(MADE, machine, "libgurkenmond.a")])
+        names = set(re.findall(r"^ +U (\S+)$", ended.stdout.decode(), re.M))
+        if ended.returncode or names != OUTSIDE:
+            wrong(f"the archive for {machine} asks its linker for {sorted(names)}, not {sorted(OUTSIDE)}: {ended.stderr.decode()[-500:]}")
+    print(f"library: the archives ask their linker for {' and '.join(sorted(OUTSIDE))}")
 
 
 # ── the header against the proved source ──
@@ -588,6 +599,7 @@ def main():
     if install() and build():
         with tempfile.TemporaryDirectory() as folder:
             check_header()
+            check_outside()
             check_made()
             found = targets(folder)
             if not problems:
